@@ -1,0 +1,62 @@
+// The status words of document 01, each a case of one enum, and their numbers.
+// The order of the cases is that of the table's rows; 90 00 stands last, as in the paper.
+ghost use mathlib.Core.Path.{_≡_};
+ghost use Rattle.status.specs.StatusWords.{numberOf, isDone};
+
+pub enum Status {
+    Unsound,
+    BufferShort,
+    LengthWrong,
+    ClassWrong,
+    InstructionWrong,
+    ParametersWrong,
+    DataWrong,
+    StateWrong,
+    NotHeld,
+    PolicyForbids,
+    VerdictWrong,
+    NoRoom,
+    Done,
+}
+
+impl Status {
+    pub fn number(self) -> u16
+        ensures { λ r. ⌜ r ≡ numberOf self ⌝ }
+    {
+        match self {
+            Status::Unsound => 0x6F00,
+            Status::BufferShort => 0x6F02,
+            Status::LengthWrong => 0x6700,
+            Status::ClassWrong => 0x6E00,
+            Status::InstructionWrong => 0x6D00,
+            Status::ParametersWrong => 0x6A86,
+            Status::DataWrong => 0x6A80,
+            Status::StateWrong => 0x6985,
+            Status::NotHeld => 0x6A88,
+            Status::PolicyForbids => 0x69E1,
+            Status::VerdictWrong => 0x6982,
+            Status::NoRoom => 0x6A84,
+            Status::Done => 0x9000,
+        }
+    }
+
+    pub fn is_done(self) -> bool
+        ensures { λ r. ⌜ r ≡ isDone self ⌝ }
+    {
+        match self {
+            Status::Done => true,
+            Status::Unsound
+            | Status::BufferShort
+            | Status::LengthWrong
+            | Status::ClassWrong
+            | Status::InstructionWrong
+            | Status::ParametersWrong
+            | Status::DataWrong
+            | Status::StateWrong
+            | Status::NotHeld
+            | Status::PolicyForbids
+            | Status::VerdictWrong
+            | Status::NoRoom => false,
+        }
+    }
+}
