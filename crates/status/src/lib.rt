@@ -45,18 +45,18 @@ impl Status {
     {
         match self {
             Status::Done => true,
-            Status::Unsound
-            | Status::BufferShort
-            | Status::LengthWrong
-            | Status::ClassWrong
-            | Status::InstructionWrong
-            | Status::ParametersWrong
-            | Status::DataWrong
-            | Status::StateWrong
-            | Status::NotHeld
-            | Status::PolicyForbids
-            | Status::VerdictWrong
-            | Status::NoRoom => false,
+            Status::Unsound => false,
+            Status::BufferShort => false,
+            Status::LengthWrong => false,
+            Status::ClassWrong => false,
+            Status::InstructionWrong => false,
+            Status::ParametersWrong => false,
+            Status::DataWrong => false,
+            Status::StateWrong => false,
+            Status::NotHeld => false,
+            Status::PolicyForbids => false,
+            Status::VerdictWrong => false,
+            Status::NoRoom => false,
         }
     }
 }
