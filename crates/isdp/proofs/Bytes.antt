@@ -1,0 +1,71 @@
+-- Laws on byte strings as the loops go over them: a turn, and the end, of the comparison, of the test for zeros and of the padding.
+-- Each turn takes `drop i` apart once. Assumes nothing.
+use mathlib.Core.Path.{_≡_, refl, ap, sym}
+use Prim.Native.Nat.{ℕ, suc, _+_, _-_, _≤_, _<_}
+use native.Mathlib.Numerals.{add-one}
+use native.Mathlib.Omega.{arith}
+use mathlib.Core.List.{List, [], _∷_, _++_}
+use mathlib.Core.Bool.{Bool, true, false, _&&_, and-false}
+use lib.ListN.{length, getD, take, drop, set, replicate, drop-of-length-le}
+use lib.Seq.{drop-cons, set-at, take-suc, take-all, append-snoc, length-take-le}
+use lib.Dec.{leb, eqb}
+use borrow.Author.Tests.{eq-eqb, ne-eqb, le-leb, lt-leb, leb-true, leb-false}
+use Rattle.isdp.specs.Aids.{sameBytes, padded}
+use Rattle.isdp.specs.Place.{zeros}
+
+-- byte strings of different lengths differ
+pub same-length : (xs ys : List ℕ) → (length xs ≡ length ys → ⊥) → sameBytes xs ys ≡ false
+unfolding sameBytes
+same-length [] [] n = absurd (n refl)
+same-length [] (y ∷ ys) n = refl
+same-length (x ∷ xs) [] n = refl
+same-length (x ∷ xs) (y ∷ ys) n = rw (same-length xs ys (λ e. n (ap suc e))) (and-false (eqb x y))
+
+-- one turn of the comparison
+module _ (xs ys : List ℕ) (i : ℕ) (h : i < length xs) (k : i < length ys) where
+  pub same-hit : getD xs i 0 ≡ getD ys i 0 → sameBytes (drop i xs) (drop i ys) ≡ sameBytes (drop (i + 1) xs) (drop (i + 1) ys)
+  unfolding sameBytes
+  same-hit e = rw (drop-cons xs i 0, drop-cons ys i 0, eq-eqb _ _ e, add-one)
+
+  pub same-miss : (getD xs i 0 ≡ getD ys i 0 → ⊥) → sameBytes (drop i xs) (drop i ys) ≡ false
+  unfolding sameBytes
+  same-miss e = rw (drop-cons xs i 0, drop-cons ys i 0, ne-eqb _ _ e)
+
+-- the comparison has passed every byte
+pub same-end : (xs ys : List ℕ) (i : ℕ) → length xs ≤ i → length ys ≤ i → sameBytes (drop i xs) (drop i ys) ≡ true
+unfolding sameBytes
+same-end xs ys i h k = rw (drop-of-length-le xs h, drop-of-length-le ys k)
+
+pub zeros-step : (l : List ℕ) (i : ℕ) → i < length l → zeros (drop i l) ≡ (eqb (getD l i 0) 0 && zeros (drop (i + 1) l))
+unfolding zeros
+zeros-step l i h = rw (drop-cons l i 0, add-one)
+
+pub zeros-end : (l : List ℕ) (i : ℕ) → length l ≤ i → zeros (drop i l) ≡ true
+unfolding zeros
+zeros-end l i h = rw (drop-of-length-le l h)
+
+-- one byte more of an AID with zeros after it
+pub pad-step : (s : List ℕ) (i : ℕ) → i < length s → i < 16 → set (take i s ++ replicate (16 - i) 0) i (getD s i 0) ≡ take (i + 1) s ++ replicate (16 - (i + 1)) 0
+pad-step s i h k =
+    let e : 16 - i ≡ suc (16 - (i + 1)) = omega arith in
+    rw (e, set-at (take i s) 0 (replicate (16 - (i + 1)) 0) (getD s i 0) i (length-take-le i s (omega arith)), add-one, take-suc s i 0, append-snoc)
+
+-- the AID came to its end
+pub pad-short : (s : List ℕ) (i : ℕ) → i ≡ length s → length s ≤ 16 → take i s ++ replicate (16 - i) 0 ≡ padded s
+unfolding padded
+pad-short s i e h = rw (e, take-all (length s) s (omega arith), take-all 16 s h)
+
+-- the sixteen bytes are full
+pub pad-full : (s : List ℕ) (i : ℕ) → i ≡ 16 → 16 ≤ length s → take i s ++ replicate (16 - i) 0 ≡ padded s
+unfolding padded
+pad-full s i e h =
+    let z : 16 - length s ≡ 0 = omega arith in
+    rw (e, z)
+
+-- two orders that hold together have one test
+leb-at : (a b x y : ℕ) (t : Bool) → leb a b ≡ t → (a ≤ b → x ≤ y) → (b < a → y < x) → t ≡ leb x y
+leb-at a b x y true e f g = sym (le-leb x y (f (leb-true a b e)))
+leb-at a b x y false e f g = sym (lt-leb x y (g (leb-false a b e)))
+
+pub leb-same : (a b x y : ℕ) → (a ≤ b → x ≤ y) → (b < a → y < x) → leb a b ≡ leb x y
+leb-same a b x y f g = leb-at a b x y (leb a b) refl f g

@@ -1,0 +1,47 @@
+use borrow.Author.Tests.{eq-eqb, ne-eqb}
+use Rattle.isdp.specs.Place.{placeOk}
+use Rattle.isdp.proofs.Records.{wide}
+use borrow.Author.Needs.{needs}
+use Rattle.isdp.proofs.place_ok.Statement.{statement}
+use Rattle.isdp.proofs.place_ok.Tie as tie
+use Rattle.isdp.proofs.place_ok.Reads as reads
+use Rattle.isdp.proofs.place_ok.Lts as lts
+use Rattle.isdp.proofs.empty_ok.Reads as empty-ok-reads
+use Rattle.isdp.proofs.held_ok.Reads as held-ok-reads
+use Rattle.isdp.proofs.life_ok.Reads as life-ok-reads
+use Rattle.isdp.proofs.zeros_from.Reads as zeros-from-reads
+
+zeros-from-requires : tie.Need-zeros-from-requires
+zeros-from-requires c κs = search needs
+
+empty-ok-requires : tie.Need-empty-ok-requires
+empty-ok-requires c κs = search needs
+
+returns : tie.Need-returns
+unfolding placeOk
+returns c = let z = c .before .before .before in
+    let s = z .before .before in
+    rw (wide (s .args .p) _ (s .good .0), eq-eqb (s .args .p .len) 0 (c .before .if1 .taken), c .empty-ok .ensures, z .zeros-from .ensures)
+
+life-ok-requires : tie.Need-life-ok-requires
+life-ok-requires c κs = search needs
+
+held-ok-requires : tie.Need-held-ok-requires
+held-ok-requires c κs = search needs
+
+returns-2 : tie.Need-returns-2
+unfolding placeOk
+returns-2 c = let z = c .before .before .before .before in
+    let s = z .before .before in
+    rw (wide (s .args .p) _ (s .good .0), ne-eqb (s .args .p .len) 0 (c .before .before .if1 .left), c .before .life-ok .ensures, c .held-ok .ensures, z .zeros-from .ensures)
+
+pub place-ok-spec : {M : Type 1} → statement M
+place-ok-spec =
+    tie.close
+    (tie.spec
+    zeros-from-requires
+    empty-ok-requires
+    returns
+    life-ok-requires
+    held-ok-requires
+    returns-2)

@@ -1,0 +1,29 @@
+-- Document 01, 'Sizes'. Every number of that heading stands here once.
+use Prim.Native.Nat.{ℕ}
+
+-- "1 to 8 ISD-Ps"
+abbrev pub mostPlaces : ℕ
+mostPlaces = 8
+
+-- "AID 5 to 16 bytes"
+abbrev pub leastAid : ℕ
+leastAid = 5
+
+abbrev pub mostAid : ℕ
+mostAid = 16
+
+-- "EID 16 bytes"
+abbrev pub eidSize : ℕ
+eidSize = 16
+
+-- "Capacity 1 to 1,048,576 bytes"
+abbrev pub mostCapacity : ℕ
+mostCapacity = 1048576
+
+-- "A wait is 10 ticks"
+abbrev pub wait : ℕ
+wait = 10
+
+-- "Notification numbers run 1, 2, .. 65535, 0, 1"
+abbrev pub lastNumber : ℕ
+lastNumber = 65535

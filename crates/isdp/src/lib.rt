@@ -1,0 +1,281 @@
+// One ISD-P as the card holds it: AID, life cycle, quota, used bytes and policy, and the tests on it alone.
+// A place that is not held is the record of zeros; every function answers for every record, sound or not.
+ghost use mathlib.Core.Path.{_≡_};
+ghost use mathlib.Core.Bool.{cond, _&&_};
+ghost use Prim.Native.Nat.{_+_, _≤_};
+ghost use lib.ListN.{length, drop};
+ghost use lib.Dec.{leb, ltb, eqb};
+ghost use Rattle.isdp.specs.Aids.{sameBytes, aidOk, padded, noAid, nameOf};
+ghost use Rattle.isdp.specs.Policy.{policyOk, forbidsDisabling, forbidsDeletion, onceDisabled};
+ghost use Rattle.isdp.specs.LifeCycle.{isEnabled, withLife, withUsed, finish, off};
+ghost use Rattle.isdp.specs.Place.{none, made, isFor, zeros, lifeOk, emptyOk, heldOk, placeOk, clash};
+
+pub struct Isdp {
+    pub aid: [u8; 16],
+    pub len: usize,
+    pub life: u8,
+    pub quota: u32,
+    pub used: u32,
+    pub policy: u8,
+}
+
+// An AID by itself: its bytes with zeros after them, and its length; length 0 where there is none.
+pub struct Aid {
+    pub bytes: [u8; 16],
+    pub len: usize,
+}
+
+impl Isdp {
+    pub const SELECTABLE: u8 = 0x07;
+
+    pub const PERSONALIZED: u8 = 0x0F;
+
+    pub const DISABLED: u8 = 0x1F;
+
+    pub const ENABLED: u8 = 0x3F;
+}
+
+// Are the two byte strings the same, in length too?
+pub fn same(a: &[u8], b: &[u8]) -> bool
+    ensures { λ r. ⌜ r ≡ sameBytes (now (a .entry)) (now (b .entry)) ⌝ }
+{
+    if a.len() != b.len() {
+        return false;
+    }
+    let mut i = 0;
+    while i < a.len() {
+        if a[i] != b[i] {
+            return false;
+        }
+        i += 1;
+    }
+    true
+}
+
+// Has the AID 5 to 16 bytes?
+pub fn aid_ok(aid: &[u8]) -> bool
+    ensures { λ r. ⌜ r ≡ aidOk (now (aid .entry)) ⌝ }
+{
+    let n = aid.len();
+    (5 <= n) & (n <= 16)
+}
+
+// The first sixteen bytes of the AID, with zeros after them where it is shorter.
+pub fn pad(aid: &[u8]) -> [u8; 16]
+    ensures { λ r. ⌜ r ≡ padded (now (aid .entry)) ⌝ }
+{
+    let mut bytes = [0u8; 16];
+    let mut i = 0;
+    while i < 16 {
+        if i == aid.len() {
+            return bytes;
+        }
+        bytes[i] = aid[i];
+        i += 1;
+    }
+    bytes
+}
+
+// Is the policy byte legal?
+pub fn policy_ok(policy: u8) -> bool
+    ensures { λ r. ⌜ r ≡ policyOk policy ⌝ }
+{
+    policy <= 4
+}
+
+pub fn forbids_disabling(policy: u8) -> bool
+    ensures { λ r. ⌜ r ≡ forbidsDisabling policy ⌝ }
+{
+    policy % 2 == 1
+}
+
+pub fn forbids_deletion(policy: u8) -> bool
+    ensures { λ r. ⌜ r ≡ forbidsDeletion policy ⌝ }
+{
+    policy / 2 % 2 == 1
+}
+
+pub fn once_disabled(policy: u8) -> bool
+    ensures { λ r. ⌜ r ≡ onceDisabled policy ⌝ }
+{
+    policy / 4 % 2 == 1
+}
+
+// Are the bytes from `n` on zero?
+fn zeros_from(bytes: [u8; 16], n: usize) -> bool
+    ensures { λ r. ⌜ r ≡ zeros (drop n bytes) ⌝ }
+{
+    let mut i = n;
+    while i < 16 {
+        if bytes[i] != 0 {
+            return false;
+        }
+        i += 1;
+    }
+    true
+}
+
+// A place that is not held has zeros only.
+fn empty_ok(p: Isdp) -> bool
+    ensures { λ r. ⌜ r ≡ emptyOk p ⌝ }
+{
+    (p.life == 0) & ((p.quota == 0) & ((p.used == 0) & (p.policy == 0)))
+}
+
+fn life_ok(life: u8) -> bool
+    ensures { λ r. ⌜ r ≡ lifeOk life ⌝ }
+{
+    (life == Isdp::SELECTABLE)
+        | ((life == Isdp::PERSONALIZED) | ((life == Isdp::DISABLED) | (life == Isdp::ENABLED)))
+}
+
+// The sizes and codings of a held place, its life cycle apart.
+fn held_ok(p: Isdp, capacity: u32) -> bool
+    ensures { λ r. ⌜ r ≡ heldOk capacity p ⌝ }
+{
+    (5 <= p.len)
+        & ((p.len <= 16)
+            & ((1 <= p.quota)
+                & ((p.quota <= capacity) & ((p.used <= p.quota) & policy_ok(p.policy)))))
+}
+
+// The sizes and codings of one place.
+pub fn place_ok(p: Isdp, capacity: u32) -> bool
+    ensures { λ r. ⌜ r ≡ placeOk capacity p ⌝ }
+{
+    let bytes = p.aid;
+    let rest = zeros_from(bytes, p.len);
+    if p.len == 0 {
+        return empty_ok(p) & rest;
+    }
+    life_ok(p.life) & (held_ok(p, capacity) & rest)
+}
+
+// Is the place held, with this AID?
+pub fn is_for(p: Isdp, aid: &[u8]) -> bool
+    ensures { λ r. ⌜ r ≡ isFor (now (aid .entry)) p ⌝ }
+{
+    let n = p.len;
+    if n == 0 {
+        return false;
+    }
+    let bytes = p.aid;
+    if n > 16 {
+        return same(&bytes, aid);
+    }
+    same(&bytes[..n], aid)
+}
+
+// Are the two places held with one AID?
+pub fn clashes(p: Isdp, q: Isdp) -> bool
+    ensures { λ r. ⌜ r ≡ clash p q ⌝ }
+{
+    let n = p.len;
+    if n == 0 {
+        return false;
+    }
+    let bytes = p.aid;
+    if n > 16 {
+        return is_for(q, &bytes);
+    }
+    is_for(q, &bytes[..n])
+}
+
+impl Isdp {
+    // A place that is not held.
+    pub fn none() -> Isdp
+        ensures { λ r. ⌜ r ≡ none ⌝ }
+    {
+        let aid = [0u8; 16];
+        Isdp {
+            aid,
+            len: 0,
+            life: 0,
+            quota: 0,
+            used: 0,
+            policy: 0,
+        }
+    }
+
+    // A profile with an empty policy, as fresh and create make it.
+    pub fn made(aid: &[u8], life: u8, quota: u32, used: u32) -> Isdp
+        ensures { λ r. ⌜ r ≡ made (now (aid .entry)) life quota used ⌝ }
+    {
+        let bytes = pad(aid);
+        Isdp {
+            aid: bytes,
+            len: aid.len(),
+            life,
+            quota,
+            used,
+            policy: 0,
+        }
+    }
+
+    pub fn with_life(self, life: u8) -> Isdp
+        ensures { λ r. ⌜ r ≡ withLife self life ⌝ }
+    {
+        let mut p = self;
+        p.life = life;
+        p
+    }
+
+    pub fn with_used(self, used: u32) -> Isdp
+        ensures { λ r. ⌜ r ≡ withUsed self used ⌝ }
+    {
+        let mut p = self;
+        p.used = used;
+        p
+    }
+
+    // DISABLED, with this policy.
+    pub fn finish(self, policy: u8) -> Isdp
+        ensures { λ r. ⌜ r ≡ finish self policy ⌝ }
+    {
+        let mut p = self;
+        p.life = Isdp::DISABLED;
+        p.policy = policy;
+        p
+    }
+
+    // An ENABLED place is DISABLED, any other stays.
+    pub fn off(self) -> Isdp
+        ensures { λ r. ⌜ r ≡ off self ⌝ }
+    {
+        let mut p = self;
+        if self.life == Isdp::ENABLED {
+            p.life = Isdp::DISABLED;
+        }
+        p
+    }
+
+    // Do n bytes more keep within the quota? Compared without a sum, which could pass 32 bits.
+    pub fn has_room(self, n: u32) -> bool
+        ensures { λ r. ⌜ r ≡ leb (self .used + n) (self .quota) ⌝ }
+    {
+        if self.quota < self.used {
+            return false;
+        }
+        n <= self.quota - self.used
+    }
+
+    // The AID by itself.
+    pub fn name(self) -> Aid
+        ensures { λ r. ⌜ r ≡ nameOf self ⌝ }
+    {
+        let bytes = self.aid;
+        Aid {
+            bytes,
+            len: self.len,
+        }
+    }
+}
+
+impl Aid {
+    pub fn none() -> Aid
+        ensures { λ r. ⌜ r ≡ noAid ⌝ }
+    {
+        let bytes = [0u8; 16];
+        Aid { bytes, len: 0 }
+    }
+}
