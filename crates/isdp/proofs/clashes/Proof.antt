@@ -1,7 +1,6 @@
 -- `isdp::clashes`: as `is_for`, with the other place's AID for the byte string.
-use mathlib.Core.Path.{_≡_, sym}
+use mathlib.Core.Path.{sym}
 use native.Mathlib.Omega.{arith}
-use lib.ListN.{length, take}
 use lib.Seq.{length-take-le, take-all}
 use borrow.Author.Tests.{eq-eqb, ne-eqb}
 use Rattle.isdp.specs.Place.{clash}
@@ -9,9 +8,6 @@ use Rattle.isdp.proofs.Records.{wide}
 use borrow.Author.Needs.{needs}
 use Rattle.isdp.proofs.clashes.Statement.{statement}
 use Rattle.isdp.proofs.clashes.Tie as tie
-use Rattle.isdp.proofs.clashes.Reads as reads
-use Rattle.isdp.proofs.clashes.Lts as lts
-use Rattle.isdp.proofs.is_for.Reads as is-for-reads
 
 returns : tie.Need-returns
 unfolding clash

@@ -1,9 +1,6 @@
 use borrow.Author.Needs.{needs}
 use Rattle.isdp.proofs.held_ok.Statement.{statement}
 use Rattle.isdp.proofs.held_ok.Tie as tie
-use Rattle.isdp.proofs.held_ok.Reads as reads
-use Rattle.isdp.proofs.held_ok.Lts as lts
-use Rattle.isdp.proofs.policy_ok.Reads as policy-ok-reads
 
 policy-ok-requires : tie.Need-policy-ok-requires
 policy-ok-requires c κs = search needs

@@ -1,7 +1,7 @@
 -- `isdp::is_for`: a length over sixteen takes the whole array, which is what `take` takes too.
-use mathlib.Core.Path.{_≡_, sym}
+use mathlib.Core.Path.{sym}
 use native.Mathlib.Omega.{arith}
-use lib.ListN.{length, take}
+use lib.ListN.{length}
 use lib.Seq.{length-take-le, take-all}
 use borrow.Author.Tests.{eq-eqb, ne-eqb}
 use Rattle.isdp.specs.Place.{isFor}
@@ -9,9 +9,6 @@ use Rattle.isdp.proofs.Records.{wide}
 use borrow.Author.Needs.{needs}
 use Rattle.isdp.proofs.is_for.Statement.{statement}
 use Rattle.isdp.proofs.is_for.Tie as tie
-use Rattle.isdp.proofs.is_for.Reads as reads
-use Rattle.isdp.proofs.is_for.Lts as lts
-use Rattle.isdp.proofs.same.Reads as same-reads
 
 returns : tie.Need-returns
 unfolding isFor

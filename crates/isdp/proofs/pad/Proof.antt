@@ -8,8 +8,6 @@ use borrow.Author.Needs.{needs}
 use Rattle.isdp.proofs.Bytes.{pad-step, pad-short, pad-full}
 use Rattle.isdp.proofs.pad.Statement.{statement}
 use Rattle.isdp.proofs.pad.Tie as tie
-use Rattle.isdp.proofs.pad.Reads as reads
-use Rattle.isdp.proofs.pad.Lts as lts
 
 abbrev Inv-loop : tie.InvT-loop
 Inv-loop aid bytes₀ i₀ bytes i = (i ≤ length aid) × ((i ≤ 16) × (bytes ≡ take i aid ++ replicate (16 - i) 0))

@@ -4,12 +4,6 @@ use Rattle.isdp.proofs.Records.{wide}
 use borrow.Author.Needs.{needs}
 use Rattle.isdp.proofs.place_ok.Statement.{statement}
 use Rattle.isdp.proofs.place_ok.Tie as tie
-use Rattle.isdp.proofs.place_ok.Reads as reads
-use Rattle.isdp.proofs.place_ok.Lts as lts
-use Rattle.isdp.proofs.empty_ok.Reads as empty-ok-reads
-use Rattle.isdp.proofs.held_ok.Reads as held-ok-reads
-use Rattle.isdp.proofs.life_ok.Reads as life-ok-reads
-use Rattle.isdp.proofs.zeros_from.Reads as zeros-from-reads
 
 zeros-from-requires : tie.Need-zeros-from-requires
 zeros-from-requires c κs = search needs

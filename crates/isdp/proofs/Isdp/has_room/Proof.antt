@@ -6,8 +6,6 @@ use borrow.Author.Tests.{lt-leb}
 use Rattle.isdp.proofs.Bytes.{leb-same}
 use Rattle.isdp.proofs.Isdp.has_room.Statement.{statement}
 use Rattle.isdp.proofs.Isdp.has_room.Tie as tie
-use Rattle.isdp.proofs.Isdp.has_room.Reads as reads
-use Rattle.isdp.proofs.Isdp.has_room.Lts as lts
 
 returns : tie.Need-returns
 returns c = let s = c .before .before .args in

@@ -1,9 +1,6 @@
 use borrow.Author.Needs.{needs}
 use Rattle.isdp.proofs.Isdp.made.Statement.{statement}
 use Rattle.isdp.proofs.Isdp.made.Tie as tie
-use Rattle.isdp.proofs.Isdp.made.Reads as reads
-use Rattle.isdp.proofs.Isdp.made.Lts as lts
-use Rattle.isdp.proofs.pad.Reads as pad-reads
 
 pad-requires : tie.Need-pad-requires
 pad-requires c κs = search needs

@@ -1,8 +1,6 @@
 use borrow.Author.Tests.{eq-eqb, ne-eqb}
 use Rattle.isdp.proofs.Isdp.off.Statement.{statement}
 use Rattle.isdp.proofs.Isdp.off.Tie as tie
-use Rattle.isdp.proofs.Isdp.off.Reads as reads
-use Rattle.isdp.proofs.Isdp.off.Lts as lts
 
 returns : tie.Need-returns
 returns c = rw (eq-eqb (c .before .before .args .self .life) 0x3F (c .if1 .taken))

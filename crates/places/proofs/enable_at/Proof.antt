@@ -1,0 +1,26 @@
+use mathlib.Core.Path.{_∙_}
+use Rattle.places.proofs.Switching.{on-one}
+use borrow.Author.Needs.{needs}
+use Rattle.places.proofs.enable_at.Statement.{statement}
+use Rattle.places.proofs.enable_at.Tie as tie
+
+all-off-requires : tie.Need-all-off-requires
+all-off-requires c κs = search needs
+
+at-requires : tie.Need-at-requires
+at-requires c κs = search needs
+
+with-life-requires : tie.Need-with-life-requires
+with-life-requires c κs = search needs
+
+put-requires : tie.Need-put-requires
+put-requires c κs = search needs
+
+returns : tie.Need-returns
+returns c = let s = c .before .before .before .before in
+    c .put .ensures
+    ∙ rw (c .before .with-life .ensures, c .before .before .at .ensures, c .before .before .before .all-off .ensures) (on-one (s .args .places) (s .args .i))
+
+pub enable-at-spec : {M : Type 1} → statement M
+enable-at-spec =
+    tie.close (tie.spec all-off-requires at-requires with-life-requires put-requires returns)

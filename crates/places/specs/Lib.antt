@@ -1,0 +1,2 @@
+-- Document 01, 'The card': the places and the searches over them.
+pub mod Places

@@ -1,0 +1,206 @@
+// The card's places, searched and written over as a whole: nothing here knows of a phase or a command.
+// Every search answers for every record; a number past the last place reads as a place that is not held.
+use isdp::Isdp;
+use isdp::clashes;
+use isdp::is_for;
+use isdp::place_ok;
+ghost use mathlib.Core.Path.{_≡_};
+ghost use mathlib.Core.Bool.{true};
+ghost use Prim.Native.Nat.{_+_, _-_, _≤_};
+ghost use lib.ListN.{length, set, drop};
+ghost use lib.Dec.{leb};
+ghost use Rattle.isdp.specs.LifeCycle.{isEnabled};
+ghost use Rattle.isdp.specs.Place.{held, isFor, placeOk, clash};
+ghost use Rattle.places.specs.Places.{at, seek, foundOf, isFree, quotas, freeOf, allOf, anyOf, countOf, distinct, allOff, enableAt};
+
+pub const PLACES: usize = 8;
+
+pub enum Found {
+    At(usize),
+    Nothing,
+}
+
+// The place at a number.
+pub fn at(places: [Isdp; PLACES], i: usize) -> Isdp
+    ensures { λ r. ⌜ r ≡ at places i ⌝ }
+{
+    if i >= PLACES {
+        return Isdp::none();
+    }
+    places[i]
+}
+
+// The place at a number written anew.
+pub fn put(places: [Isdp; PLACES], i: usize, p: Isdp) -> [Isdp; PLACES]
+    ensures { λ r. ⌜ r ≡ set places i p ⌝ }
+{
+    if i >= PLACES {
+        return places;
+    }
+    let mut all = places;
+    all[i] = p;
+    all
+}
+
+// The place that bears an AID.
+pub fn find(places: [Isdp; PLACES], aid: &[u8]) -> Found
+    ensures { λ r. ⌜ r ≡ foundOf (seek (isFor (now (aid .entry))) places) ⌝ }
+{
+    let mut i = 0;
+    loop {
+        if i == PLACES {
+            break Found::Nothing;
+        }
+        let p = places[i];
+        if is_for(p, aid) {
+            break Found::At(i);
+        }
+        i += 1;
+    }
+}
+
+// The place that is enabled.
+pub fn enabled(places: [Isdp; PLACES]) -> Found
+    ensures { λ r. ⌜ r ≡ foundOf (seek isEnabled places) ⌝ }
+{
+    let mut i = 0;
+    loop {
+        if i == PLACES {
+            break Found::Nothing;
+        }
+        if places[i].life == Isdp::ENABLED {
+            break Found::At(i);
+        }
+        i += 1;
+    }
+}
+
+// The lowest free place.
+pub fn free_place(places: [Isdp; PLACES]) -> Found
+    ensures { λ r. ⌜ r ≡ foundOf (seek isFree places) ⌝ }
+{
+    let mut i = 0;
+    loop {
+        if i == PLACES {
+            break Found::Nothing;
+        }
+        if places[i].len == 0 {
+            break Found::At(i);
+        }
+        i += 1;
+    }
+}
+
+// Capacity less all quotas held; 0 where they are more, as no sound card has it.
+pub fn free(places: [Isdp; PLACES], capacity: u32) -> u32
+    ensures { λ r. ⌜ r ≡ freeOf capacity places ⌝ }
+{
+    let mut left = capacity;
+    let mut i = 0;
+    while i < PLACES {
+        let q = places[i].quota;
+        if left < q {
+            return 0;
+        }
+        left -= q;
+        i += 1;
+    }
+    left
+}
+
+// Are the quotas together within the capacity? Taken off one by one, since their sum could pass 32 bits.
+pub fn within(places: [Isdp; PLACES], capacity: u32) -> bool
+    ensures { λ r. ⌜ r ≡ leb (quotas places) capacity ⌝ }
+{
+    let mut left = capacity;
+    let mut i = 0;
+    while i < PLACES {
+        let q = places[i].quota;
+        if left < q {
+            return false;
+        }
+        left -= q;
+        i += 1;
+    }
+    true
+}
+
+pub fn all_ok(places: [Isdp; PLACES], capacity: u32) -> bool
+    ensures { λ r. ⌜ r ≡ allOf (placeOk capacity) places ⌝ }
+{
+    let mut i = 0;
+    while i < PLACES {
+        let p = places[i];
+        if !place_ok(p, capacity) {
+            return false;
+        }
+        i += 1;
+    }
+    true
+}
+
+// Does a place from `from` on bear the AID of `p`?
+fn again(places: [Isdp; PLACES], p: Isdp, from: usize) -> bool
+    ensures { λ r. ⌜ r ≡ anyOf (clash p) (drop from places) ⌝ }
+{
+    let mut i = from;
+    while i < PLACES {
+        let q = places[i];
+        if clashes(p, q) {
+            return true;
+        }
+        i += 1;
+    }
+    false
+}
+
+pub fn all_distinct(places: [Isdp; PLACES]) -> bool
+    ensures { λ r. ⌜ r ≡ distinct places ⌝ }
+{
+    let mut i = 0;
+    while i < PLACES {
+        let p = places[i];
+        if again(places, p, i + 1) {
+            return false;
+        }
+        i += 1;
+    }
+    true
+}
+
+pub fn count_enabled(places: [Isdp; PLACES]) -> usize
+    ensures { λ r. ⌜ r ≡ countOf isEnabled places ⌝ }
+{
+    let mut n = 0;
+    let mut i = 0;
+    while i < PLACES {
+        if places[i].life == Isdp::ENABLED {
+            n += 1;
+        }
+        i += 1;
+    }
+    n
+}
+
+// Every enabled place is disabled.
+fn all_off(places: [Isdp; PLACES]) -> [Isdp; PLACES]
+    ensures { λ r. ⌜ r ≡ allOff places ⌝ }
+{
+    let mut all = places;
+    let mut i = 0;
+    while i < PLACES {
+        let p = all[i];
+        all[i] = p.off();
+        i += 1;
+    }
+    all
+}
+
+// The place is enabled, and the one that was is disabled.
+pub fn enable_at(places: [Isdp; PLACES], i: usize) -> [Isdp; PLACES]
+    ensures { λ r. ⌜ r ≡ enableAt places i ⌝ }
+{
+    let all = all_off(places);
+    let p = at(all, i);
+    put(all, i, p.with_life(Isdp::ENABLED))
+}
