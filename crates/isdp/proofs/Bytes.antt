@@ -4,7 +4,7 @@ use mathlib.Core.Path.{_≡_, refl, ap, sym}
 use Prim.Native.Nat.{ℕ, suc, _+_, _-_, _≤_, _<_}
 use native.Mathlib.Numerals.{add-one}
 use native.Mathlib.Omega.{arith}
-use mathlib.Core.List.{List, [], _∷_, _++_}
+use mathlib.Core.List.{List, [], _∷_, _++_, append-nil}
 use mathlib.Core.Bool.{Bool, true, false, _&&_, and-false}
 use lib.ListN.{length, getD, take, drop, set, replicate, drop-of-length-le}
 use lib.Seq.{drop-cons, set-at, take-suc, take-all, append-snoc, length-take-le}
@@ -69,3 +69,10 @@ leb-at a b x y false e f g = sym (lt-leb x y (g (leb-false a b e)))
 
 pub leb-same : (a b x y : ℕ) → (a ≤ b → x ≤ y) → (b < a → y < x) → leb a b ≡ leb x y
 leb-same a b x y f g = leb-at a b x y (leb a b) refl f g
+
+-- sixteen bytes need no padding
+pub pad-whole : (s : List ℕ) → length s ≡ 16 → padded s ≡ s
+unfolding padded
+pad-whole s e =
+    let h : length s ≤ 16 = omega arith in
+    rw (take-all 16 s h, e) (append-nil s)

@@ -1,0 +1,28 @@
+use Rattle.isdp.proofs.Bytes.{pad-whole}
+use borrow.Author.Needs.{needs}
+use Rattle.card.proofs.Card.first.Statement.{statement}
+use Rattle.card.proofs.Card.first.Tie as tie
+use Rattle.card.proofs.Card.first.Reads as reads
+use Rattle.card.proofs.Card.first.Lts as lts
+use Rattle.isdp.proofs.Isdp.made.Reads as made-reads
+use Rattle.isdp.proofs.Isdp.none.Reads as none-reads
+use Rattle.isdp.proofs.pad.Reads as pad-reads
+
+pad-requires : tie.Need-pad-requires
+pad-requires c κs = search needs
+
+none-requires : tie.Need-none-requires
+none-requires c κs = search needs
+
+made-requires : tie.Need-made-requires
+made-requires c κs = search needs
+
+array-set-from-places : tie.Need-array-set-from-places
+array-set-from-places c = search needs
+
+returns : tie.Need-returns
+returns c = rw (c .made .ensures, c .before .none .ensures, c .before .before .pad .ensures, pad-whole (c .before .before .before .before .before .args .eid .now) (c .before .before .before .before .before .pre))
+
+pub first-spec : {M : Type 1} → statement M
+first-spec =
+    tie.close (tie.spec pad-requires none-requires made-requires array-set-from-places returns)

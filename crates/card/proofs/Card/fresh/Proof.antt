@@ -1,0 +1,69 @@
+-- `Card::fresh`: both figures of ticks are 0, since both cards are Quiet.
+use mathlib.Core.Path.{_≡_, refl, sym, _∙_}
+use borrow.Author.Tests.{not-true, not-false, eqb-true}
+use lib.Dec.{eqb}
+use lib.ListN.{length}
+use Rattle.status.specs.Rows.{wordOf}
+use Rattle.card.specs.Sound.{sound}
+use Rattle.card.specs.Ticks.{stepsIn, ticksToCome, ticksByPhase}
+use Rattle.card.specs.Answers.{refused, accepted}
+use Rattle.card.specs.Fresh.{freshOutcome}
+use Rattle.card.proofs.Bools.{and-l}
+use borrow.Author.Needs.{needs}
+use Rattle.card.proofs.Card.fresh.Statement.{statement}
+use Rattle.card.proofs.Card.fresh.Tie as tie
+use Rattle.card.proofs.Card.fresh.Reads as reads
+use Rattle.card.proofs.Card.fresh.Lts as lts
+use Rattle.card.proofs.Card.first.Reads as first-reads
+use Rattle.card.proofs.Card.fresh_ok.Reads as fresh-ok-reads
+use Rattle.card.proofs.Card.refused.Reads as refused-reads
+use Rattle.card.proofs.Card.step_to.Reads as step-to-reads
+use Rattle.card.proofs.Card.zero.Reads as zero-reads
+use Rattle.card.proofs.Step.answer.Reads as answer-reads
+use Rattle.isdp.proofs.Aid.none.Reads as none-reads
+
+zero-requires : tie.Need-zero-requires
+zero-requires c κs = search needs
+
+fresh-ok-requires : tie.Need-fresh-ok-requires
+fresh-ok-requires c κs = search needs
+
+refused-requires : tie.Need-refused-requires
+refused-requires c κs = search needs
+
+returns : tie.Need-returns
+unfolding freshOutcome refused wordOf ticksByPhase sound
+returns c = let e = c .before in
+    rw (sym (e .before .fresh-ok .ensures) ∙ not-true _ (e .if1 .taken)) (rw (c .refused .ensures, e .before .before .zero .ensures))
+
+first-requires : tie.Need-first-requires
+first-requires c κs = let e = c in
+    eqb-true (length (c .before .before .before .before .before .args .eid .now)) 16 (and-l _ _ (sym (e .before .fresh-ok .ensures) ∙ not-false _ (e .if1 .left)))
+
+none-requires : tie.Need-none-requires
+none-requires c κs = search needs
+
+step-to-requires : tie.Need-step-to-requires
+step-to-requires c κs = search needs
+
+answer-requires : tie.Need-answer-requires
+answer-requires c κs = search needs
+
+returns-2 : tie.Need-returns-2
+unfolding freshOutcome accepted wordOf ticksToCome stepsIn ticksByPhase
+returns-2 c = let e = c .before .before .before .before in
+    rw (sym (e .before .fresh-ok .ensures) ∙ not-false _ (e .if1 .left)) (c .answer .ensures ∙ rw (c .before .step-to .ensures) (rw (c .before .before .before .first .ensures) (rw (e .before .before .zero .ensures) refl)))
+
+pub fresh-spec : {M : Type 1} → statement M
+fresh-spec =
+    tie.close
+    (tie.spec
+    zero-requires
+    fresh-ok-requires
+    refused-requires
+    returns
+    first-requires
+    none-requires
+    step-to-requires
+    answer-requires
+    returns-2)

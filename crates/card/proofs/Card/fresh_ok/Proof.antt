@@ -1,0 +1,15 @@
+use borrow.Author.Needs.{needs}
+use Rattle.card.proofs.Card.fresh_ok.Statement.{statement}
+use Rattle.card.proofs.Card.fresh_ok.Tie as tie
+use Rattle.card.proofs.Card.fresh_ok.Reads as reads
+use Rattle.card.proofs.Card.fresh_ok.Lts as lts
+use Rattle.isdp.proofs.aid_ok.Reads as aid-ok-reads
+
+aid-ok-requires : tie.Need-aid-ok-requires
+aid-ok-requires c κs = search needs
+
+returns : tie.Need-returns
+returns c = rw (c .aid-ok .ensures)
+
+pub fresh-ok-spec : {M : Type 1} → statement M
+fresh-ok-spec = tie.close (tie.spec aid-ok-requires returns)

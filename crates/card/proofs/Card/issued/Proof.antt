@@ -1,0 +1,29 @@
+use borrow.Author.Needs.{needs}
+use Rattle.card.proofs.Card.issued.Statement.{statement}
+use Rattle.card.proofs.Card.issued.Tie as tie
+use Rattle.card.proofs.Card.issued.Reads as reads
+use Rattle.card.proofs.Card.issued.Lts as lts
+use Rattle.card.proofs.Card.enabled_place.Reads as enabled-place-reads
+use Rattle.card.proofs.Card.profile.Reads as profile-reads
+use Rattle.card.proofs.Phase.kind.Reads as kind-reads
+use Rattle.isdp.proofs.Isdp.name.Reads as name-reads
+
+kind-requires : tie.Need-kind-requires
+kind-requires c κs = search needs
+
+enabled-place-requires : tie.Need-enabled-place-requires
+enabled-place-requires c κs = search needs
+
+profile-requires : tie.Need-profile-requires
+profile-requires c κs = search needs
+
+name-requires : tie.Need-name-requires
+name-requires c κs = search needs
+
+returns : tie.Need-returns
+returns c = rw (c .name .ensures, c .before .profile .ensures, c .before .before .enabled-place .ensures, c .before .before .before .kind .ensures)
+
+pub issued-spec : {M : Type 1} → statement M
+issued-spec =
+    tie.close
+    (tie.spec kind-requires enabled-place-requires profile-requires name-requires returns)

@@ -1,0 +1,72 @@
+use Rattle.card.specs.Sound.{phaseOk}
+use borrow.Author.Needs.{needs}
+use Rattle.card.proofs.Card.phase_ok.Statement.{statement}
+use Rattle.card.proofs.Card.phase_ok.Tie as tie
+use Rattle.card.proofs.Card.phase_ok.Reads as reads
+use Rattle.card.proofs.Card.phase_ok.Lts as lts
+use Rattle.card.proofs.Card.profile.Reads as profile-reads
+use Rattle.card.proofs.open_ok.Reads as open-ok-reads
+
+enum-told : tie.Need-enum-told
+enum-told c = search needs
+
+enum-known-phase : tie.Need-enum-known-phase
+enum-known-phase c = search needs
+
+profile-requires : tie.Need-profile-requires
+profile-requires c κs = search needs
+
+open-ok-requires : tie.Need-open-ok-requires
+open-ok-requires c κs = search needs
+
+enum-known-phase-2 : tie.Need-enum-known-phase-2
+enum-known-phase-2 c = search needs
+
+open-ok-requires-2 : tie.Need-open-ok-requires-2
+open-ok-requires-2 c κs = search needs
+
+enum-known-phase-3 : tie.Need-enum-known-phase-3
+enum-known-phase-3 c = search needs
+
+profile-requires-2 : tie.Need-profile-requires-2
+profile-requires-2 c κs = search needs
+
+open-ok-requires-3 : tie.Need-open-ok-requires-3
+open-ok-requires-3 c κs = search needs
+
+returns : tie.Need-returns
+unfolding phaseOk
+returns c = rw (c .enum-told .given .1)
+
+returns-2 : tie.Need-returns-2
+unfolding phaseOk
+returns-2 c = let g = c .before .before .before .before .phase .given in
+    rw (g .1, c .before .open-ok .ensures, c .before .before .profile .ensures)
+
+returns-3 : tie.Need-returns-3
+unfolding phaseOk
+returns-3 c = let g = c .before .before .phase2 .given in
+    rw (g .1, c .open-ok2 .ensures)
+
+returns-4 : tie.Need-returns-4
+unfolding phaseOk
+returns-4 c = let g = c .before .before .before .before .phase3 .given in
+    rw (g .1, c .before .open-ok3 .ensures, c .before .before .profile2 .ensures)
+
+pub phase-ok-spec : {M : Type 1} → statement M
+phase-ok-spec =
+    tie.close
+    (tie.spec
+    enum-told
+    enum-known-phase
+    profile-requires
+    open-ok-requires
+    enum-known-phase-2
+    open-ok-requires-2
+    enum-known-phase-3
+    profile-requires-2
+    open-ok-requires-3
+    returns
+    returns-2
+    returns-3
+    returns-4)

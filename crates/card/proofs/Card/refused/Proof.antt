@@ -1,0 +1,19 @@
+use borrow.Author.Needs.{needs}
+use Rattle.card.proofs.Card.refused.Statement.{statement}
+use Rattle.card.proofs.Card.refused.Tie as tie
+use Rattle.card.proofs.Card.refused.Reads as reads
+use Rattle.card.proofs.Card.refused.Lts as lts
+use Rattle.card.proofs.Card.ticks_to_come.Reads as ticks-to-come-reads
+use Rattle.card.proofs.Notification.silent.Reads as silent-reads
+
+silent-requires : tie.Need-silent-requires
+silent-requires c κs = search needs
+
+ticks-to-come-requires : tie.Need-ticks-to-come-requires
+ticks-to-come-requires c κs = search needs
+
+returns : tie.Need-returns
+returns c = rw (c .ticks-to-come .ensures, c .before .silent .ensures)
+
+pub refused-spec : {M : Type 1} → statement M
+refused-spec = tie.close (tie.spec silent-requires ticks-to-come-requires returns)

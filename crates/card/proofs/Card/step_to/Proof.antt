@@ -1,0 +1,15 @@
+use borrow.Author.Needs.{needs}
+use Rattle.card.proofs.Card.step_to.Statement.{statement}
+use Rattle.card.proofs.Card.step_to.Tie as tie
+use Rattle.card.proofs.Card.step_to.Reads as reads
+use Rattle.card.proofs.Card.step_to.Lts as lts
+use Rattle.card.proofs.Card.noticed.Reads as noticed-reads
+
+noticed-requires : tie.Need-noticed-requires
+noticed-requires c κs = search needs
+
+returns : tie.Need-returns
+returns c = rw (c .noticed .ensures)
+
+pub step-to-spec : {M : Type 1} → statement M
+step-to-spec = tie.close (tie.spec noticed-requires returns)

@@ -1,0 +1,25 @@
+use Rattle.card.specs.Steps.{tickStep}
+use borrow.Author.Needs.{needs}
+use Rattle.card.proofs.Card.tick.Statement.{statement}
+use Rattle.card.proofs.Card.tick.Tie as tie
+use Rattle.card.proofs.Card.tick.Reads as reads
+use Rattle.card.proofs.Card.tick.Lts as lts
+use Rattle.card.proofs.Card.step_to.Reads as step-to-reads
+use Rattle.card.proofs.Card.ticked.Reads as ticked-reads
+use Rattle.isdp.proofs.Aid.none.Reads as none-reads
+
+ticked-requires : tie.Need-ticked-requires
+ticked-requires c κs = search needs
+
+none-requires : tie.Need-none-requires
+none-requires c κs = search needs
+
+step-to-requires : tie.Need-step-to-requires
+step-to-requires c κs = search needs
+
+returns : tie.Need-returns
+unfolding tickStep
+returns c = rw (c .step-to .ensures, c .before .none .ensures, c .before .before .ticked .ensures)
+
+pub tick-spec : {M : Type 1} → statement M
+tick-spec = tie.close (tie.spec ticked-requires none-requires step-to-requires returns)

@@ -1,0 +1,29 @@
+-- What owning a card tells of its fields: the prover knows it of the types. Assumes nothing.
+use mathlib.Core.Path.{_≡_, sym, _∙_}
+use Prim.Native.Nat.{ℕ, _≤_}
+use native.Mathlib.Omega.{arith}
+use mathlib.Core.List.{List, map}
+use lib.ListN.{length, length-map}
+use mir.Val.{Val, Fits}
+use mir.Syntax.{w16}
+use denote.Laws.{Is}
+use denote.Struct.Declared.{row}
+use borrow.Author.Needs.{needs}
+use Rattle.isdp.specs.Sizes.{mostPlaces, eidSize, lastNumber}
+use Rattle.card.specs.declared.Card.{Card}
+use Rattle.card.proofs.Card as C
+
+length-mapped : (X Y : Type 0) (f : X → Y) (l : List X) (n : ℕ) → length (map f l) ≡ n → length l ≡ n
+length-mapped X Y f l n e = sym (length-map l f) ∙ e
+
+pub full : (card : Card) (vs : List Val) → Is (row C.the-type) card vs → length (card .places) ≡ mostPlaces
+full card vs g = search (needs, length-mapped)
+
+pub named : (card : Card) (vs : List Val) → Is (row C.the-type) card vs → length (card .eid) ≡ eidSize
+named card vs g = search needs
+
+last-fits : (card : Card) (vs : List Val) → Is (row C.the-type) card vs → Fits w16 (card .last)
+last-fits card vs g = search needs
+
+pub numbered : (card : Card) (vs : List Val) → Is (row C.the-type) card vs → card .last ≤ lastNumber
+numbered card vs g = let h = last-fits card vs g in omega arith

@@ -1,0 +1,18 @@
+use borrow.Author.Tests.{eq-eqb, ne-eqb, lt-ltb, le-ltb, not-true, not-false}
+use borrow.Author.Needs.{needs}
+use Rattle.card.proofs.next.Statement.{statement}
+use Rattle.card.proofs.next.Tie as tie
+use Rattle.card.proofs.next.Reads as reads
+use Rattle.card.proofs.next.Lts as lts
+
+add-result : tie.Need-add-result
+add-result c = search needs
+
+returns : tie.Need-returns
+returns c = rw (eq-eqb (c .before .args .n) 65535 (c .if1 .taken))
+
+returns-2 : tie.Need-returns-2
+returns-2 c = rw (ne-eqb (c .before .args .n) 65535 (c .if1 .left))
+
+pub next-spec : {M : Type 1} → statement M
+next-spec = tie.close (tie.spec add-result returns returns-2)

@@ -1,0 +1,54 @@
+-- Document 01, 'The card': "A fresh card has one profile, ENABLED and fall-back, empty policy, Quiet, last number 0."
+-- "Inputs that break the sizes, or used over quota, give 6A 80 and a record of zeros in Quiet".
+use Prim.Native.Nat.{ℕ, _-_}
+use mathlib.Core.List.{List, [], _∷_}
+use mathlib.Core.Bool.{Bool, not, _&&_}
+use lib.ListN.{length, replicate}
+use lib.Dec.{leb, eqb}
+use Rattle.status.specs.Rows.{row}
+use Rattle.status.specs.declared.Status.the-variants.{DataWrong}
+use Rattle.isdp.specs.Sizes.{mostPlaces, eidSize, mostCapacity}
+use Rattle.isdp.specs.Aids.{aidOk, noAid}
+use Rattle.isdp.specs.LifeCycle.{enabled}
+use Rattle.isdp.specs.Place.{none, made}
+use Rattle.card.specs.Steps.{stepTo}
+use Rattle.card.specs.Answers.{Outcome, outcome}
+use Rattle.card.specs.declared.Card.{Card}
+use Rattle.card.specs.declared.Phase.the-variants.{Quiet}
+
+-- the record of zeros
+abbrev pub zeroCard : Card
+zeroCard =
+    record {
+      eid = replicate eidSize 0;
+      capacity = 0;
+      volatile = 0;
+      last = 0;
+      fallback = 0;
+      phase = Quiet;
+      places = replicate mostPlaces none;
+    }
+
+abbrev pub freshCard : List ℕ → List ℕ → ℕ → ℕ → ℕ → ℕ → Card
+freshCard eid aid capacity quota used volatile =
+    record {
+      eid = eid;
+      capacity = capacity;
+      volatile = volatile;
+      last = 0;
+      fallback = 0;
+      phase = Quiet;
+      places = made aid enabled quota used ∷ replicate (mostPlaces - 1) none;
+    }
+
+abbrev pub freshOk : List ℕ → List ℕ → ℕ → ℕ → ℕ → Bool
+freshOk eid aid capacity quota used =
+    eqb (length eid) eidSize
+    && (aidOk aid
+    && (leb 1 capacity
+    && (leb capacity mostCapacity && (leb 1 quota && (leb quota capacity && leb used quota)))))
+
+unfoldable pub freshOutcome : List ℕ → List ℕ → ℕ → ℕ → ℕ → ℕ → Outcome
+freshOutcome eid aid capacity quota used volatile =
+    outcome zeroCard (row (not (freshOk eid aid capacity quota used)) DataWrong ∷ [])
+    (stepTo zeroCard (freshCard eid aid capacity quota used volatile) noAid) []

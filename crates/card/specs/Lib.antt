@@ -1,0 +1,9 @@
+-- Document 01, 'The card' and the parts of 'Steps' that know no command.
+pub mod Cards
+pub mod Sound
+pub mod Clock
+pub mod Ticks
+pub mod Notifications
+pub mod Steps
+pub mod Answers
+pub mod Fresh

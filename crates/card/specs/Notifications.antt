@@ -1,0 +1,47 @@
+-- Document 01, 'The card': "A notification is handed out as values: kind, number, EID and the AID of the profile then enabled."
+-- The codes are 000's (4.1.1.11, Notification type).
+use Prim.Native.Nat.{ℕ}
+use mathlib.Core.Bool.{cond}
+use lib.ListN.{replicate}
+use lib.Dec.{eqb}
+use Rattle.isdp.specs.Sizes.{eidSize}
+use Rattle.isdp.specs.Aids.{nameOf, noAid}
+use Rattle.places.specs.Places.{at}
+use Rattle.card.specs.Cards.{enabledPlace}
+use Rattle.card.specs.declared.Card.{Card}
+use Rattle.card.specs.declared.Kind.{Kind}
+use Rattle.card.specs.declared.Kind.the-variants.{Silent, Changed, RolledBack, FallenBack}
+use Rattle.card.specs.declared.Notification.{Notification}
+use Rattle.card.specs.declared.Phase.{Phase}
+use Rattle.card.specs.declared.Phase.the-variants.{Quiet, Trial, Back, Fallen}
+
+-- "changed, rolled back, fallen back; codes in 000"
+abbrev pub codeOf : Kind → ℕ
+codeOf Silent = 0x00
+codeOf Changed = 0x02
+codeOf RolledBack = 0x03
+codeOf FallenBack = 0x05
+
+abbrev pub kindOf : Phase → Kind
+kindOf Quiet = Silent
+kindOf (Trial previous left number) = Changed
+kindOf (Back left number) = RolledBack
+kindOf (Fallen left number) = FallenBack
+
+-- no notification
+abbrev pub silent : Notification
+silent = record { kind = Silent; number = 0; eid = replicate eidSize 0; aid = noAid }
+
+-- the notification of the number last issued
+abbrev pub issued : Card → Notification
+issued c =
+    record {
+      kind = kindOf (c .phase);
+      number = c .last;
+      eid = c .eid;
+      aid = nameOf (at (c .places) (enabledPlace c));
+    }
+
+-- from card c to card d one is handed out exactly where a number was issued
+unfoldable pub noticeOf : Card → Card → Notification
+noticeOf c d = cond (eqb (d .last) (c .last)) silent (issued d)

@@ -1,0 +1,43 @@
+-- Document 01, 'The card': "A sound card keeps the sizes, codings and rules above, ..", clause by clause.
+use Prim.Native.Nat.{ℕ}
+use mathlib.Core.Bool.{Bool, true, _&&_}
+use lib.ListN.{length}
+use lib.Dec.{leb, eqb}
+use Rattle.isdp.specs.Sizes.{mostPlaces, eidSize, mostCapacity, wait, lastNumber}
+use Rattle.isdp.specs.LifeCycle.{disabled, enabled, isEnabled, isFinished}
+use Rattle.isdp.specs.Place.{placeOk}
+use Rattle.places.specs.Places.{at, quotas, allOf, countOf, distinct}
+use Rattle.card.specs.declared.Card.{Card}
+use Rattle.card.specs.declared.Phase.{Phase}
+use Rattle.card.specs.declared.Phase.the-variants.{Quiet, Trial, Back, Fallen}
+
+-- the sizes that every record of the code has by its types: EID 16 bytes, as many places, a number of two bytes
+abbrev pub sized : Card → Bool
+sized c = eqb (length (c .eid)) eidSize && (eqb (length (c .places)) mostPlaces && leb (c .last) lastNumber)
+
+-- "ticks left 1 to 10 in an open phase", which "holds its one outstanding notification number, the last one issued"
+abbrev pub openOk : ℕ → ℕ → ℕ → Bool
+openOk left number last = leb 1 left && (leb left wait && eqb number last)
+
+-- "in Trial a previous profile that is held and DISABLED, and in Fallen the fall-back ENABLED"
+abbrev pub phaseIn : Phase → Card → Bool
+phaseIn Quiet c = true
+phaseIn (Trial previous left number) c =
+    openOk left number (c .last) && eqb (at (c .places) previous .life) disabled
+phaseIn (Back left number) c = openOk left number (c .last)
+phaseIn (Fallen left number) c =
+    openOk left number (c .last) && eqb (at (c .places) (c .fallback) .life) enabled
+
+unfoldable pub phaseOk : Card → Bool
+phaseOk c = phaseIn (c .phase) c
+
+unfoldable pub sound : Card → Bool
+sound c =
+    sized c
+    && (leb 1 (c .capacity)
+    && (leb (c .capacity) mostCapacity
+    && (allOf (placeOk (c .capacity)) (c .places)
+    && (distinct (c .places)
+    && (eqb (countOf isEnabled (c .places)) 1
+    && (isFinished (at (c .places) (c .fallback) .life)
+    && (leb (quotas (c .places)) (c .capacity) && phaseOk c)))))))

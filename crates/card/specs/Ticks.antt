@@ -1,0 +1,29 @@
+-- Document 01, 'Steps': the ticks still to come "equals the count of the tick rule's steps to Quiet from the card handed back".
+use Prim.Native.Nat.{ℕ, zero, suc, _+_}
+use mathlib.Core.Bool.{cond}
+use lib.Dec.{eqb}
+use Rattle.isdp.specs.Sizes.{wait}
+use Rattle.card.specs.Cards.{isQuiet, onFallback}
+use Rattle.card.specs.Clock.{tickOf}
+use Rattle.card.specs.declared.Card.{Card}
+use Rattle.card.specs.declared.Phase.{Phase}
+use Rattle.card.specs.declared.Phase.the-variants.{Quiet, Trial, Back, Fallen}
+
+-- the steps of the tick rule to Quiet, of at most so many
+unfoldable pub stepsIn : ℕ → Card → ℕ
+stepsIn zero c = 0
+stepsIn (suc k) c = cond (isQuiet (c .phase)) 0 (suc (stepsIn k (tickOf c)))
+
+-- 300 is more than any record can ask for, sound or not: 255 ticks left, then two waits
+unfoldable pub ticksToCome : Card → ℕ
+ticksToCome c = stepsIn 300 c
+
+-- the same figure in closed form, for a sound card
+abbrev pub ticksIn : Phase → Card → ℕ
+ticksIn Quiet c = 0
+ticksIn (Trial previous left number) c = left + wait + cond (eqb previous (c .fallback)) 0 wait
+ticksIn (Back left number) c = left + cond (onFallback c) 0 wait
+ticksIn (Fallen left number) c = left
+
+unfoldable pub ticksByPhase : Card → ℕ
+ticksByPhase c = ticksIn (c .phase) c

@@ -1,0 +1,641 @@
+// The card record, its phases and its clock: soundness, fresh, tick, lost, confirmation, and the ticks still to come.
+// Everything goes by value and answers for every record; that a record is sound is asked once, by `is_sound`, in the calls above.
+use isdp::Aid;
+use isdp::Isdp;
+use isdp::aid_ok;
+use isdp::once_disabled;
+use isdp::pad;
+use places::Found;
+use places::PLACES;
+use status::Status;
+ghost use mathlib.Core.Path.{_≡_};
+ghost use mathlib.Core.Bool.{true, not, cond, _&&_};
+ghost use Prim.Native.Nat.{_+_, _*_, _-_, _<_, _≤_};
+ghost use lib.ListN.{length, set};
+ghost use lib.Dec.{leb, ltb, eqb};
+ghost use Rattle.card.specs.Cards.{withPhase, withPlaces, isQuiet, placeOf, enabledPlace, freePlace, freeIn, mayBeDeleted};
+ghost use Rattle.places.specs.Places.{at, foundOf};
+ghost use Rattle.card.specs.Sound.{openOk, phaseOk, sound};
+ghost use Rattle.card.specs.Clock.{nextOf, moved, fallen, tickOf, lostOf, dropped, trialClosed, outstanding};
+ghost use Rattle.card.specs.Ticks.{ticksByPhase};
+ghost use Rattle.card.specs.Notifications.{silent, kindOf, codeOf, issued, noticeOf};
+ghost use Rattle.card.specs.Answers.{handed, refusedAt, answerAt};
+ghost use Rattle.card.specs.Steps.{stepTo, tickStep, lostStep, trialGone, confirmStep};
+ghost use Rattle.status.specs.declared.Status.the-variants.{Unsound};
+ghost use Rattle.card.specs.Fresh.{zeroCard, freshOk, freshCard, freshOutcome};
+
+pub enum Phase {
+    Quiet,
+    Trial {
+        previous: usize,
+        left: u8,
+        number: u16,
+    },
+    Back {
+        left: u8,
+        number: u16,
+    },
+    Fallen {
+        left: u8,
+        number: u16,
+    },
+}
+
+pub struct Card {
+    pub eid: [u8; 16],
+    pub capacity: u32,
+    pub volatile: u32,
+    pub last: u16,
+    pub fallback: usize,
+    pub phase: Phase,
+    pub places: [Isdp; Card::PLACES],
+}
+
+pub enum Kind {
+    Silent,
+    Changed,
+    RolledBack,
+    FallenBack,
+}
+
+// A notification as values; kind Silent with zeros is the one value for 'no notification'.
+pub struct Notification {
+    pub kind: Kind,
+    pub number: u16,
+    pub eid: [u8; 16],
+    pub aid: Aid,
+}
+
+// The card after a step, with what the step handed out: the notification, and the AID it deleted (length 0: none).
+pub struct Step {
+    pub card: Card,
+    pub notification: Notification,
+    pub deleted: Aid,
+}
+
+// What every call answers; `length` counts the response bytes, which stand in the caller's buffer.
+pub struct Answer {
+    pub status: Status,
+    pub card: Card,
+    pub length: usize,
+    pub notification: Notification,
+    pub ticks: u32,
+}
+
+impl Card {
+    pub const PLACES: usize = PLACES;
+
+    pub const WAIT: u8 = 10;
+
+    pub const CAPACITY: u32 = 1048576;
+
+    pub const LAST_NUMBER: u16 = 65535;
+}
+
+impl Phase {
+    // Is no change open?
+    pub fn is_quiet(self) -> bool
+        ensures { λ r. ⌜ r ≡ isQuiet self ⌝ }
+    {
+        match self {
+            Phase::Quiet => true,
+            Phase::Trial { .. } => false,
+            Phase::Back { .. } => false,
+            Phase::Fallen { .. } => false,
+        }
+    }
+
+    // Is it the outstanding number?
+    pub fn is_outstanding(self, n: u16) -> bool
+        ensures { λ r. ⌜ r ≡ outstanding self n ⌝ }
+    {
+        match self {
+            Phase::Quiet => false,
+            Phase::Trial {
+                previous: _,
+                left: _,
+                number,
+            } => n == number,
+            Phase::Back { left: _, number } => n == number,
+            Phase::Fallen { left: _, number } => n == number,
+        }
+    }
+
+    // The kind of the notification that opens the phase.
+    fn kind(self) -> Kind
+        ensures { λ r. ⌜ r ≡ kindOf self ⌝ }
+    {
+        match self {
+            Phase::Quiet => Kind::Silent,
+            Phase::Trial { .. } => Kind::Changed,
+            Phase::Back { .. } => Kind::RolledBack,
+            Phase::Fallen { .. } => Kind::FallenBack,
+        }
+    }
+}
+
+impl Kind {
+    pub fn code(self) -> u8
+        ensures { λ r. ⌜ r ≡ codeOf self ⌝ }
+    {
+        match self {
+            Kind::Silent => 0,
+            Kind::Changed => 2,
+            Kind::RolledBack => 3,
+            Kind::FallenBack => 5,
+        }
+    }
+}
+
+// The number after `n`.
+fn next(n: u16) -> u16
+    ensures { λ r. ⌜ r ≡ nextOf n ⌝ }
+{
+    if n == Card::LAST_NUMBER { 0 } else { n + 1 }
+}
+
+impl Card {
+    // The place that bears an AID.
+    pub fn place_of(self, aid: &[u8]) -> Found
+        ensures { λ r. ⌜ r ≡ foundOf (placeOf self (now (aid .entry))) ⌝ }
+    {
+        let places = self.places;
+        places::find(places, aid)
+    }
+
+    // The enabled place.
+    pub fn enabled(self) -> Found
+        ensures { λ r. ⌜ r ≡ foundOf (enabledPlace self) ⌝ }
+    {
+        let places = self.places;
+        places::enabled(places)
+    }
+
+    // The lowest free place.
+    pub fn free_place(self) -> Found
+        ensures { λ r. ⌜ r ≡ foundOf (freePlace self) ⌝ }
+    {
+        let places = self.places;
+        places::free_place(places)
+    }
+
+    // The memory that no quota holds.
+    pub fn free(self) -> u32
+        ensures { λ r. ⌜ r ≡ freeIn self ⌝ }
+    {
+        let places = self.places;
+        places::free(places, self.capacity)
+    }
+
+    // The profile at a place; one that is not held past the last.
+    pub fn profile(self, i: usize) -> Isdp
+        ensures { λ r. ⌜ r ≡ at (self .places) i ⌝ }
+    {
+        let places = self.places;
+        places::at(places, i)
+    }
+
+    // May the profile at a place be deleted, its policy apart?
+    pub fn may_be_deleted(self, i: usize) -> bool
+        ensures { λ r. ⌜ r ≡ mayBeDeleted self i ⌝ }
+    {
+        let p = self.profile(i);
+        (p.life == Isdp::DISABLED) & (i != self.fallback)
+    }
+
+    pub fn with_phase(self, phase: Phase) -> Card
+        ensures { λ r. ⌜ r ≡ withPhase self phase ⌝ }
+    {
+        let eid = self.eid;
+        let places = self.places;
+        Card {
+            eid,
+            capacity: self.capacity,
+            volatile: self.volatile,
+            last: self.last,
+            fallback: self.fallback,
+            phase,
+            places,
+        }
+    }
+
+    // One place written anew.
+    pub fn with_place(self, i: usize, p: Isdp) -> Card
+        ensures { λ r. ⌜ r ≡ withPlaces self (set (self .places) i p) ⌝ }
+    {
+        let before = self.places;
+        let places = places::put(before, i, p);
+        let mut after = self;
+        after.places = places;
+        after
+    }
+
+    // The place is enabled, the next number is issued, and the phase opens.
+    pub fn moved(self, i: usize, phase: Phase) -> Card
+        ensures { λ r. ⌜ r ≡ moved self i phase ⌝ }
+    {
+        let eid = self.eid;
+        let before = self.places;
+        let places = places::enable_at(before, i);
+        Card {
+            eid,
+            capacity: self.capacity,
+            volatile: self.volatile,
+            last: next(self.last),
+            fallback: self.fallback,
+            phase,
+            places,
+        }
+    }
+}
+
+fn open_ok(left: u8, number: u16, last: u16) -> bool
+    ensures { λ r. ⌜ r ≡ openOk left number last ⌝ }
+{
+    (1 <= left) & ((left <= Card::WAIT) & (number == last))
+}
+
+impl Card {
+    fn phase_ok(self) -> bool
+        ensures { λ r. ⌜ r ≡ phaseOk self ⌝ }
+    {
+        let phase = self.phase;
+        match phase {
+            Phase::Quiet => true,
+            Phase::Trial {
+                previous,
+                left,
+                number,
+            } => {
+                let p = self.profile(previous);
+                open_ok(left, number, self.last) & (p.life == Isdp::DISABLED)
+            }
+            Phase::Back { left, number } => open_ok(left, number, self.last),
+            Phase::Fallen { left, number } => {
+                let p = self.profile(self.fallback);
+                open_ok(left, number, self.last) & (p.life == Isdp::ENABLED)
+            }
+        }
+    }
+
+    pub fn is_sound(self) -> bool
+        ensures { λ r. ⌜ r ≡ sound self ⌝ }
+    {
+        let places = self.places;
+        let p = self.profile(self.fallback);
+        (1 <= self.capacity)
+            & ((self.capacity <= Card::CAPACITY)
+                & (places::all_ok(places, self.capacity)
+                    & (places::all_distinct(places)
+                        & ((places::count_enabled(places) == 1)
+                            & (((p.life == Isdp::DISABLED) | (p.life == Isdp::ENABLED))
+                                & (places::within(places, self.capacity) & self.phase_ok()))))))
+    }
+
+    // The ticks still to come, by the phase; the definitions count them step by step.
+    pub fn ticks_to_come(self) -> u32
+        ensures { λ r. ⌜ r ≡ ticksByPhase self ⌝ }
+    {
+        let phase = self.phase;
+        match phase {
+            Phase::Quiet => 0,
+            Phase::Trial {
+                previous,
+                left,
+                number: _,
+            } => {
+                if previous == self.fallback {
+                    return left as u32 + Card::WAIT as u32;
+                }
+                left as u32 + Card::WAIT as u32 + Card::WAIT as u32
+            }
+            Phase::Back { left, number: _ } => {
+                let p = self.profile(self.fallback);
+                if p.life == Isdp::ENABLED {
+                    return left as u32;
+                }
+                left as u32 + Card::WAIT as u32
+            }
+            Phase::Fallen { left, number: _ } => left as u32,
+        }
+    }
+}
+
+impl Notification {
+    // No notification.
+    pub fn silent() -> Notification
+        ensures { λ r. ⌜ r ≡ silent ⌝ }
+    {
+        let eid = [0u8; 16];
+        let aid = Aid::none();
+        Notification {
+            kind: Kind::Silent,
+            number: 0,
+            eid,
+            aid,
+        }
+    }
+}
+
+impl Card {
+    // The number of the enabled place, of places if there is none.
+    pub fn enabled_place(self) -> usize
+        ensures { λ r. ⌜ r ≡ enabledPlace self ⌝ }
+    {
+        let Found::At(e) = self.enabled() else {
+            return Card::PLACES;
+        };
+        e
+    }
+
+    // The notification of the number last issued.
+    fn issued(self) -> Notification
+        ensures { λ r. ⌜ r ≡ issued self ⌝ }
+    {
+        let phase = self.phase;
+        let eid = self.eid;
+        let kind = phase.kind();
+        let p = self.profile(self.enabled_place());
+        let aid = p.name();
+        Notification {
+            kind,
+            number: self.last,
+            eid,
+            aid,
+        }
+    }
+
+    // A notification where a number was issued.
+    fn noticed(self, after: Card) -> Notification
+        ensures { λ r. ⌜ r ≡ noticeOf self after ⌝ }
+    {
+        if after.last == self.last {
+            return Notification::silent();
+        }
+        after.issued()
+    }
+
+    // The step from this card to another.
+    pub fn step_to(self, after: Card, deleted: Aid) -> Step
+        ensures { λ r. ⌜ r ≡ stepTo self after deleted ⌝ }
+    {
+        let notification = self.noticed(after);
+        Step {
+            card: after,
+            notification,
+            deleted,
+        }
+    }
+
+    // The fall-back is enabled.
+    fn fallen(self) -> Card
+        ensures { λ r. ⌜ r ≡ fallen self ⌝ }
+    {
+        let n = next(self.last);
+        self.moved(
+            self.fallback,
+            Phase::Fallen {
+                left: Card::WAIT,
+                number: n,
+            },
+        )
+    }
+
+    // The card after a tick.
+    fn ticked(self) -> Card
+        ensures { λ r. ⌜ r ≡ tickOf self ⌝ }
+    {
+        let phase = self.phase;
+        match phase {
+            Phase::Quiet => self,
+            Phase::Trial {
+                previous,
+                left,
+                number,
+            } => {
+                if left > 1 {
+                    let fewer = left - 1;
+                    return self.with_phase(Phase::Trial {
+                        previous,
+                        left: fewer,
+                        number,
+                    });
+                }
+                let n = next(self.last);
+                self.moved(
+                    previous,
+                    Phase::Back {
+                        left: Card::WAIT,
+                        number: n,
+                    },
+                )
+            }
+            Phase::Back { left, number } => {
+                if left > 1 {
+                    let fewer = left - 1;
+                    return self.with_phase(Phase::Back {
+                        left: fewer,
+                        number,
+                    });
+                }
+                let p = self.profile(self.fallback);
+                if p.life == Isdp::ENABLED {
+                    return self.with_phase(Phase::Quiet);
+                }
+                self.fallen()
+            }
+            Phase::Fallen { left, number } => {
+                if left > 1 {
+                    let fewer = left - 1;
+                    return self.with_phase(Phase::Fallen {
+                        left: fewer,
+                        number,
+                    });
+                }
+                self.with_phase(Phase::Quiet)
+            }
+        }
+    }
+
+    // The card after the network was lost.
+    fn cut_off(self) -> Card
+        ensures { λ r. ⌜ r ≡ lostOf self ⌝ }
+    {
+        let phase = self.phase;
+        if !phase.is_quiet() {
+            return self;
+        }
+        let p = self.profile(self.fallback);
+        if p.life == Isdp::ENABLED {
+            return self;
+        }
+        self.fallen()
+    }
+
+    // Does the confirmation delete the profile at a place?
+    fn drops(self, i: usize) -> bool
+        ensures { λ r. ⌜ r ≡ dropped self i ⌝ }
+    {
+        let p = self.profile(i);
+        once_disabled(p.policy) & (i != self.fallback)
+    }
+
+    pub fn tick(self) -> Step
+        ensures { λ r. ⌜ r ≡ tickStep self ⌝ }
+    {
+        self.step_to(self.ticked(), Aid::none())
+    }
+
+    pub fn lost(self) -> Step
+        ensures { λ r. ⌜ r ≡ lostStep self ⌝ }
+    {
+        self.step_to(self.cut_off(), Aid::none())
+    }
+
+    // Trial is closed by its confirmation, and the previous profile may go with it.
+    fn trial_confirmed(self, previous: usize) -> Step
+        ensures { λ r. ⌜ r ≡ stepTo self (trialClosed self previous) (trialGone self previous) ⌝ }
+    {
+        let quiet = self.with_phase(Phase::Quiet);
+        if self.drops(previous) {
+            let p = self.profile(previous);
+            let none = Isdp::none();
+            return self.step_to(quiet.with_place(previous, none), p.name());
+        }
+        self.step_to(quiet, Aid::none())
+    }
+
+    // The change is closed by its confirmation.
+    pub fn confirmed(self) -> Step
+        ensures { λ r. ⌜ r ≡ confirmStep self ⌝ }
+    {
+        let phase = self.phase;
+        let quiet = self.with_phase(Phase::Quiet);
+        match phase {
+            Phase::Quiet => self.step_to(quiet, Aid::none()),
+            Phase::Trial {
+                previous,
+                left: _,
+                number: _,
+            } => self.trial_confirmed(previous),
+            Phase::Back { .. } => self.step_to(quiet, Aid::none()),
+            Phase::Fallen { .. } => self.step_to(quiet, Aid::none()),
+        }
+    }
+
+    // A refusal of a card known to be sound: the card as it was, and its ticks.
+    pub fn refused(self, status: Status) -> Answer
+        ensures { λ r. ⌜ r ≡ handed (refusedAt (ticksByPhase self) self status) ⌝ }
+    {
+        let notification = Notification::silent();
+        let ticks = self.ticks_to_come();
+        Answer {
+            status,
+            card: self,
+            length: 0,
+            notification,
+            ticks,
+        }
+    }
+
+    // The refusal of a card that is not sound.
+    pub fn unsound(self) -> Answer
+        ensures { λ r. ⌜ r ≡ handed (refusedAt 0 self Unsound) ⌝ }
+    {
+        let notification = Notification::silent();
+        Answer {
+            status: Status::Unsound,
+            card: self,
+            length: 0,
+            notification,
+            ticks: 0,
+        }
+    }
+}
+
+impl Step {
+    // The answer of an accepted call with so many response bytes.
+    pub fn answer(self, length: usize) -> Answer
+        ensures { λ r. ⌜ r ≡ answerAt (ticksByPhase (self .card)) self length ⌝ }
+    {
+        let card = self.card;
+        let notification = self.notification;
+        let ticks = card.ticks_to_come();
+        Answer {
+            status: Status::Done,
+            card,
+            length,
+            notification,
+            ticks,
+        }
+    }
+}
+
+impl Card {
+    // A record of zeros in Quiet.
+    pub fn zero() -> Card
+        ensures { λ r. ⌜ r ≡ zeroCard ⌝ }
+    {
+        let eid = [0u8; 16];
+        let none = Isdp::none();
+        let places = [none; Card::PLACES];
+        Card {
+            eid,
+            capacity: 0,
+            volatile: 0,
+            last: 0,
+            fallback: 0,
+            phase: Phase::Quiet,
+            places,
+        }
+    }
+
+    // Are the inputs of a fresh card within the sizes?
+    fn fresh_ok(eid: &[u8], aid: &[u8], capacity: u32, quota: u32, used: u32) -> bool
+        ensures { λ r. ⌜ r ≡ freshOk (now (eid .entry)) (now (aid .entry)) capacity quota used ⌝ }
+    {
+        (eid.len() == 16)
+            & (aid_ok(aid)
+                & ((1 <= capacity)
+                    & ((capacity <= Card::CAPACITY)
+                        & ((1 <= quota) & ((quota <= capacity) & (used <= quota))))))
+    }
+
+    // A card with one profile.
+    fn first(eid: &[u8], aid: &[u8], capacity: u32, quota: u32, used: u32, volatile: u32) -> Card
+        requires { ⌜ length (now eid) ≡ 16 ⌝ }
+        ensures { λ r. ⌜ r ≡ freshCard (now (eid .entry)) (now (aid .entry)) capacity quota used volatile ⌝ }
+    {
+        let bytes = pad(eid);
+        let none = Isdp::none();
+        let mut places = [none; Card::PLACES];
+        places[0] = Isdp::made(aid, Isdp::ENABLED, quota, used);
+        Card {
+            eid: bytes,
+            capacity,
+            volatile,
+            last: 0,
+            fallback: 0,
+            phase: Phase::Quiet,
+            places,
+        }
+    }
+
+    pub fn fresh(
+        eid: &[u8],
+        aid: &[u8],
+        capacity: u32,
+        quota: u32,
+        used: u32,
+        volatile: u32,
+    ) -> Answer
+        ensures { λ r. ⌜ r ≡ handed (freshOutcome (now (eid .entry)) (now (aid .entry)) capacity quota used volatile) ⌝ }
+    {
+        let zero = Card::zero();
+        if !Card::fresh_ok(eid, aid, capacity, quota, used) {
+            return zero.refused(Status::DataWrong);
+        }
+        let card = Card::first(eid, aid, capacity, quota, used, volatile);
+        zero.step_to(card, Aid::none()).answer(0)
+    }
+}
