@@ -1,6 +1,7 @@
 -- Document 01, 'Steps': the ticks still to come "equals the count of the tick rule's steps to Quiet from the card handed back".
 use Prim.Native.Nat.{ℕ, zero, suc, _+_}
-use mathlib.Core.Bool.{cond}
+use mathlib.Core.Path.{_≡_}
+use mathlib.Core.Bool.{true, false, cond}
 use lib.Dec.{eqb}
 use Rattle.isdp.specs.Sizes.{wait}
 use Rattle.card.specs.Cards.{isQuiet, onFallback}
@@ -17,6 +18,11 @@ stepsIn (suc k) c = cond (isQuiet (c .phase)) 0 (suc (stepsIn k (tickOf c)))
 -- 300 is more than any record can ask for, sound or not: 255 ticks left, then two waits
 unfoldable pub ticksToCome : Card → ℕ
 ticksToCome c = stepsIn 300 c
+
+-- the same without a bound: the steps counted one by one
+pub data StepsTo : Card → ℕ → Type 0 where
+  quiet : {c : Card} → isQuiet (c .phase) ≡ true → StepsTo c 0
+  ticked : {c : Card} {n : ℕ} → isQuiet (c .phase) ≡ false → StepsTo (tickOf c) n → StepsTo c (suc n)
 
 -- the same figure in closed form, for a sound card
 abbrev pub ticksIn : Phase → Card → ℕ

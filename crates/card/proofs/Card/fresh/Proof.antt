@@ -8,7 +8,7 @@ use Rattle.card.specs.Sound.{sound}
 use Rattle.card.specs.Ticks.{stepsIn, ticksToCome, ticksByPhase}
 use Rattle.card.specs.Answers.{refused, accepted}
 use Rattle.card.specs.Fresh.{freshOutcome}
-use Rattle.card.proofs.Bools.{and-l}
+use Rattle.isdp.proofs.Bools.{and-l}
 use borrow.Author.Needs.{needs}
 use Rattle.card.proofs.Card.fresh.Statement.{statement}
 use Rattle.card.proofs.Card.fresh.Tie as tie

@@ -1,0 +1,180 @@
+-- The parts of a sound card by name, and that tick and lost keep them. Two builders do every step: only the phase is new
+-- (`rephased`), or a place that has a life cycle is enabled and a phase opens (`moves`). Assumes nothing.
+use mathlib.Core.Path.{_≡_, refl, _∙_}
+use Prim.Native.Nat.{ℕ, suc, _+_, _-_, _≤_}
+use native.Mathlib.Omega.{arith}
+use mathlib.Core.Bool.{Bool, true, false, cond, false≢true}
+use lib.ListN.{length}
+use lib.Dec.{ltb, leb, eqb}
+use borrow.Author.Tests.{eq-eqb, ne-eqb, eqb-true, eqb-false, le-leb, leb-true, ltb-true}
+use Rattle.isdp.specs.Sizes.{mostPlaces, eidSize, mostCapacity, wait, lastNumber}
+use Rattle.isdp.specs.LifeCycle.{disabled, enabled, isEnabled, isFinished}
+use Rattle.isdp.specs.Place.{placeOk}
+use Rattle.isdp.proofs.Bools.{and-l, and-r}
+use Rattle.places.specs.Places.{at, quotas, allOf, countOf, distinct}
+use Rattle.places.proofs.Lives.{enable-lives, lives-length, lives-quotas, lives-distinct, enable-one, enable-at, enable-ok, enable-done, within}
+use Rattle.card.specs.Cards.{isQuiet, onFallback, withPhase}
+use Rattle.card.specs.Sound.{sized, openOk, phaseIn, phaseOk, sound}
+use Rattle.card.specs.Clock.{nextOf, moved, fallen, tickIn, tickOf, lostOf}
+use Rattle.card.specs.declared.Card.{Card}
+use Rattle.card.specs.declared.Phase.{Phase}
+use Rattle.card.specs.declared.Phase.the-variants.{Quiet, Trial, Back, Fallen}
+
+-- an open phase's test, by name
+pub record Open (left number last : ℕ) : Type 0 where
+  pub low : 1 ≤ left
+  pub high : left ≤ wait
+  pub issued : number ≡ last
+
+-- the test of a phase, by name
+abbrev pub Phased : Phase → Card → Type 0
+Phased Quiet c = Unit {0}
+Phased (Trial previous left number) c = Open left number (c .last) × (at (c .places) previous .life ≡ disabled)
+Phased (Back left number) c = Open left number (c .last)
+Phased (Fallen left number) c = Open left number (c .last) × (at (c .places) (c .fallback) .life ≡ enabled)
+
+-- the parts of a sound card, by name
+pub record Sound (c : Card) : Type 0 where
+  pub named : length (c .eid) ≡ eidSize
+  pub full : length (c .places) ≡ mostPlaces
+  pub numbered : c .last ≤ lastNumber
+  pub some : 1 ≤ c .capacity
+  pub most : c .capacity ≤ mostCapacity
+  pub each : allOf (placeOk (c .capacity)) (c .places) ≡ true
+  pub apart : distinct (c .places) ≡ true
+  pub one : countOf isEnabled (c .places) ≡ 1
+  pub resort : isFinished (at (c .places) (c .fallback) .life) ≡ true
+  pub room : quotas (c .places) ≤ c .capacity
+  pub phased : Phased (c .phase) c
+
+open-parts : (l n m : ℕ) → openOk l n m ≡ true → Open l n m
+open-parts l n m e =
+    let h = and-r (leb 1 l) _ e in
+    record {
+      low = leb-true 1 l (and-l _ _ e);
+      high = leb-true l wait (and-l _ _ h);
+      issued = eqb-true n m (and-r (leb l wait) _ h);
+    }
+
+open-whole : (l n m : ℕ) → Open l n m → openOk l n m ≡ true
+open-whole l n m o = rw (le-leb 1 l (o .low), le-leb l wait (o .high), eq-eqb n m (o .issued))
+
+phase-parts : (p : Phase) (c : Card) → phaseIn p c ≡ true → Phased p c
+phase-parts Quiet c e = tt
+phase-parts (Trial q l n) c e = (open-parts l n (c .last) (and-l (openOk l n (c .last)) _ e), eqb-true (at (c .places) q .life) disabled (and-r (openOk l n (c .last)) _ e))
+phase-parts (Back l n) c e = open-parts l n (c .last) e
+phase-parts (Fallen l n) c e = (open-parts l n (c .last) (and-l (openOk l n (c .last)) _ e), eqb-true (at (c .places) (c .fallback) .life) enabled (and-r (openOk l n (c .last)) _ e))
+
+phase-whole : (p : Phase) (c : Card) → Phased p c → phaseIn p c ≡ true
+phase-whole Quiet c e = refl
+phase-whole (Trial q l n) c e = rw (open-whole l n (c .last) (e .0), e .1)
+phase-whole (Back l n) c e = open-whole l n (c .last) e
+phase-whole (Fallen l n) c e = rw (open-whole l n (c .last) (e .0), e .1)
+
+pub parts : (c : Card) → sound c ≡ true → Sound c
+unfolding sound phaseOk
+parts c w =
+    let z = and-l (sized c) _ w in
+    let y = and-r (eqb (length (c .eid)) eidSize) _ z in
+    let e = and-r (sized c) _ w in
+    let h1 = and-r (leb 1 (c .capacity)) _ e in
+    let h2 = and-r (leb (c .capacity) mostCapacity) _ h1 in
+    let h3 = and-r (allOf (placeOk (c .capacity)) (c .places)) _ h2 in
+    let h4 = and-r (distinct (c .places)) _ h3 in
+    let h5 = and-r (eqb (countOf isEnabled (c .places)) 1) _ h4 in
+    let h6 = and-r (isFinished (at (c .places) (c .fallback) .life)) _ h5 in
+    record {
+      named = eqb-true (length (c .eid)) eidSize (and-l _ _ z);
+      full = eqb-true (length (c .places)) mostPlaces (and-l _ _ y);
+      numbered = leb-true (c .last) lastNumber (and-r (eqb (length (c .places)) mostPlaces) _ y);
+      some = leb-true 1 (c .capacity) (and-l _ _ e);
+      most = leb-true (c .capacity) mostCapacity (and-l _ _ h1);
+      each = and-l _ _ h2;
+      apart = and-l _ _ h3;
+      one = eqb-true (countOf isEnabled (c .places)) 1 (and-l _ _ h4);
+      resort = and-l _ _ h5;
+      room = leb-true (quotas (c .places)) (c .capacity) (and-l _ _ h6);
+      phased = phase-parts (c .phase) c (and-r (leb (quotas (c .places)) (c .capacity)) _ h6);
+    }
+
+pub whole : (c : Card) → Sound c → sound c ≡ true
+unfolding sound phaseOk
+whole c s =
+    rw (s .named, s .full, le-leb (c .last) lastNumber (s .numbered), le-leb 1 (c .capacity) (s .some), le-leb (c .capacity) mostCapacity (s .most), s .each, s .apart, eq-eqb _ _ (s .one), s .resort, le-leb (quotas (c .places)) (c .capacity) (s .room))
+    (phase-whole (c .phase) c (s .phased))
+
+-- only the phase is new
+pub rephased : (c : Card) (p : Phase) → Sound c → Phased p (withPhase c p) → Sound (withPhase c p)
+rephased c p s h = record { named = s .named; full = s .full; numbered = s .numbered; some = s .some; most = s .most; each = s .each; apart = s .apart; one = s .one; resort = s .resort; room = s .room; phased = h }
+
+next-case : (n : ℕ) (b : Bool) → eqb n lastNumber ≡ b → n ≤ lastNumber → cond b 0 (n + 1) ≤ lastNumber
+next-case n true e h = omega arith
+next-case n false e h = let k : n ≡ lastNumber → ⊥ = eqb-false n lastNumber e in omega arith
+
+pub next-small : (n : ℕ) → n ≤ lastNumber → nextOf n ≤ lastNumber
+next-small n h = next-case n (eqb n lastNumber) refl h
+
+-- a place that has a life cycle is enabled, and a phase opens that asks nothing more than that
+pub moves : (c : Card) (i : ℕ) (p : Phase) → Sound c → (at (c .places) i .life ≡ 0 → ⊥) → Phased p (moved c i p) → Sound (moved c i p)
+moves c i p s n h =
+    let k = within (c .places) i n in
+    let r = enable-lives (c .places) i in
+    record {
+      named = s .named;
+      full = lives-length r ∙ s .full;
+      numbered = next-small (c .last) (s .numbered);
+      some = s .some;
+      most = s .most;
+      each = enable-ok (c .capacity) (c .places) i (ne-eqb _ _ n) (s .each);
+      apart = lives-distinct r ∙ s .apart;
+      one = enable-one (c .places) i k;
+      resort = enable-done (c .places) i (c .fallback) k (s .resort);
+      room = rw (lives-quotas r) (s .room);
+      phased = h;
+    }
+
+-- what a card handed back by `cond` satisfies
+pub choose : (P : Card → Type 0) (b : Bool) (x y : Card) → (b ≡ true → P x) → (b ≡ false → P y) → P (cond b x y)
+choose P true x y f g = f refl
+choose P false x y f g = g refl
+
+fresh : (n : ℕ) → Open wait n n
+fresh n = record { low = omega arith; high = omega arith; issued = refl }
+
+less : (l n m : ℕ) → ltb 1 l ≡ true → Open l n m → Open (l - 1) n m
+less l n m h o = let k = ltb-true 1 l h in record { low = omega arith; high = let u = o .high in omega arith; issued = o .issued }
+
+pub nonzero : (v w : ℕ) → v ≡ suc w → v ≡ 0 → ⊥
+nonzero v w e z = omega arith
+
+pub done-nonzero : (v : ℕ) → isFinished v ≡ true → v ≡ 0 → ⊥
+done-nonzero v d z = false≢true (rw z at d)
+
+-- the fall-back is enabled
+pub falls : (c : Card) → Sound c → Sound (moved c (c .fallback) (Fallen wait (nextOf (c .last))))
+falls c s =
+    let n = done-nonzero (at (c .places) (c .fallback) .life) (s .resort) in
+    moves c (c .fallback) (Fallen wait (nextOf (c .last))) s n
+    (fresh (nextOf (c .last)), enable-at (c .places) (c .fallback) (within (c .places) (c .fallback) n))
+
+tick-case : (c : Card) (p : Phase) → Sound c → Phased p c → Sound (tickIn p c)
+tick-case c Quiet s h = s
+tick-case c (Trial q l n) s h =
+    choose Sound (ltb 1 l) _ _ (λ b. rephased c (Trial q (l - 1) n) s (less l n (c .last) b (h .0), h .1))
+    (λ b. moves c q (Back wait (nextOf (c .last))) s (nonzero _ 30 (h .1)) (fresh (nextOf (c .last))))
+tick-case c (Back l n) s h =
+    choose Sound (ltb 1 l) _ _ (λ b. rephased c (Back (l - 1) n) s (less l n (c .last) b h))
+    (λ b. choose Sound (onFallback c) _ _ (λ e. rephased c Quiet s tt) (λ e. falls c s))
+tick-case c (Fallen l n) s h =
+    choose Sound (ltb 1 l) _ _ (λ b. rephased c (Fallen (l - 1) n) s (less l n (c .last) b (h .0), h .1))
+    (λ b. rephased c Quiet s tt)
+
+pub tick-sound : (c : Card) → sound c ≡ true → sound (tickOf c) ≡ true
+unfolding tickOf
+tick-sound c e = whole (tickIn (c .phase) c) (tick-case c (c .phase) (parts c e) (parts c e .phased))
+
+pub lost-sound : (c : Card) → sound c ≡ true → sound (lostOf c) ≡ true
+unfolding lostOf
+lost-sound c e =
+    let s = parts c e in
+    whole _ (choose Sound (isQuiet (c .phase)) _ _ (λ q. choose Sound (onFallback c) _ _ (λ v. s) (λ v. falls c s)) (λ q. s))

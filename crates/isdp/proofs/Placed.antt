@@ -1,0 +1,107 @@
+-- One place of a sound card by the names of its parts, under another life cycle, and made anew. Assumes nothing.
+use mathlib.Core.Path.{_≡_, refl, sym}
+use Prim.Native.Nat.{ℕ, zero, suc, _-_, _≤_}
+use native.Mathlib.Omega.{arith}
+use mathlib.Core.List.{List, _++_}
+use mathlib.Core.Bool.{Bool, true, false, not, cond, _&&_, false≢true}
+use lib.ListN.{length, drop, take, replicate, length-append, length-replicate}
+use lib.Seq.{drop-append-seam, take-all}
+use lib.Dec.{leb, eqb}
+use borrow.Author.Tests.{eqb-true, ne-eqb, eq-eqb, leb-true}
+use Rattle.isdp.specs.Sizes.{leastAid, mostAid}
+use Rattle.isdp.specs.Aids.{padded}
+use Rattle.isdp.specs.Policy.{policyOk}
+use Rattle.isdp.specs.LifeCycle.{disabled, isEnabled, withLife, off}
+use Rattle.isdp.specs.Place.{none, made, held, zeros, lifeOk, emptyOk, heldOk, placeOk}
+use Rattle.isdp.specs.declared.Isdp.{Isdp}
+use Rattle.isdp.proofs.Bools.{and-l, and-r}
+
+-- the test of a held profile, by name (its life cycle apart)
+pub record Placed (k : ℕ) (p : Isdp) : Type 0 where
+  pub wide : length (p .aid) ≡ mostAid
+  pub there : held p ≡ true
+  pub five : leb leastAid (p .len) ≡ true
+  pub sixteen : leb (p .len) mostAid ≡ true
+  pub some : leb 1 (p .quota) ≡ true
+  pub most : leb (p .quota) k ≡ true
+  pub fits : leb (p .used) (p .quota) ≡ true
+  pub rule : policyOk (p .policy) ≡ true
+  pub ended : zeros (drop (p .len) (p .aid)) ≡ true
+
+held-case : (w h a x r s z : Bool) → a ≡ false → (w && cond h (x && (r && z)) ((a && s) && z)) ≡ true → (w ≡ true) × (h ≡ true) × (r ≡ true) × (z ≡ true)
+held-case true true a x r s z n e = (refl, refl, and-l r z (and-r x (r && z) e), and-r r z (and-r x (r && z) e))
+held-case true false true x r s z n e = absurd (false≢true (sym n))
+held-case true false false x r s z n e = absurd (false≢true e)
+held-case false h a x r s z n e = absurd (false≢true e)
+
+pub placed : (k : ℕ) (p : Isdp) → eqb (p .life) 0 ≡ false → placeOk k p ≡ true → Placed k p
+unfolding placeOk
+placed k p n e =
+    let h = held-case (eqb (length (p .aid)) mostAid) (held p) (eqb (p .life) 0) (lifeOk (p .life)) (heldOk k p) (eqb (p .quota) 0 && (eqb (p .used) 0 && eqb (p .policy) 0)) (zeros (drop (p .len) (p .aid))) n e in
+    let r : heldOk k p ≡ true = h .2 in
+    let r1 = and-r (leb leastAid (p .len)) _ r in
+    let r2 = and-r (leb (p .len) mostAid) _ r1 in
+    let r3 = and-r (leb 1 (p .quota)) _ r2 in
+    let r4 = and-r (leb (p .quota) k) _ r3 in
+    record {
+      wide = eqb-true (length (p .aid)) mostAid (h .0);
+      there = h .1;
+      five = and-l _ _ r;
+      sixteen = and-l _ _ r1;
+      some = and-l _ _ r2;
+      most = and-l _ _ r3;
+      fits = and-l _ _ r4;
+      rule = and-r (leb (p .used) (p .quota)) _ r4;
+      ended = h .3;
+    }
+
+pub placed-ok : (k : ℕ) (p : Isdp) → lifeOk (p .life) ≡ true → Placed k p → placeOk k p ≡ true
+unfolding placeOk
+placed-ok k p l h = rw (h .wide, h .there, l, h .five, h .sixteen, h .some, h .most, h .fits, h .rule, h .ended)
+
+-- the test of one place under another life cycle
+relife-case : (w h a x y r s z : Bool) → a ≡ false → (w && cond h (x && (r && z)) ((a && s) && z)) ≡ true → (w && cond h (true && (r && z)) ((y && s) && z)) ≡ true
+relife-case true true a true y r s z n e = e
+relife-case true true a false y r s z n e = absurd (false≢true e)
+relife-case true false true x y r s z n e = absurd (false≢true (sym n))
+relife-case true false false x y r s z n e = absurd (false≢true e)
+relife-case false h a x y r s z n e = absurd (false≢true e)
+
+pub relife : (k : ℕ) (p : Isdp) (v : ℕ) → eqb (p .life) 0 ≡ false → lifeOk v ≡ true → placeOk k p ≡ true → placeOk k (withLife p v) ≡ true
+unfolding placeOk
+relife k p v n o e =
+    rw o (relife-case (eqb (length (p .aid)) mostAid) (held p) (eqb (p .life) 0) (lifeOk (p .life)) (eqb v 0) (heldOk k p) (eqb (p .quota) 0 && (eqb (p .used) 0 && eqb (p .policy) 0)) (zeros (drop (p .len) (p .aid))) n e)
+
+off-ok-case : (k : ℕ) (p : Isdp) (b : Bool) → isEnabled p ≡ b → placeOk k p ≡ true → placeOk k (withLife p (cond b disabled (p .life))) ≡ true
+off-ok-case k p true e o = relife k p disabled (rw (eqb-true (p .life) _ e)) refl o
+off-ok-case k p false e o = o
+
+pub off-ok : (k : ℕ) (p : Isdp) → placeOk k p ≡ true → placeOk k (off p) ≡ true
+off-ok k p o = off-ok-case k p (isEnabled p) refl o
+
+-- a place not held, and a profile made anew
+pub none-ok : (k : ℕ) → placeOk k none ≡ true
+unfolding placeOk zeros
+none-ok k = refl
+
+zeros-replicate : (n : ℕ) → zeros (replicate n 0) ≡ true
+unfolding zeros
+zeros-replicate zero = refl
+zeros-replicate (suc n) = zeros-replicate n
+
+padding : (aid : List ℕ) → length aid ≤ mostAid → zeros (drop (length aid) (padded aid)) ≡ true
+unfolding padded
+padding aid h =
+    rw (take-all mostAid aid h, drop-append-seam aid (replicate (mostAid - length aid) 0)) (zeros-replicate (mostAid - length aid))
+
+pub padded-length : (aid : List ℕ) → length aid ≤ mostAid → length (padded aid) ≡ mostAid
+unfolding padded
+padded-length aid h =
+    rw (take-all mostAid aid h, length-append aid (replicate (mostAid - length aid) 0), length-replicate {A = ℕ} (mostAid - length aid) 0) (omega arith)
+
+pub made-ok : (k : ℕ) (aid : List ℕ) (life quota used : ℕ) → lifeOk life ≡ true → leb leastAid (length aid) ≡ true → leb (length aid) mostAid ≡ true → leb 1 quota ≡ true → leb quota k ≡ true → leb used quota ≡ true → placeOk k (made aid life quota used) ≡ true
+made-ok k aid life quota used l five sixteen some most fits =
+    let h = leb-true leastAid (length aid) five in
+    let g = leb-true (length aid) mostAid sixteen in
+    placed-ok k (made aid life quota used) l
+    (record { wide = padded-length aid g; there = rw (ne-eqb (length aid) 0 (λ z. omega arith)); five = five; sixteen = sixteen; some = some; most = most; fits = fits; rule = refl; ended = padding aid g })
