@@ -1,4 +1,7 @@
--- Laws that several proofs cite: what the types tell, soundness by parts and kept, the count of ticks.
+-- Laws that several proofs cite: what the types tell, soundness by parts and kept, the count of ticks, what every answer keeps.
 pub mod Records
 pub mod Sounds
 pub mod Counts
+pub mod Rewrites
+pub mod Outcomes
+pub mod Freshness

@@ -60,15 +60,21 @@ accepted s response = acceptedAt (ticksToCome (s .card)) s response
 abbrev pub decide : Card → Status → Outcome → Outcome
 decide c word o = cond (isDone word) o (refused c word)
 
-abbrev pub outcome : Card → List Row → Step → List ℕ → Outcome
-outcome c rows s response = decide c (wordOf rows) (accepted s response)
-
 -- "6F 00: the card is not sound (every call but fresh)"
 abbrev pub soundRow : Card → Row
 soundRow c = row (not (sound c)) Unsound
 
+-- what a call does on a card: its rows of the table after 6F 00, and where none of them refuses its step and its response
+pub record Work : Type 0 where
+  pub rows : List Row
+  pub step : Step
+  pub response : List ℕ
+
+abbrev pub outcome : Card → Work → Outcome
+outcome c w = decide c (wordOf (soundRow c ∷ w .rows)) (accepted (w .step) (w .response))
+
 -- the same for a card known to be sound: the row 6F 00 is not asked, and the ticks are figured by the phase
-abbrev pub known : Card → List Row → Step → List ℕ → Outcome
-known c rows s response =
-    cond (isDone (wordOf rows)) (acceptedAt (ticksByPhase (s .card)) s response)
-    (refusedAt (ticksByPhase c) c (wordOf rows))
+abbrev pub known : Card → Work → Outcome
+known c w =
+    cond (isDone (wordOf (w .rows))) (acceptedAt (ticksByPhase (w .step .card)) (w .step) (w .response))
+    (refusedAt (ticksByPhase c) c (wordOf (w .rows)))

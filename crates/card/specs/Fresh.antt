@@ -5,14 +5,14 @@ use mathlib.Core.List.{List, [], _∷_}
 use mathlib.Core.Bool.{Bool, not, _&&_}
 use lib.ListN.{length, replicate}
 use lib.Dec.{leb, eqb}
-use Rattle.status.specs.Rows.{row}
+use Rattle.status.specs.Rows.{row, wordOf}
 use Rattle.status.specs.declared.Status.the-variants.{DataWrong}
 use Rattle.isdp.specs.Sizes.{mostPlaces, eidSize, mostCapacity}
 use Rattle.isdp.specs.Aids.{aidOk, noAid}
 use Rattle.isdp.specs.LifeCycle.{enabled}
 use Rattle.isdp.specs.Place.{none, made}
 use Rattle.card.specs.Steps.{stepTo}
-use Rattle.card.specs.Answers.{Outcome, outcome}
+use Rattle.card.specs.Answers.{Outcome, accepted, decide}
 use Rattle.card.specs.declared.Card.{Card}
 use Rattle.card.specs.declared.Phase.the-variants.{Quiet}
 
@@ -50,5 +50,5 @@ freshOk eid aid capacity quota used =
 
 unfoldable pub freshOutcome : List ℕ → List ℕ → ℕ → ℕ → ℕ → ℕ → Outcome
 freshOutcome eid aid capacity quota used volatile =
-    outcome zeroCard (row (not (freshOk eid aid capacity quota used)) DataWrong ∷ [])
-    (stepTo zeroCard (freshCard eid aid capacity quota used volatile) noAid) []
+    decide zeroCard (wordOf (row (not (freshOk eid aid capacity quota used)) DataWrong ∷ []))
+    (accepted (stepTo zeroCard (freshCard eid aid capacity quota used volatile) noAid) [])
