@@ -9,8 +9,9 @@ use lib.Dec.{ltb}
 use borrow.Author.Tests.{ltb-true, ltb-false}
 use Rattle.isdp.specs.Sizes.{mostPlaces}
 use Rattle.isdp.specs.LifeCycle.{isEnabled}
-use Rattle.isdp.specs.Place.{none}
+use Rattle.isdp.specs.Place.{none, held, isFor}
 use Rattle.isdp.specs.declared.Isdp.{Isdp}
+use Rattle.isdp.proofs.Bools.{and-l}
 use Rattle.places.specs.Places.{at, seek, foundOf, anyOf, countOf}
 use Rattle.places.specs.declared.Found.{Found}
 use Rattle.places.specs.declared.Found.the-variants.{At, Nothing}
@@ -74,3 +75,18 @@ pub seek-most : (t : Isdp → Bool) (l : List Isdp) → seek t l ≤ length l
 unfolding seek
 seek-most t [] = omega arith
 seek-most t (p ∷ ps) = most-case (t p) (seek t ps) (length ps) (seek-most t ps)
+
+-- the code's search for an AID, and the row "target AID not held"
+pub held-none : (l : List Isdp) (aid : List ℕ) → length l ≡ mostPlaces → foundOf (seek (isFor aid) l) ≡ Nothing → held (at l (seek (isFor aid) l)) ≡ false
+held-none l aid n e =
+    let m = found-miss (seek (isFor aid) l) e in
+    rw (past l (seek (isFor aid) l) (omega arith))
+
+pub bears : (aid : List ℕ) (p : Isdp) → isFor aid p ≡ true → held p ≡ true
+unfolding isFor
+bears aid p e = and-l (held p) _ e
+
+pub held-some : (l : List Isdp) (aid : List ℕ) (t : ℕ) → length l ≡ mostPlaces → foundOf (seek (isFor aid) l) ≡ At t → (seek (isFor aid) l ≡ t) × (held (at l (seek (isFor aid) l)) ≡ true)
+held-some l aid t n e =
+    let m = found-hit (seek (isFor aid) l) t e in
+    (m .0, bears aid (at l (seek (isFor aid) l)) (seek-below (isFor aid) l (let k = m .1 in omega arith)))

@@ -1,9 +1,7 @@
-use borrow.Author.Tests.{eq-eqb, ne-eqb, lt-ltb, le-ltb, not-true, not-false}
+use borrow.Author.Tests.{eq-eqb, ne-eqb}
 use borrow.Author.Needs.{needs}
 use Rattle.card.proofs.next.Statement.{statement}
 use Rattle.card.proofs.next.Tie as tie
-use Rattle.card.proofs.next.Reads as reads
-use Rattle.card.proofs.next.Lts as lts
 
 add-result : tie.Need-add-result
 add-result c = search needs

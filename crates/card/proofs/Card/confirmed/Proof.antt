@@ -4,12 +4,6 @@ use Rattle.card.specs.Steps.{confirmStep}
 use borrow.Author.Needs.{needs}
 use Rattle.card.proofs.Card.confirmed.Statement.{statement}
 use Rattle.card.proofs.Card.confirmed.Tie as tie
-use Rattle.card.proofs.Card.confirmed.Reads as reads
-use Rattle.card.proofs.Card.confirmed.Lts as lts
-use Rattle.card.proofs.Card.step_to.Reads as step-to-reads
-use Rattle.card.proofs.Card.trial_confirmed.Reads as trial-confirmed-reads
-use Rattle.card.proofs.Card.with_phase.Reads as with-phase-reads
-use Rattle.isdp.proofs.Aid.none.Reads as none-reads
 
 with-phase-requires : tie.Need-with-phase-requires
 with-phase-requires c κs = search needs

@@ -1,17 +1,12 @@
-use mathlib.Core.Path.{_≡_, ap, sym, _∙_}
+use mathlib.Core.Path.{ap, sym, _∙_}
 use Rattle.isdp.specs.declared.Isdp.{Isdp}
-use borrow.Author.Tests.{eq-eqb, ne-eqb, lt-ltb, le-ltb, not-true, not-false}
+use borrow.Author.Tests.{eq-eqb, ne-eqb, not-true, not-false}
 use Rattle.places.specs.Places.{at}
 use Rattle.isdp.specs.LifeCycle.{enabled}
 use Rattle.card.specs.Clock.{lostOf}
 use borrow.Author.Needs.{needs}
 use Rattle.card.proofs.Card.cut_off.Statement.{statement}
 use Rattle.card.proofs.Card.cut_off.Tie as tie
-use Rattle.card.proofs.Card.cut_off.Reads as reads
-use Rattle.card.proofs.Card.cut_off.Lts as lts
-use Rattle.card.proofs.Card.fallen.Reads as fallen-reads
-use Rattle.card.proofs.Card.profile.Reads as profile-reads
-use Rattle.card.proofs.Phase.is_quiet.Reads as is-quiet-reads
 
 is-quiet-requires : tie.Need-is-quiet-requires
 is-quiet-requires c κs = search needs

@@ -1,10 +1,6 @@
 use borrow.Author.Needs.{needs}
 use Rattle.card.proofs.Card.drops.Statement.{statement}
 use Rattle.card.proofs.Card.drops.Tie as tie
-use Rattle.card.proofs.Card.drops.Reads as reads
-use Rattle.card.proofs.Card.drops.Lts as lts
-use Rattle.card.proofs.Card.profile.Reads as profile-reads
-use Rattle.isdp.proofs.once_disabled.Reads as once-disabled-reads
 
 profile-requires : tie.Need-profile-requires
 profile-requires c κs = search needs

@@ -1,4 +1,4 @@
-use mathlib.Core.Path.{_≡_, sym, _∙_}
+use mathlib.Core.Path.{sym, _∙_}
 use native.Mathlib.Omega.{arith}
 use Rattle.isdp.specs.LifeCycle.{isEnabled}
 use Rattle.places.specs.Places.{seek}
@@ -7,9 +7,6 @@ use Rattle.card.proofs.Records.{full}
 use borrow.Author.Needs.{needs}
 use Rattle.card.proofs.Card.enabled_place.Statement.{statement}
 use Rattle.card.proofs.Card.enabled_place.Tie as tie
-use Rattle.card.proofs.Card.enabled_place.Reads as reads
-use Rattle.card.proofs.Card.enabled_place.Lts as lts
-use Rattle.card.proofs.Card.enabled.Reads as enabled-reads
 
 enabled-requires : tie.Need-enabled-requires
 enabled-requires c κs = search needs

@@ -1,10 +1,6 @@
 use borrow.Author.Needs.{needs}
 use Rattle.card.proofs.Card.fallen.Statement.{statement}
 use Rattle.card.proofs.Card.fallen.Tie as tie
-use Rattle.card.proofs.Card.fallen.Reads as reads
-use Rattle.card.proofs.Card.fallen.Lts as lts
-use Rattle.card.proofs.Card.moved.Reads as moved-reads
-use Rattle.card.proofs.next.Reads as next-reads
 
 next-requires : tie.Need-next-requires
 next-requires c κs = search needs

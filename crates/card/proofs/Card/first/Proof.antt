@@ -2,11 +2,6 @@ use Rattle.isdp.proofs.Bytes.{pad-whole}
 use borrow.Author.Needs.{needs}
 use Rattle.card.proofs.Card.first.Statement.{statement}
 use Rattle.card.proofs.Card.first.Tie as tie
-use Rattle.card.proofs.Card.first.Reads as reads
-use Rattle.card.proofs.Card.first.Lts as lts
-use Rattle.isdp.proofs.Isdp.made.Reads as made-reads
-use Rattle.isdp.proofs.Isdp.none.Reads as none-reads
-use Rattle.isdp.proofs.pad.Reads as pad-reads
 
 pad-requires : tie.Need-pad-requires
 pad-requires c κs = search needs

@@ -1,7 +1,6 @@
 -- `Card::fresh`: both figures of ticks are 0, since both cards are Quiet.
-use mathlib.Core.Path.{_≡_, refl, sym, _∙_}
+use mathlib.Core.Path.{refl, sym, _∙_}
 use borrow.Author.Tests.{not-true, not-false, eqb-true}
-use lib.Dec.{eqb}
 use lib.ListN.{length}
 use Rattle.status.specs.Rows.{wordOf}
 use Rattle.card.specs.Sound.{sound}
@@ -12,15 +11,6 @@ use Rattle.isdp.proofs.Bools.{and-l}
 use borrow.Author.Needs.{needs}
 use Rattle.card.proofs.Card.fresh.Statement.{statement}
 use Rattle.card.proofs.Card.fresh.Tie as tie
-use Rattle.card.proofs.Card.fresh.Reads as reads
-use Rattle.card.proofs.Card.fresh.Lts as lts
-use Rattle.card.proofs.Card.first.Reads as first-reads
-use Rattle.card.proofs.Card.fresh_ok.Reads as fresh-ok-reads
-use Rattle.card.proofs.Card.refused.Reads as refused-reads
-use Rattle.card.proofs.Card.step_to.Reads as step-to-reads
-use Rattle.card.proofs.Card.zero.Reads as zero-reads
-use Rattle.card.proofs.Step.answer.Reads as answer-reads
-use Rattle.isdp.proofs.Aid.none.Reads as none-reads
 
 zero-requires : tie.Need-zero-requires
 zero-requires c κs = search needs

@@ -1,9 +1,6 @@
 use borrow.Author.Needs.{needs}
 use Rattle.card.proofs.Card.fresh_ok.Statement.{statement}
 use Rattle.card.proofs.Card.fresh_ok.Tie as tie
-use Rattle.card.proofs.Card.fresh_ok.Reads as reads
-use Rattle.card.proofs.Card.fresh_ok.Lts as lts
-use Rattle.isdp.proofs.aid_ok.Reads as aid-ok-reads
 
 aid-ok-requires : tie.Need-aid-ok-requires
 aid-ok-requires c κs = search needs

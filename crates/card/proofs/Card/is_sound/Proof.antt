@@ -5,14 +5,6 @@ use Rattle.card.proofs.Records.{full, named, numbered}
 use borrow.Author.Needs.{needs}
 use Rattle.card.proofs.Card.is_sound.Statement.{statement}
 use Rattle.card.proofs.Card.is_sound.Tie as tie
-use Rattle.card.proofs.Card.is_sound.Reads as reads
-use Rattle.card.proofs.Card.is_sound.Lts as lts
-use Rattle.card.proofs.Card.phase_ok.Reads as phase-ok-reads
-use Rattle.card.proofs.Card.profile.Reads as profile-reads
-use Rattle.places.proofs.all_distinct.Reads as all-distinct-reads
-use Rattle.places.proofs.all_ok.Reads as all-ok-reads
-use Rattle.places.proofs.count_enabled.Reads as count-enabled-reads
-use Rattle.places.proofs.within.Reads as within-reads
 
 profile-requires : tie.Need-profile-requires
 profile-requires c κs = search needs

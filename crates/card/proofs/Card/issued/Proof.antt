@@ -1,12 +1,6 @@
 use borrow.Author.Needs.{needs}
 use Rattle.card.proofs.Card.issued.Statement.{statement}
 use Rattle.card.proofs.Card.issued.Tie as tie
-use Rattle.card.proofs.Card.issued.Reads as reads
-use Rattle.card.proofs.Card.issued.Lts as lts
-use Rattle.card.proofs.Card.enabled_place.Reads as enabled-place-reads
-use Rattle.card.proofs.Card.profile.Reads as profile-reads
-use Rattle.card.proofs.Phase.kind.Reads as kind-reads
-use Rattle.isdp.proofs.Isdp.name.Reads as name-reads
 
 kind-requires : tie.Need-kind-requires
 kind-requires c κs = search needs

@@ -2,11 +2,6 @@ use Rattle.card.specs.Steps.{lostStep}
 use borrow.Author.Needs.{needs}
 use Rattle.card.proofs.Card.lost.Statement.{statement}
 use Rattle.card.proofs.Card.lost.Tie as tie
-use Rattle.card.proofs.Card.lost.Reads as reads
-use Rattle.card.proofs.Card.lost.Lts as lts
-use Rattle.card.proofs.Card.cut_off.Reads as cut-off-reads
-use Rattle.card.proofs.Card.step_to.Reads as step-to-reads
-use Rattle.isdp.proofs.Aid.none.Reads as none-reads
 
 cut-off-requires : tie.Need-cut-off-requires
 cut-off-requires c κs = search needs

@@ -1,9 +1,6 @@
 use borrow.Author.Needs.{needs}
 use Rattle.card.proofs.Card.may_be_deleted.Statement.{statement}
 use Rattle.card.proofs.Card.may_be_deleted.Tie as tie
-use Rattle.card.proofs.Card.may_be_deleted.Reads as reads
-use Rattle.card.proofs.Card.may_be_deleted.Lts as lts
-use Rattle.card.proofs.Card.profile.Reads as profile-reads
 
 profile-requires : tie.Need-profile-requires
 profile-requires c κs = search needs

@@ -1,12 +1,8 @@
-use borrow.Author.Tests.{eq-eqb, ne-eqb, lt-ltb, le-ltb, not-true, not-false}
+use borrow.Author.Tests.{eq-eqb, ne-eqb}
 use Rattle.card.specs.Notifications.{noticeOf}
 use borrow.Author.Needs.{needs}
 use Rattle.card.proofs.Card.noticed.Statement.{statement}
 use Rattle.card.proofs.Card.noticed.Tie as tie
-use Rattle.card.proofs.Card.noticed.Reads as reads
-use Rattle.card.proofs.Card.noticed.Lts as lts
-use Rattle.card.proofs.Card.issued.Reads as issued-reads
-use Rattle.card.proofs.Notification.silent.Reads as silent-reads
 
 silent-requires : tie.Need-silent-requires
 silent-requires c κs = search needs

@@ -2,10 +2,6 @@ use Rattle.card.specs.Sound.{phaseOk}
 use borrow.Author.Needs.{needs}
 use Rattle.card.proofs.Card.phase_ok.Statement.{statement}
 use Rattle.card.proofs.Card.phase_ok.Tie as tie
-use Rattle.card.proofs.Card.phase_ok.Reads as reads
-use Rattle.card.proofs.Card.phase_ok.Lts as lts
-use Rattle.card.proofs.Card.profile.Reads as profile-reads
-use Rattle.card.proofs.open_ok.Reads as open-ok-reads
 
 enum-told : tie.Need-enum-told
 enum-told c = search needs

@@ -1,10 +1,6 @@
 use borrow.Author.Needs.{needs}
 use Rattle.card.proofs.Card.refused.Statement.{statement}
 use Rattle.card.proofs.Card.refused.Tie as tie
-use Rattle.card.proofs.Card.refused.Reads as reads
-use Rattle.card.proofs.Card.refused.Lts as lts
-use Rattle.card.proofs.Card.ticks_to_come.Reads as ticks-to-come-reads
-use Rattle.card.proofs.Notification.silent.Reads as silent-reads
 
 silent-requires : tie.Need-silent-requires
 silent-requires c κs = search needs

@@ -1,9 +1,6 @@
 use borrow.Author.Needs.{needs}
 use Rattle.card.proofs.Card.step_to.Statement.{statement}
 use Rattle.card.proofs.Card.step_to.Tie as tie
-use Rattle.card.proofs.Card.step_to.Reads as reads
-use Rattle.card.proofs.Card.step_to.Lts as lts
-use Rattle.card.proofs.Card.noticed.Reads as noticed-reads
 
 noticed-requires : tie.Need-noticed-requires
 noticed-requires c κs = search needs

@@ -2,11 +2,6 @@ use Rattle.card.specs.Steps.{tickStep}
 use borrow.Author.Needs.{needs}
 use Rattle.card.proofs.Card.tick.Statement.{statement}
 use Rattle.card.proofs.Card.tick.Tie as tie
-use Rattle.card.proofs.Card.tick.Reads as reads
-use Rattle.card.proofs.Card.tick.Lts as lts
-use Rattle.card.proofs.Card.step_to.Reads as step-to-reads
-use Rattle.card.proofs.Card.ticked.Reads as ticked-reads
-use Rattle.isdp.proofs.Aid.none.Reads as none-reads
 
 ticked-requires : tie.Need-ticked-requires
 ticked-requires c κs = search needs

@@ -1,5 +1,5 @@
 -- `Card::ticked`: each exit names the arm of the tick rule that leads there.
-use mathlib.Core.Path.{_≡_, ap, sym, _∙_}
+use mathlib.Core.Path.{ap, sym, _∙_}
 use borrow.Author.Tests.{eq-eqb, ne-eqb, lt-ltb, le-ltb}
 use Rattle.isdp.specs.declared.Isdp.{Isdp}
 use Rattle.isdp.specs.LifeCycle.{enabled}
@@ -8,13 +8,6 @@ use Rattle.card.specs.Clock.{tickOf}
 use borrow.Author.Needs.{needs}
 use Rattle.card.proofs.Card.ticked.Statement.{statement}
 use Rattle.card.proofs.Card.ticked.Tie as tie
-use Rattle.card.proofs.Card.ticked.Reads as reads
-use Rattle.card.proofs.Card.ticked.Lts as lts
-use Rattle.card.proofs.Card.fallen.Reads as fallen-reads
-use Rattle.card.proofs.Card.moved.Reads as moved-reads
-use Rattle.card.proofs.Card.profile.Reads as profile-reads
-use Rattle.card.proofs.Card.with_phase.Reads as with-phase-reads
-use Rattle.card.proofs.next.Reads as next-reads
 
 enum-told : tie.Need-enum-told
 enum-told c = search needs

@@ -1,8 +1,7 @@
 -- `Card::ticks_to_come`: each exit is one case of the closed form.
-use mathlib.Core.Path.{_≡_, ap, sym, _∙_}
-use Prim.Native.Nat.{_+_}
+use mathlib.Core.Path.{ap, sym, _∙_}
 use native.Mathlib.Omega.{arith}
-use borrow.Author.Tests.{eq-eqb, ne-eqb, lt-ltb, le-ltb}
+use borrow.Author.Tests.{eq-eqb, ne-eqb}
 use Rattle.isdp.specs.declared.Isdp.{Isdp}
 use Rattle.card.specs.Ticks.{ticksByPhase}
 use Rattle.isdp.specs.LifeCycle.{enabled}
@@ -10,9 +9,6 @@ use Rattle.places.specs.Places.{at}
 use borrow.Author.Needs.{needs}
 use Rattle.card.proofs.Card.ticks_to_come.Statement.{statement}
 use Rattle.card.proofs.Card.ticks_to_come.Tie as tie
-use Rattle.card.proofs.Card.ticks_to_come.Reads as reads
-use Rattle.card.proofs.Card.ticks_to_come.Lts as lts
-use Rattle.card.proofs.Card.profile.Reads as profile-reads
 
 enum-told : tie.Need-enum-told
 enum-told c = search needs

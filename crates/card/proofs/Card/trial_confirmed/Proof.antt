@@ -2,16 +2,6 @@ use mathlib.Core.Path.{sym, _∙_}
 use borrow.Author.Needs.{needs}
 use Rattle.card.proofs.Card.trial_confirmed.Statement.{statement}
 use Rattle.card.proofs.Card.trial_confirmed.Tie as tie
-use Rattle.card.proofs.Card.trial_confirmed.Reads as reads
-use Rattle.card.proofs.Card.trial_confirmed.Lts as lts
-use Rattle.card.proofs.Card.drops.Reads as drops-reads
-use Rattle.card.proofs.Card.profile.Reads as profile-reads
-use Rattle.card.proofs.Card.step_to.Reads as step-to-reads
-use Rattle.card.proofs.Card.with_phase.Reads as with-phase-reads
-use Rattle.card.proofs.Card.with_place.Reads as with-place-reads
-use Rattle.isdp.proofs.Aid.none.Reads as Aid-none-reads
-use Rattle.isdp.proofs.Isdp.name.Reads as name-reads
-use Rattle.isdp.proofs.Isdp.none.Reads as Isdp-none-reads
 
 with-phase-requires : tie.Need-with-phase-requires
 with-phase-requires c κs = search needs

@@ -1,9 +1,6 @@
 use borrow.Author.Needs.{needs}
 use Rattle.card.proofs.Card.unsound.Statement.{statement}
 use Rattle.card.proofs.Card.unsound.Tie as tie
-use Rattle.card.proofs.Card.unsound.Reads as reads
-use Rattle.card.proofs.Card.unsound.Lts as lts
-use Rattle.card.proofs.Notification.silent.Reads as silent-reads
 
 silent-requires : tie.Need-silent-requires
 silent-requires c κs = search needs

@@ -1,9 +1,6 @@
 use borrow.Author.Needs.{needs}
 use Rattle.card.proofs.Card.with_place.Statement.{statement}
 use Rattle.card.proofs.Card.with_place.Tie as tie
-use Rattle.card.proofs.Card.with_place.Reads as reads
-use Rattle.card.proofs.Card.with_place.Lts as lts
-use Rattle.places.proofs.put.Reads as put-reads
 
 put-requires : tie.Need-put-requires
 put-requires c κs = search needs

@@ -1,9 +1,6 @@
 use borrow.Author.Needs.{needs}
 use Rattle.card.proofs.Card.zero.Statement.{statement}
 use Rattle.card.proofs.Card.zero.Tie as tie
-use Rattle.card.proofs.Card.zero.Reads as reads
-use Rattle.card.proofs.Card.zero.Lts as lts
-use Rattle.isdp.proofs.Isdp.none.Reads as none-reads
 
 none-requires : tie.Need-none-requires
 none-requires c κs = search needs

@@ -1,9 +1,6 @@
 use borrow.Author.Needs.{needs}
 use Rattle.card.proofs.Notification.silent.Statement.{statement}
 use Rattle.card.proofs.Notification.silent.Tie as tie
-use Rattle.card.proofs.Notification.silent.Reads as reads
-use Rattle.card.proofs.Notification.silent.Lts as lts
-use Rattle.isdp.proofs.Aid.none.Reads as none-reads
 
 none-requires : tie.Need-none-requires
 none-requires c κs = search needs

@@ -1,8 +1,6 @@
 use borrow.Author.Needs.{needs}
 use Rattle.card.proofs.Phase.is_outstanding.Statement.{statement}
 use Rattle.card.proofs.Phase.is_outstanding.Tie as tie
-use Rattle.card.proofs.Phase.is_outstanding.Reads as reads
-use Rattle.card.proofs.Phase.is_outstanding.Lts as lts
 
 enum-told : tie.Need-enum-told
 enum-told c = search needs

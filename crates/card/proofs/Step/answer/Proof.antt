@@ -1,9 +1,6 @@
 use borrow.Author.Needs.{needs}
 use Rattle.card.proofs.Step.answer.Statement.{statement}
 use Rattle.card.proofs.Step.answer.Tie as tie
-use Rattle.card.proofs.Step.answer.Reads as reads
-use Rattle.card.proofs.Step.answer.Lts as lts
-use Rattle.card.proofs.Card.ticks_to_come.Reads as ticks-to-come-reads
 
 ticks-to-come-requires : tie.Need-ticks-to-come-requires
 ticks-to-come-requires c κs = search needs

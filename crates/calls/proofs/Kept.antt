@@ -1,0 +1,100 @@
+-- Each call keeps a sound card sound. Keyed, stored and finished write a profile under way anew, with the same AID and quota;
+-- the rows that were passed give its state. Assumes nothing.
+use mathlib.Core.Path.{_≡_, refl, sym, _∙_}
+use Prim.Native.Nat.{ℕ, _+_}
+use mathlib.Core.List.{List}
+use mathlib.Core.Bool.{true, false}
+use lib.ListN.{set}
+use lib.Dec.{leb, eqb}
+use borrow.Author.Tests.{eqb-true, eqb-false, ne-eqb, not-false}
+use Rattle.status.specs.StatusWords.{isDone}
+use Rattle.status.specs.Rows.{wordOf}
+use Rattle.status.proofs.Tables.{passed}
+use Rattle.isdp.specs.Aids.{aidOk}
+use Rattle.isdp.specs.Policy.{policyOk}
+use Rattle.isdp.specs.LifeCycle.{selectable, personalized, isEnabled, isFinished, withLife, withUsed, finish}
+use Rattle.isdp.specs.Place.{lifeOk, placeOk}
+use Rattle.isdp.specs.declared.Isdp.{Isdp}
+use Rattle.isdp.proofs.Bools.{and-l, and-r}
+use Rattle.isdp.proofs.Placed.{Placed, placed, placed-ok, relife}
+use Rattle.places.specs.Places.{at}
+use Rattle.places.proofs.Lives.{within}
+use Rattle.places.proofs.Sets.{all-at}
+use Rattle.card.specs.Cards.{placeOf, profileOf, withPlaces}
+use Rattle.card.specs.Sound.{sound}
+use Rattle.card.specs.Steps.{tickStep, lostStep}
+use Rattle.card.specs.declared.Card.{Card}
+use Rattle.card.proofs.Sounds.{Sound, parts, whole, tick-sound, lost-sound}
+use Rattle.card.proofs.Rewrites.{rewrites}
+use Rattle.calls.specs.Calls.{tickWork, lostWork, keyedWork, storedWork, finishedWork}
+
+pub tick-kept : (c : Card) → sound c ≡ true → isDone (wordOf (tickWork c .rows)) ≡ true → sound (tickWork c .step .card) ≡ true
+unfolding tickStep
+tick-kept c s e = tick-sound c s
+
+pub lost-kept : (c : Card) → sound c ≡ true → isDone (wordOf (lostWork c .rows)) ≡ true → sound (lostWork c .step .card) ≡ true
+unfolding lostStep
+lost-kept c s e = lost-sound c s
+
+-- a held profile of a sound card, and what the three calls make of it
+module _ (c : Card) (i v : ℕ) (s : Sound c) (e : at (c .places) i .life ≡ v) (n : eqb v 0 ≡ false) where
+  abbrev p : Isdp
+  p = at (c .places) i
+
+  there : p .life ≡ 0 → ⊥
+  there z = eqb-false v 0 n (sym e ∙ z)
+
+  ok : placeOk (c .capacity) p ≡ true
+  ok = all-at (placeOk (c .capacity)) (c .places) i (within (c .places) i there) (s .each)
+
+  pub parted : Placed (c .capacity) p
+  parted = placed (c .capacity) p (ne-eqb _ _ there) ok
+
+  lively : (w : ℕ) → lifeOk w ≡ true → placeOk (c .capacity) (withLife p w) ≡ true
+  lively w l = relife (c .capacity) p w (ne-eqb _ _ there) l ok
+
+  fuller : (u : ℕ) → lifeOk v ≡ true → leb u (p .quota) ≡ true → placeOk (c .capacity) (withUsed p u) ≡ true
+  fuller u q l =
+      let k = parted in
+      placed-ok (c .capacity) (withUsed p u) (rw e q)
+      (record { wide = k .wide; there = k .there; five = k .five; sixteen = k .sixteen; some = k .some; most = k .most; fits = l; rule = k .rule; ended = k .ended })
+
+  finisher : (b : ℕ) → policyOk b ≡ true → placeOk (c .capacity) (finish p b) ≡ true
+  finisher b l =
+      let k = parted in
+      placed-ok (c .capacity) (finish p b) refl
+      (record { wide = k .wide; there = k .there; five = k .five; sixteen = k .sixteen; some = k .some; most = k .most; fits = k .fits; rule = l; ended = k .ended })
+
+keyed-at : (c : Card) (i : ℕ) → Sound c → at (c .places) i .life ≡ selectable → Sound (withPlaces c (set (c .places) i (withLife (at (c .places) i) personalized)))
+keyed-at c i s e =
+    let d : isFinished (at (c .places) i .life) ≡ false = rw e in
+    rewrites c i (withLife (at (c .places) i) personalized) s (there c i selectable s e refl) d refl (lively c i selectable s e refl personalized refl) refl refl refl
+
+stored-at : (c : Card) (i u : ℕ) → Sound c → at (c .places) i .life ≡ personalized → leb u (at (c .places) i .quota) ≡ true → Sound (withPlaces c (set (c .places) i (withUsed (at (c .places) i) u)))
+stored-at c i u s e l =
+    let d : isFinished (at (c .places) i .life) ≡ false = rw e in
+    let w : isEnabled (withUsed (at (c .places) i) u) ≡ false = rw e in
+    rewrites c i (withUsed (at (c .places) i) u) s (there c i personalized s e refl) d w (fuller c i personalized s e refl u refl l) refl refl refl
+
+finished-at : (c : Card) (i b : ℕ) → Sound c → at (c .places) i .life ≡ personalized → policyOk b ≡ true → Sound (withPlaces c (set (c .places) i (finish (at (c .places) i) b)))
+finished-at c i b s e l =
+    let d : isFinished (at (c .places) i .life) ≡ false = rw e in
+    rewrites c i (finish (at (c .places) i) b) s (there c i personalized s e refl) d refl (finisher c i personalized s e refl b l) refl refl refl
+
+-- the same from the rows of the table
+pub keyed-kept : (c : Card) (aid : List ℕ) → sound c ≡ true → isDone (wordOf (keyedWork c aid .rows)) ≡ true → sound (keyedWork c aid .step .card) ≡ true
+keyed-kept c aid s e =
+    let p = passed (keyedWork c aid .rows) refl e in
+    whole _ (keyed-at c (placeOf c aid) (parts c s) (eqb-true _ _ (not-false _ (p .1 .1 .0))))
+
+pub stored-kept : (c : Card) (aid : List ℕ) (n : ℕ) → sound c ≡ true → isDone (wordOf (storedWork c aid n .rows)) ≡ true → sound (storedWork c aid n .step .card) ≡ true
+stored-kept c aid n s e =
+    let p = passed (storedWork c aid n .rows) refl e in
+    whole _ (stored-at c (placeOf c aid) (profileOf c aid .used + n) (parts c s) (eqb-true _ _ (not-false _ (p .1 .1 .0))) (not-false _ (p .1 .1 .1 .0)))
+
+pub finished-kept : (c : Card) (aid : List ℕ) (policy : ℕ) → sound c ≡ true → isDone (wordOf (finishedWork c aid policy .rows)) ≡ true → sound (finishedWork c aid policy .step .card) ≡ true
+finished-kept c aid policy s e =
+    let p = passed (finishedWork c aid policy .rows) refl e in
+    whole _ (finished-at c (placeOf c aid) policy (parts c s)
+    (eqb-true _ _ (and-l (eqb (profileOf c aid .life) personalized) _ (not-false _ (p .1 .1 .0))))
+    (and-r (aidOk aid) _ (not-false _ (p .0))))

@@ -1,0 +1,2 @@
+-- Document 01, 'Steps': the calls that are no commands, with their rows of the table in its order.
+pub mod Calls
