@@ -1,0 +1,2 @@
+-- Document 01, 'Reading a command'.
+pub mod Framing
