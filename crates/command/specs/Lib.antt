@@ -1,2 +1,3 @@
 -- Document 01, 'Reading a command'.
 pub mod Framing
+pub mod Frame

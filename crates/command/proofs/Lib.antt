@@ -1,0 +1,2 @@
+-- Laws about reading a command.
+pub mod Frames
