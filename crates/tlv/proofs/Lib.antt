@@ -1,0 +1,4 @@
+-- The laws of what is read.
+pub mod Branches
+pub mod Inside
+pub mod Counts
