@@ -1,14 +1,14 @@
 -- Framing, both ways: a framed command has the right shape and its data field stands at 5 up to dataEnd; a command of the right
 -- shape that is not GET DATA is framed. By the length of the string, and the byte after the data field where there is one.
-use Prim.Native.Nat.{ℕ, zero, suc, _+_, _-_, _≤_, _<_}
-use mathlib.Core.Path.{_≡_, refl, sym, ap, _∙_}
+use Prim.Native.Nat.{ℕ, suc, _+_, _≤_}
+use mathlib.Core.Path.{_≡_, refl}
 use mathlib.Core.List.{List, [], _∷_, _++_}
 use mathlib.Core.Bool.{Bool, true, false, not, _&&_, _||_, false≢true}
 use native.Mathlib.Omega.{arith}
 use lib.ListN.{length, getD, take, drop, length-append, take-append-drop, drop-of-length-le}
-use lib.Seq.{getD-append-seam, take-append-seam, length-take-le, drop-cons}
+use lib.Seq.{getD-append-seam, length-take-le, drop-cons}
 use lib.Dec.{eqb}
-use borrow.Author.Tests.{eq-eqb, ne-eqb, eqb-true, eqb-false}
+use borrow.Author.Tests.{eq-eqb, ne-eqb, eqb-true}
 use Rattle.command.specs.Framing.{byte, shapeRight, isFilled, dataEnd}
 use Rattle.command.specs.Frame.{le, framed, dataField, hasLe}
 

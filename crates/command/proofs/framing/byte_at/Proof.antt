@@ -4,18 +4,13 @@ use denote.Ref.{now}
 use lib.ListN.{List·getD-eq-default}
 use Rattle.command.proofs.framing.byte_at.Statement.{statement}
 use Rattle.command.proofs.framing.byte_at.Tie as tie
-use Rattle.command.proofs.framing.byte_at.Reads as reads
-use Rattle.command.proofs.framing.byte_at.Lts as lts
 
--- src/framing.rt:16:16
 shared-slice-read-result : tie.Need-shared-slice-read-result
 shared-slice-read-result c = search needs
 
--- src/framing.rt:16:9
 returns : tie.Need-returns
 returns c = search needs
 
--- src/framing.rt:12:1
 returns-2 : tie.Need-returns-2
 returns-2 c = sym (List·getD-eq-default (now (c .before .args .bytes)) 0 (c .if1 .left))
 

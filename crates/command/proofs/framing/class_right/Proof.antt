@@ -2,10 +2,7 @@ use mathlib.Core.Path.{refl}
 use Rattle.command.specs.Framing.{classRight}
 use Rattle.command.proofs.framing.class_right.Statement.{statement}
 use Rattle.command.proofs.framing.class_right.Tie as tie
-use Rattle.command.proofs.framing.class_right.Reads as reads
-use Rattle.command.proofs.framing.class_right.Lts as lts
 
--- src/framing.rt:28:1
 returns : tie.Need-returns
 unfolding classRight
 returns c = refl

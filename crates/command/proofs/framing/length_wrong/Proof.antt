@@ -2,10 +2,7 @@ use mathlib.Core.Path.{refl}
 use Rattle.command.specs.Framing.{lengthWrong}
 use Rattle.command.proofs.framing.length_wrong.Statement.{statement}
 use Rattle.command.proofs.framing.length_wrong.Tie as tie
-use Rattle.command.proofs.framing.length_wrong.Reads as reads
-use Rattle.command.proofs.framing.length_wrong.Lts as lts
 
--- src/framing.rt:21:1
 returns : tie.Need-returns
 unfolding lengthWrong
 returns c = refl

@@ -3,32 +3,22 @@ use mathlib.Core.Path.{refl}
 use Rattle.command.specs.Framing.{shapeWrong, shapeRight}
 use Rattle.command.proofs.framing.shape_wrong.Statement.{statement}
 use Rattle.command.proofs.framing.shape_wrong.Tie as tie
-use Rattle.command.proofs.framing.shape_wrong.Reads as reads
-use Rattle.command.proofs.framing.shape_wrong.Lts as lts
-use Rattle.command.proofs.framing.byte_at.Reads as byte-at-reads
-use Rattle.command.proofs.framing.data_end.Reads as data-end-reads
 
--- src/framing.rt:86:9
 byte-at-requires : tie.Need-byte-at-requires
 byte-at-requires c κs = search needs
 
--- src/framing.rt:87:9
 data-end-requires : tie.Need-data-end-requires
 data-end-requires c κs = search needs
 
--- src/framing.rt:88:9
 byte-at-requires-2 : tie.Need-byte-at-requires-2
 byte-at-requires-2 c κs = search needs
 
--- src/framing.rt:89:16
 add-next : tie.Need-add-next
 add-next c = search needs
 
--- src/framing.rt:92:20
 byte-at-requires-3 : tie.Need-byte-at-requires-3
 byte-at-requires-3 c κs = search needs
 
--- src/framing.rt:82:1
 returns : tie.Need-returns
 unfolding shapeWrong shapeRight
 returns c = rw (c .byte-at3 .ensures) (rw (c .before .byte-at2 .ensures) (rw (c .before .before .data-end .ensures) (rw (c .before .before .before .byte-at .ensures) refl)))

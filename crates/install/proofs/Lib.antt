@@ -1,0 +1,3 @@
+-- Laws about create's data field.
+pub mod Inside
+pub mod Listing

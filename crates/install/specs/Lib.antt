@@ -1,0 +1,3 @@
+-- Document 01, 'Reading a command', 'Create'.
+pub mod Parameters
+pub mod Install
