@@ -158,7 +158,7 @@ pub fn expect(s: &[u8], at: usize, end: usize, tag: u16, low: usize, high: usize
     Element::Found { start, stop }
 }
 
-pub enum ElementRead {
+enum ElementRead {
     Next(usize),
     Wrong,
 }
