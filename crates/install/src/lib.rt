@@ -2,6 +2,7 @@
 // Every function reads a window of the whole command, from `at` up to `end`; one that does not lie in it is wrong.
 use tlv::Element;
 use tlv::LengthRead;
+use tlv::Part;
 use tlv::expect;
 use tlv::read_length;
 ghost use mathlib.Core.Path.{_≡_};
@@ -184,11 +185,6 @@ fn read_rights(s: &[u8], at: usize, end: usize) -> Element
         start: from,
         stop: to,
     }
-}
-
-pub struct Part {
-    pub start: usize,
-    pub len: usize,
 }
 
 pub enum Installation {

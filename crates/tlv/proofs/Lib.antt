@@ -2,3 +2,5 @@
 pub mod Branches
 pub mod Inside
 pub mod Counts
+pub mod Fills
+pub mod Examples

@@ -2,3 +2,4 @@
 pub mod When
 pub mod Tlv
 pub mod Lists
+pub mod Filled

@@ -127,6 +127,12 @@ pub fn read_head(s: &[u8], at: usize, end: usize) -> HeadRead
     }
 }
 
+// A value handed on: the place of its first byte in the slice read, and how many bytes it has.
+pub struct Part {
+    pub start: usize,
+    pub len: usize,
+}
+
 pub enum Element {
     Found { start: usize, stop: usize },
     Wrong,
@@ -158,7 +164,7 @@ pub fn expect(s: &[u8], at: usize, end: usize, tag: u16, low: usize, high: usize
     Element::Found { start, stop }
 }
 
-pub enum ElementRead {
+enum ElementRead {
     Next(usize),
     Wrong,
 }

@@ -1,0 +1,2 @@
+-- The laws of the data fields.
+pub mod Left
