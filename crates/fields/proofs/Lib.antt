@@ -1,2 +1,3 @@
 -- The laws of the data fields.
 pub mod Left
+pub mod Only

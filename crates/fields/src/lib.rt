@@ -201,7 +201,7 @@ pub enum Tags {
 }
 
 fn note(tag: u16, life: bool, fall_back: bool) -> Tags
-    ensures { λ r. ⌜ r ≡ noted tag life fall_back ⌝ }
+    ensures { λ r. ⌜ r ≡ noted tag life «fall_back» ⌝ }
 {
     if tag == 0x4F {
         return Tags::Shown { life, fall_back };
