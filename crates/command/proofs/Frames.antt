@@ -9,7 +9,8 @@ use lib.ListN.{length, getD, take, drop, length-append, take-append-drop, drop-o
 use lib.Seq.{getD-append-seam, length-take-le, drop-cons}
 use lib.Dec.{eqb}
 use borrow.Author.Tests.{eq-eqb, ne-eqb, eqb-true}
-use Rattle.command.specs.Framing.{byte, shapeRight, isFilled, dataEnd}
+use Rattle.tlv.specs.Tlv.{byte}
+use Rattle.command.specs.Framing.{shapeRight, isFilled, dataEnd}
 use Rattle.command.specs.Frame.{le, framed, dataField, hasLe}
 
 -- a place past the header, counted from there

@@ -4,7 +4,8 @@ use mathlib.Core.List.{List, [], _∷_, _++_}
 use mathlib.Core.Bool.{Bool, true, false, not}
 use lib.ListN.{length, take, drop}
 use lib.Dec.{eqb}
-use Rattle.command.specs.Framing.{byte, dataEnd}
+use Rattle.tlv.specs.Tlv.{byte}
+use Rattle.command.specs.Framing.{dataEnd}
 
 -- nothing, or Le 00
 abbrev pub le : Bool → List ℕ

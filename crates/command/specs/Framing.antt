@@ -4,11 +4,9 @@
 use Prim.Native.Nat.{ℕ, _+_}
 use mathlib.Core.List.{List}
 use mathlib.Core.Bool.{Bool, not, _&&_, _||_}
-use lib.ListN.{length, getD}
+use lib.ListN.{length}
 use lib.Dec.{ltb, leb, eqb}
-
-abbrev pub byte : List ℕ → ℕ → ℕ
-byte s i = getD s i 0
+use Rattle.tlv.specs.Tlv.{byte}
 
 -- 67 00: command under 4 or over 261 bytes
 unfoldable pub lengthWrong : List ℕ → Bool

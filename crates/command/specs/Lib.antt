@@ -1,3 +1,5 @@
 -- Document 01, 'Reading a command'.
 pub mod Framing
 pub mod Frame
+pub mod Requests
+pub mod Reading
