@@ -1,2 +1,3 @@
 -- Laws about reading a command.
 pub mod Frames
+pub mod Answers
