@@ -4,3 +4,6 @@ pub mod Inside
 pub mod Counts
 pub mod Fills
 pub mod Examples
+pub mod Windows
+pub mod Written
+pub mod ReadBack

@@ -3,3 +3,4 @@ pub mod When
 pub mod Tlv
 pub mod Lists
 pub mod Filled
+pub mod Encoding
