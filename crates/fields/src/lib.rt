@@ -124,7 +124,7 @@ pub fn read_store_data(s: &[u8], at: usize, end: usize) -> StoreData
     StoreData::Wrong
 }
 
-enum Verification {
+pub enum Verification {
     Filled,
     Wrong,
 }
