@@ -9,8 +9,8 @@ use native.Mathlib.Numerals.{add-one}
 use mathlib.Core.Bool.{Bool, true, false}
 use lib.Dec.{leb}
 use borrow.Author.Tests.{leb-true, leb-false}
-use lib.ListN.{length, take, drop, set, length-set, length-append}
-use lib.Seq.{sets, length-sets, sets-eq, set-out}
+use lib.ListN.{length, take, drop, set, getD, length-append}
+use lib.Seq.{sets, length-sets, sets-eq, set-out, getD-set-other}
 use Rattle.text.specs.Put.{put, after, Wrote}
 
 -- what it is where vs fits: the list before i, vs, and the list past vs, untouched
@@ -57,6 +57,17 @@ after-none size at = omega arith
 pub after-after : (size at m n : ℕ) → after size (after size at m) n ≡ after size at (m + n)
 unfolding after
 after-after size at m n = omega arith
+
+-- what stands past what is written is as it was
+sets-above : (l : List ℕ) (i : ℕ) (vs : List ℕ) (j : ℕ) → i + length vs ≤ j → getD (sets l i vs) j 0 ≡ getD l j 0
+sets-above l i [] j h = refl
+sets-above l i (v ∷ vs) j h =
+    let k : suc i + length vs ≤ j = omega arith in
+    sets-above (set l i v) (suc i) vs j k ∙ getD-set-other l i j v 0 (λ e. absurd (omega arith))
+
+pub put-above : (l : List ℕ) (i : ℕ) (vs : List ℕ) (j : ℕ) → i + length vs ≤ j → getD (put l i vs) j 0 ≡ getD l j 0
+unfolding put
+put-above l i vs j h = sets-above l i vs j h
 
 -- one put after another, and the first byte by itself
 sets-sets : (l : List ℕ) (i : ℕ) (xs ys : List ℕ) → sets (sets l i xs) (i + length xs) ys ≡ sets l i (xs ++ ys)
