@@ -2,15 +2,15 @@
 -- reads past what it has written, so what it reads is what stood there before.
 use Prim.Native.Nat.{ℕ, zero, suc, _+_, _-_, _≤_, _<_, min}
 use mathlib.Core.Path.{_≡_, refl, sym, ap, _∙_}
-use mathlib.Core.List.{List, [], _∷_, _++_}
+use mathlib.Core.List.{List, [], _∷_}
 use mathlib.Core.Bool.{Bool}
 use native.Mathlib.Omega.{arith}
 use native.Mathlib.Numerals.{add-one, unary-clauses}
-use lib.ListN.{length, take, drop, getD, set, length-drop, length-take, drop-of-length-le}
+use lib.ListN.{length, take, drop, getD, set, length-drop, length-take}
 use lib.Seq.{take-nil, take-suc, take-all, length-take-le, getD-take, getD-drop}
 use Rattle.text.specs.Words.{part}
 use Rattle.text.specs.Put.{put, after}
-use Rattle.text.proofs.PutLaws.{set-put, put-put, put-above, length-put, after-fits}
+use Rattle.text.proofs.PutLaws.{set-put, put-put, put-above, after-fits}
 use Rattle.lines.specs.Window.{windowOf}
 
 pub window-end : (at : ℕ) {e f : ℕ} (skipping : Bool) → e ≡ f → windowOf at e skipping ≡ windowOf at f skipping

@@ -1,12 +1,11 @@
 -- Laws of hex. Those on a loop take its equation first, so that a proof finds the numbers by it; then they say which way the next
 -- pair of digits, or the end, decides.
 use mathlib.Core.Path.{_≡_, refl, ap, sym, _∙_}
-use Prim.Native.Nat.{ℕ, suc, _+_, _-_, _/_, _≤_, _<_}
+use Prim.Native.Nat.{ℕ, _+_, _-_, _/_, _≤_, _<_}
 use native.Mathlib.Omega.{arith}
 use mathlib.Core.List.{List, [], _∷_}
 use mathlib.Core.Bool.{Bool, true, false}
-use lib.ListN.{length, getD, set, drop, drop-of-length-le, length-drop}
-use lib.Seq.{drop-cons}
+use lib.ListN.{length, getD, set, drop, length-drop}
 use Rattle.text.specs.When.{when, lt?}
 use Rattle.text.specs.Words.{sameOf}
 use Rattle.text.specs.Hex.{nibbleOf, pairsOf, isHex, byteOf, spelled, hexByteOf, hexReadOf, hexLeft, hexText, hexWord}
