@@ -12,7 +12,6 @@ use Rattle.status.specs.declared.Status.the-variants as status
 use Rattle.command.specs.declared.request.Request.{Request}
 use Rattle.command.specs.declared.request.Field.{Field}
 use Rattle.command.specs.declared.request.Field.the-variants as field
-use Rattle.command.specs.declared.Reading.{Reading}
 use Rattle.command.specs.declared.Reading.the-variants as reading
 use Rattle.command.specs.Framing.{lengthWrong, classWrong, instructionWrong, parametersWrong, shapeWrong}
 use Rattle.command.specs.Requests.{fieldOf, dataWrong, isWrong}

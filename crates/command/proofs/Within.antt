@@ -1,17 +1,14 @@
 -- An accepted request's AID lies in the command and has 5 to 16 bytes, and a quota is 1 up to the capacity. Each reader's definition is
 -- followed to the branches that hand something on, where the laws of what was read give the bounds.
-use Prim.Native.Nat.{ℕ, _+_, _-_, _≤_, _<_}
-use mathlib.Core.Path.{_≡_, refl, sym, subst}
+use Prim.Native.Nat.{ℕ, _-_, _≤_}
+use mathlib.Core.Path.{_≡_, sym, subst}
 use mathlib.Core.List.{List}
 use mathlib.Core.Bool.{Bool}
 use native.Mathlib.Omega.{arith}
-use lib.ListN.{length}
-use Rattle.tlv.specs.When.{when, eq?, lt?}
-use Rattle.tlv.specs.Tlv.{byte, expectAt, onFound}
-use Rattle.tlv.specs.declared.Element.{Element}
+use Rattle.tlv.specs.Tlv.{expectAt}
 use Rattle.tlv.specs.declared.Element.the-variants as element
 use Rattle.tlv.proofs.Branches.{each-eq, each-lt}
-use Rattle.tlv.proofs.Inside.{Inside, Expected, expect-parts}
+use Rattle.tlv.proofs.Inside.{Expected, expect-parts}
 use Rattle.fields.specs.Alone.{aloneAt, partOf}
 use Rattle.fields.specs.StoreData.{dgiAt, onDgi, confirmationAt, storeDataAt}
 use Rattle.fields.specs.Delete.{verificationAt, onFilled, deletionAt}
@@ -34,7 +31,7 @@ use Rattle.command.specs.declared.Reading.the-variants as reading
 use Rattle.command.specs.Framing.{dataEnd}
 use Rattle.command.specs.Requests.{onInstallation, onStoreData, onDeletion, onListing, createOf, storeDataOf, deletionOf, listingOf, fieldOf}
 use Rattle.command.specs.Reading.{readOf}
-use Rattle.command.specs.Places.{Placed, Granted, RequestIn}
+use Rattle.command.specs.Places.{Placed, RequestIn}
 use Rattle.command.proofs.Answers.{read-done}
 
 module _ {ℓ} {X : Type ℓ} (P : X → Type 0) where

@@ -1,15 +1,14 @@
 -- Lengths, fields after their length and elements, both ways: what is read is the encoding of its value, and an encoding is read as its value.
 -- By the branches of each reader: the bytes that the tests there fix are those of the encoding.
-use Prim.Native.Nat.{ℕ, zero, suc, _+_, _-_, _*_, _%_, _≤_, _<_}
+use Prim.Native.Nat.{ℕ, _+_, _*_, _%_, _≤_, _<_}
 use mathlib.Core.Path.{_≡_, refl, sym, ap, _∙_, subst}
-use mathlib.Core.List.{List, [], _∷_, _++_}
+use mathlib.Core.List.{List, [], _∷_}
 use mathlib.Core.Bool.{Bool}
 use native.Mathlib.Omega.{arith}
 use native.Mathlib.Decide.{decLe}
 use native.Mathlib.Nat.{lt-of-not-le}
-use lib.ListN.{length, length-append}
+use lib.ListN.{length}
 use lib.Seq.{slice, length-slice}
-use Rattle.tlv.specs.When.{when, lt?}
 use Rattle.tlv.specs.Tlv.{byte, tagAt, lengthAt, headAt, afterTag, afterLength, expectAt, expectOf, isConstructed}
 use Rattle.tlv.specs.declared.TagRead.{TagRead}
 use Rattle.tlv.specs.declared.TagRead.the-variants as tag
@@ -17,13 +16,12 @@ use Rattle.tlv.specs.declared.LengthRead.{LengthRead}
 use Rattle.tlv.specs.declared.LengthRead.the-variants as len
 use Rattle.tlv.specs.declared.HeadRead.{HeadRead}
 use Rattle.tlv.specs.declared.HeadRead.the-variants as head
-use Rattle.tlv.specs.declared.Element.{Element}
 use Rattle.tlv.specs.declared.Element.the-variants as element
 use Rattle.tlv.proofs.Branches.{le!, nle!, lt!, nlt!, eq!, ne!, each-le, each-lt, each-eq}
-use Rattle.tlv.proofs.Inside.{Inside, Passed, length-inside, head-parts, expect-parts}
+use Rattle.tlv.proofs.Inside.{head-parts, expect-parts}
 use Rattle.install.specs.Install.{prefixedOf, prefixedAt}
 use Rattle.install.specs.Encode.{encodeLength, encodePrefixed, encodeElement}
-use Rattle.install.proofs.Inside.{Prefixed, prefixed-parts}
+use Rattle.install.proofs.Inside.{prefixed-parts}
 use Rattle.install.proofs.Stands.{Stands, stands-self, stands-none, stands-length, stands-first, stands-cons, stands-both, stands-split}
 
 short : (n : ℕ) → n < 0x80 → encodeLength n ≡ n ∷ []

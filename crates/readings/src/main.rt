@@ -36,14 +36,16 @@ fn put_named(out: &mut [u8], name: &[u8], bytes: &[u8], aid: Part) -> usize {
 }
 
 fn put_tags(out: &mut [u8], at: usize, life: bool, fall_back: bool) -> usize {
-    let mut end = put_bytes(out, at, b" 4F");
+    if life & fall_back {
+        return put_bytes(out, at, b" 4F,9F70,53");
+    }
     if life {
-        end = put_bytes(out, end, b",9F70");
+        return put_bytes(out, at, b" 4F,9F70");
     }
     if fall_back {
-        end = put_bytes(out, end, b",53");
+        return put_bytes(out, at, b" 4F,53");
     }
-    end
+    put_bytes(out, at, b" 4F")
 }
 
 fn put_request(out: &mut [u8], bytes: &[u8], request: Request) -> usize {
