@@ -1,3 +1,5 @@
 -- The laws of the data fields.
 pub mod Left
 pub mod Only
+pub mod Parts
+pub mod StoreDataGrammar
