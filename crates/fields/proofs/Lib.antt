@@ -3,3 +3,4 @@ pub mod Left
 pub mod Only
 pub mod Parts
 pub mod StoreDataGrammar
+pub mod DeletionGrammar
