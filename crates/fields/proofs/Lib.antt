@@ -4,3 +4,5 @@ pub mod Only
 pub mod Parts
 pub mod StoreDataGrammar
 pub mod DeletionGrammar
+pub mod ListedTags
+pub mod ListingGrammar

@@ -114,3 +114,86 @@ DeletionBack = (s : List ℕ) (at end : ℕ) (v : Deleted) → at ≤ end → en
 abbrev pub DeletionWritten : Type 0
 DeletionWritten = (s : List ℕ) (at end : ℕ) (v : Deleted) → Bytes s → deletedOf s (deletionAt s at end) ≡ some v
     → (at ≤ end) × ((end ≤ length s) × EncodesDeleted v (window s at end))
+
+-- ---- GET STATUS
+
+-- the tags that 5C may list
+pub data ListedTag : Type 0 where
+  aid : ListedTag
+  lifeCycle : ListedTag
+  fallBack : ListedTag
+
+abbrev pub tagNumber : ListedTag → ℕ
+tagNumber aid = 0x4F
+tagNumber lifeCycle = 0x9F70
+tagNumber fallBack = 0x53
+
+unfoldable pub encodeTags : List ListedTag → List ℕ
+encodeTags [] = []
+encodeTags (t ∷ ts) = encodeTag (tagNumber t) ++ encodeTags ts
+
+abbrev pub listsLife : List ListedTag → Bool
+listsLife [] = false
+listsLife (aid ∷ ts) = listsLife ts
+listsLife (lifeCycle ∷ ts) = true
+listsLife (fallBack ∷ ts) = listsLife ts
+
+abbrev pub listsFallBack : List ListedTag → Bool
+listsFallBack [] = false
+listsFallBack (aid ∷ ts) = listsFallBack ts
+listsFallBack (lifeCycle ∷ ts) = listsFallBack ts
+listsFallBack (fallBack ∷ ts) = true
+
+-- 5C is there or not; where it is not, both optional tags are shown
+abbrev pub encodeList : Option (List ListedTag) → List ℕ
+encodeList none = []
+encodeList (some ts) = encodeElement 0x5C (encodeTags ts)
+
+abbrev pub showsLife : Option (List ListedTag) → Bool
+showsLife none = true
+showsLife (some ts) = listsLife ts
+
+abbrev pub showsFallBack : Option (List ListedTag) → Bool
+showsFallBack none = true
+showsFallBack (some ts) = listsFallBack ts
+
+-- no more than a length can say
+abbrev pub Short : Option (List ListedTag) → Type 0
+Short none = Unit
+Short (some ts) = length (encodeTags ts) ≤ 255
+
+-- 4F is empty, for all, or an AID
+pub data Sought : List ℕ → Type 0 where
+  all : Sought []
+  one : {who : List ℕ} → Named who → Sought who
+
+-- whom a GET STATUS asks for, and which optional tags
+pub record Asked : Type 0 where
+  pub who : List ℕ
+  pub life : Bool
+  pub fallBackShown : Bool
+
+abbrev pub asked : List ℕ → Bool → Bool → Asked
+asked who life shown = record { who = who; life = life; fallBackShown = shown }
+
+abbrev pub listedOf : List ℕ → Listing → Option Asked
+listedOf s (listing.All life shown) = some (asked [] life shown)
+listedOf s (listing.One part life shown) = some (asked (partBytes s part) life shown)
+listedOf s listing.Wrong = none
+
+-- a GET STATUS is encoded in as many ways as there are lists that show the same tags
+pub record EncodesListed (v : Asked) (bytes : List ℕ) : Type 0 where
+  pub tags : Option (List ListedTag)
+  pub sought : Sought (v .who)
+  pub short : Short tags
+  pub lifeAsked : v .life ≡ showsLife tags
+  pub fallBackAsked : v .fallBackShown ≡ showsFallBack tags
+  pub written : bytes ≡ encodeElement 0x4F (v .who) ++ encodeList tags
+
+abbrev pub ListingBack : Type 0
+ListingBack = (s : List ℕ) (at end : ℕ) (v : Asked) → at ≤ end → end ≤ length s → EncodesListed v (window s at end)
+    → listedOf s (listingAt s at end) ≡ some v
+
+abbrev pub ListingWritten : Type 0
+ListingWritten = (s : List ℕ) (at end : ℕ) (v : Asked) → Bytes s → listedOf s (listingAt s at end) ≡ some v
+    → (at ≤ end) × ((end ≤ length s) × EncodesListed v (window s at end))
