@@ -3,3 +3,4 @@ pub mod Alone
 pub mod StoreData
 pub mod Delete
 pub mod GetStatus
+pub mod Grammar

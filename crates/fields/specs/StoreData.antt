@@ -5,6 +5,7 @@ use mathlib.Core.List.{List}
 use lib.ListN.{length}
 use Rattle.tlv.specs.When.{when, lt?, eq?}
 use Rattle.tlv.specs.Tlv.{byte, onFound}
+use Rattle.tlv.specs.declared.Part.{Part}
 use Rattle.fields.specs.Alone.{aloneAt, partOf}
 use Rattle.fields.specs.declared.Dgi.{Dgi}
 use Rattle.fields.specs.declared.Dgi.the-variants as dgi
@@ -34,12 +35,17 @@ confirmationAt s at end =
     onFound (aloneAt s at end 0x4E 2 2) store.Wrong λ start stop.
     store.Confirm (numberAt s start)
 
+-- the command that a DGI names, on an AID
+unfoldable pub namedBy : ℕ → Part → StoreData
+namedBy number aid =
+    when (eq? number 0x3A03) (store.Enable aid)
+    (when (eq? number 0x3A04) (store.Disable aid)
+    (when (eq? number 0x3A05) (store.SetFallBack aid)
+    store.Wrong))
+
 unfoldable pub storeDataAt : List ℕ → ℕ → ℕ → StoreData
 storeDataAt s at end =
     onDgi (dgiAt s at end) store.Wrong λ number contents.
     when (eq? number 0x3A08) (confirmationAt s contents end)
     (onFound (aloneAt s contents end 0x4F 5 16) store.Wrong λ start stop.
-    when (eq? number 0x3A03) (store.Enable (partOf start stop))
-    (when (eq? number 0x3A04) (store.Disable (partOf start stop))
-    (when (eq? number 0x3A05) (store.SetFallBack (partOf start stop))
-    store.Wrong)))
+    namedBy number (partOf start stop))
