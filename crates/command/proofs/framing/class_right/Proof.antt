@@ -1,0 +1,11 @@
+use mathlib.Core.Path.{refl}
+use Rattle.command.specs.Framing.{classRight}
+use Rattle.command.proofs.framing.class_right.Statement.{statement}
+use Rattle.command.proofs.framing.class_right.Tie as tie
+
+returns : tie.Need-returns
+unfolding classRight
+returns c = refl
+
+pub class-right-spec : {M : Type 1} → statement M
+class-right-spec = tie.close (tie.spec returns)

@@ -1,0 +1,15 @@
+use borrow.Author.Needs.{needs}
+use mathlib.Core.Path.{refl}
+use Rattle.command.specs.Framing.{instructionWrong}
+use Rattle.command.proofs.framing.instruction_wrong.Statement.{statement}
+use Rattle.command.proofs.framing.instruction_wrong.Tie as tie
+
+byte-at-requires : tie.Need-byte-at-requires
+byte-at-requires c κs = search needs
+
+returns : tie.Need-returns
+unfolding instructionWrong
+returns c = rw (c .byte-at .ensures) refl
+
+pub instruction-wrong-spec : {M : Type 1} → statement M
+instruction-wrong-spec = tie.close (tie.spec byte-at-requires returns)

@@ -1,0 +1,11 @@
+use mathlib.Core.Path.{refl}
+use Rattle.command.specs.Framing.{lengthWrong}
+use Rattle.command.proofs.framing.length_wrong.Statement.{statement}
+use Rattle.command.proofs.framing.length_wrong.Tie as tie
+
+returns : tie.Need-returns
+unfolding lengthWrong
+returns c = refl
+
+pub length-wrong-spec : {M : Type 1} → statement M
+length-wrong-spec = tie.close (tie.spec returns)

@@ -1,0 +1,11 @@
+use mathlib.Core.Path.{refl}
+use Rattle.command.specs.Framing.{parametersRight}
+use Rattle.command.proofs.framing.parameters_right.Statement.{statement}
+use Rattle.command.proofs.framing.parameters_right.Tie as tie
+
+returns : tie.Need-returns
+unfolding parametersRight
+returns c = refl
+
+pub parameters-right-spec : {M : Type 1} → statement M
+parameters-right-spec = tie.close (tie.spec returns)

@@ -1,0 +1,61 @@
+use Rattle.command.specs.Requests.{fieldOf}
+use Rattle.tlv.proofs.Branches.{eq!, ne! }
+use native.Mathlib.Omega.{arith}
+use mathlib.Core.Path.{refl}
+use borrow.Author.Needs.{needs}
+use Rattle.command.proofs.request.read_field.Statement.{statement}
+use Rattle.command.proofs.request.read_field.Tie as tie
+
+byte-at-requires : tie.Need-byte-at-requires
+byte-at-requires c κs = search needs
+
+data-end-requires : tie.Need-data-end-requires
+data-end-requires c κs = search needs
+
+read-create-requires : tie.Need-read-create-requires
+read-create-requires c κs = search needs
+
+returns : tie.Need-returns
+unfolding fieldOf
+returns c = eq! _ (omega arith) (rw (c .read-create .ensures) (rw (c .before .before .data-end .ensures) refl))
+
+read-deleted-requires : tie.Need-read-deleted-requires
+read-deleted-requires c κs = search needs
+
+returns-2 : tie.Need-returns-2
+unfolding fieldOf
+returns-2 c = ne! _ (omega arith) (eq! _ (omega arith) (rw (c .read-deleted .ensures) (rw (c .before .before .before .data-end .ensures) refl)))
+
+read-stored-requires : tie.Need-read-stored-requires
+read-stored-requires c κs = search needs
+
+returns-3 : tie.Need-returns-3
+unfolding fieldOf
+returns-3 c = ne! _ (omega arith) (ne! _ (omega arith) (eq! _ (omega arith) (rw (c .read-stored .ensures) (rw (c .before .before .before .before .data-end .ensures) refl))))
+
+read-listed-requires : tie.Need-read-listed-requires
+read-listed-requires c κs = search needs
+
+returns-4 : tie.Need-returns-4
+unfolding fieldOf
+returns-4 c = ne! _ (omega arith) (ne! _ (omega arith) (ne! _ (omega arith) (eq! _ (omega arith) (rw (c .read-listed .ensures) (rw (c .before .before .before .before .before .data-end .ensures) refl)))))
+
+returns-5 : tie.Need-returns-5
+unfolding fieldOf
+returns-5 c = ne! _ (omega arith) (ne! _ (omega arith) (ne! _ (omega arith) (ne! _ (omega arith) (refl))))
+
+pub read-field-spec : {M : Type 1} → statement M
+read-field-spec =
+    tie.close
+    (tie.spec
+    byte-at-requires
+    data-end-requires
+    read-create-requires
+    returns
+    read-deleted-requires
+    returns-2
+    read-stored-requires
+    returns-3
+    read-listed-requires
+    returns-4
+    returns-5)

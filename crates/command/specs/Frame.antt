@@ -1,0 +1,24 @@
+-- Document 01, 'Reading a command', first paragraph, written the other way: the string of a command with a data field.
+use Prim.Native.Nat.{ℕ}
+use mathlib.Core.List.{List, [], _∷_, _++_}
+use mathlib.Core.Bool.{Bool, true, false, not}
+use lib.ListN.{length, take, drop}
+use lib.Dec.{eqb}
+use Rattle.tlv.specs.Tlv.{byte}
+use Rattle.command.specs.Framing.{dataEnd}
+
+-- nothing, or Le 00
+abbrev pub le : Bool → List ℕ
+le false = []
+le true = 0x00 ∷ []
+
+-- header, Lc, Lc bytes, then nothing or Le 00
+abbrev pub framed : ℕ → ℕ → ℕ → ℕ → List ℕ → Bool → List ℕ
+framed class instruction p1 p2 field withLe = class ∷ instruction ∷ p1 ∷ p2 ∷ length field ∷ (field ++ le withLe)
+
+-- the Lc bytes after Lc, and whether a byte stands after them
+abbrev pub dataField : List ℕ → List ℕ
+dataField s = take (byte s 4) (drop 5 s)
+
+abbrev pub hasLe : List ℕ → Bool
+hasLe s = not (eqb (length s) (dataEnd s))

@@ -1,0 +1,44 @@
+// Reading a command: from a byte string of any length to a request, or to the word of its refusal.
+pub mod framing; // framing.rt: what the table asks of a command before its data field is read
+pub mod request; // request.rt: the requests, and the data field's answer made one of them
+
+use framing::class_wrong;
+use framing::instruction_wrong;
+use framing::length_wrong;
+use framing::parameters_wrong;
+use framing::shape_wrong;
+use request::Field;
+use request::Request;
+use request::read_field;
+use status::Status;
+ghost use mathlib.Core.Path.{_≡_};
+ghost use Rattle.command.specs.Reading.{readOf};
+
+pub enum Reading {
+    Read(Request),
+    Refused(Status),
+}
+
+pub fn read(bytes: &[u8], capacity: u32) -> Reading
+    ensures { λ r. ⌜ r ≡ readOf (now (bytes .entry)) capacity ⌝ }
+{
+    if length_wrong(bytes) {
+        return Reading::Refused(Status::LengthWrong);
+    }
+    if class_wrong(bytes) {
+        return Reading::Refused(Status::ClassWrong);
+    }
+    if instruction_wrong(bytes) {
+        return Reading::Refused(Status::InstructionWrong);
+    }
+    if parameters_wrong(bytes) {
+        return Reading::Refused(Status::ParametersWrong);
+    }
+    if shape_wrong(bytes) {
+        return Reading::Refused(Status::LengthWrong);
+    }
+    let Field::Found(request) = read_field(bytes, capacity) else {
+        return Reading::Refused(Status::DataWrong);
+    };
+    Reading::Read(request)
+}

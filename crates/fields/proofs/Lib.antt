@@ -1,0 +1,8 @@
+-- The laws of the data fields.
+pub mod Left
+pub mod Only
+pub mod Parts
+pub mod StoreDataGrammar
+pub mod DeletionGrammar
+pub mod ListedTags
+pub mod ListingGrammar

@@ -1,0 +1,167 @@
+-- GET STATUS, both directions: 4F stands first, empty or an AID, and after it nothing or 5C alone with its list of tags.
+use Prim.Native.Nat.{ℕ, _+_, _-_, _≤_}
+use mathlib.Core.Path.{_≡_, refl, sym, ap, subst, _∙_}
+use mathlib.Core.List.{List, [], _++_}
+use mathlib.Core.Option.{Option, none, some}
+use mathlib.Core.Bool.{Bool}
+use native.Mathlib.Omega.{arith}
+use lib.ListN.{length}
+use Rattle.tlv.specs.When.{when, lt?, eq?}
+use Rattle.tlv.specs.Tlv.{expectAt, onFound}
+use Rattle.tlv.specs.declared.Element.{Element}
+use Rattle.tlv.specs.declared.Element.the-variants as element
+use Rattle.tlv.specs.Encoding.{window, Bytes, encodeElement}
+use Rattle.tlv.proofs.Branches.{each-lt, each-eq, nlt!, eq!, ne! }
+use Rattle.tlv.proofs.Inside.{expect-parts, expect-inside}
+use Rattle.tlv.proofs.Windows.{window-none, window-length, window-cut}
+use Rattle.tlv.proofs.Written.{element-written}
+use Rattle.tlv.proofs.ReadBack.{element-back}
+use Rattle.tlv.proofs.ReadBack as legal
+use Rattle.fields.specs.declared.Tags.{Tags}
+use Rattle.fields.specs.declared.Tags.the-variants as tags
+use Rattle.fields.specs.declared.Listing.{Listing}
+use Rattle.fields.specs.declared.Listing.the-variants as listing
+use Rattle.fields.specs.Alone.{aloneAt, partOf}
+use Rattle.fields.specs.GetStatus.{onShown, listedAt, tagsAt, listingAt}
+use Rattle.fields.specs.Grammar.{Named, ListedTag, Asked, asked, Sought, all, one, Short, listedOf, partBytes, encodeTags, encodeList, showsLife, showsFallBack, EncodesListed, ListingBack, ListingWritten}
+use Rattle.fields.proofs.Only.{alone-expected}
+use Rattle.fields.proofs.Parts.{alone-back, alone-written, part-bytes, part-named}
+use Rattle.fields.proofs.ListedTags.{listed-back, listed-written}
+
+-- ---- an encoded field is read back
+
+empty : (s : List ℕ) (at end : ℕ) → at ≤ end → end ≤ length s → window s at end ≡ [] → at ≡ end
+empty s at end o h q = let n : end - at ≡ 0 = sym (window-length s at end h) ∙ ap length q in omega arith
+
+tags-back : (s : List ℕ) (at end : ℕ) → at ≤ end → end ≤ length s → (ts : Option (List ListedTag)) → Short ts
+    → window s at end ≡ encodeList ts → tags.Shown (showsLife ts) (showsFallBack ts) ≡ tagsAt s at end
+unfolding tagsAt
+tags-back s at end o h none short q = eq! _ (empty s at end o h q) refl
+tags-back s at end o h (some ts) short q =
+    let a = alone-back s at end o h 0x5C 0 255 (encodeTags ts) (legal.one (omega arith) (omega arith)) (omega arith) short q in
+    let i = alone-expected s at end 0x5C 0 255 (a .start) end (a .found) .inside in
+    ne! _ (omega arith) (rw (← a .found) (listed-back ts s (a .start) end (i .ordered) h (a .value)))
+
+sought-most : {who : List ℕ} → Sought who → length who ≤ 16
+sought-most all = omega arith
+sought-most (one named) = named .most
+
+module _ (s : List ℕ) (life shown : Bool) where
+  -- what the definition gives for a value of 4F from `start` on that is `who`
+  who-back : (who : List ℕ) → Sought who → (start stop : ℕ) → stop ≡ start + length who → window s start stop ≡ who
+      → listedOf s (when (eq? (stop - start) 0) (listing.All life shown)
+      (when (lt? (stop - start) 5) listing.Wrong (listing.One (partOf start stop) life shown))) ≡ some (asked who life shown)
+  who-back who all start stop l q =
+      let r : listing.All life shown ≡ when (eq? (stop - start) 0) (listing.All life shown)
+      (when (lt? (stop - start) 5) listing.Wrong (listing.One (partOf start stop) life shown)) = eq! _ (omega arith) refl in
+      rw (← r) refl
+  who-back who (one named) start stop l q =
+      let k = named .least in
+      let r : listing.One (partOf start stop) life shown ≡ when (eq? (stop - start) 0) (listing.All life shown)
+      (when (lt? (stop - start) 5) listing.Wrong (listing.One (partOf start stop) life shown)) = ne! _ (omega arith) (nlt! _ (omega arith) refl) in
+      rw (← r) (ap (λ (a : List ℕ). some (asked a life shown)) (part-bytes s start stop (omega arith) ∙ q))
+
+pub listing-back : ListingBack
+unfolding listingAt
+listing-back s at end v o h e =
+    let a = element-back s at end o h 0x4F 0 16 (v .who) (encodeList (e .tags)) (legal.one (omega arith) (omega arith)) (omega arith) (sought-most (e .sought)) (e .written) in
+    let t = tags-back s (a .stop) end (a .within) h (e .tags) (e .short) (a .after) in
+    rw (← a .found) (rw (← t) (rw (← e .lifeAsked) (rw (← e .fallBackAsked)
+    (who-back s (v .life) (v .fallBackShown) (v .who) (e .sought) (a .start) (a .stop) (a .long) (a .value)))))
+
+-- ---- what is accepted is so encoded
+
+pub record ListWritten (s : List ℕ) (at end : ℕ) (life shown : Bool) : Type 0 where
+  pub tags : Option (List ListedTag)
+  pub short : Short tags
+  pub lists : life ≡ showsLife tags
+  pub listsToo : shown ≡ showsFallBack tags
+  pub bytes : window s at end ≡ encodeList tags
+
+module _ (s : List ℕ) (at end : ℕ) (life shown : Bool) (b : Bytes s) where
+  list-written : (r : Element) → r ≡ aloneAt s at end 0x5C 0 255
+      → tags.Shown life shown ≡ onFound r tags.Wrong (λ start stop. listedAt s start stop) → ListWritten s at end life shown
+  list-written element.Wrong g q = let z : _≡_ {A = ℕ} 0 1 = cc in absurd (omega arith)
+  list-written (element.Found start stop) g q =
+      let x = alone-expected s at end 0x5C 0 255 start stop g in
+      let i = x .inside in let m = x .most in
+      let w = listed-written s start stop life shown b (i .ordered) q in
+      let n : length (encodeTags (w .list)) ≡ stop - start = ap length (sym (w .bytes)) ∙ window-length s start stop (omega arith) in
+      let k : length (encodeTags (w .list)) ≤ 255 = omega arith in
+      record {
+        tags = some (w .list);
+        short = k;
+        lists = w .lists;
+        listsToo = w .listsToo;
+        bytes = alone-written s at end 0x5C 0 255 start stop b g ∙ ap (encodeElement 0x5C) (w .bytes);
+      }
+
+  tags-written : tags.Shown life shown ≡ tagsAt s at end → ListWritten s at end life shown
+  unfolding tagsAt
+  tags-written =
+      let P : Tags → Type 0 = λ z. tags.Shown life shown ≡ z → ListWritten s at end life shown in
+      each-eq P (λ h q. record { tags = none; short = tt; lists = cc; listsToo = cc; bytes = ap (λ (n : ℕ). window s n end) h ∙ window-none s end })
+      (λ _. list-written (aloneAt s at end 0x5C 0 255) refl)
+
+module _ (s : List ℕ) (at end : ℕ) (w : Asked) (b : Bytes s) where
+  abbrev Result : Asked → Type 0
+  Result v = (at ≤ end) × ((end ≤ length s) × EncodesListed v (window s at end))
+
+  abbrev Accepted : Listing → Type 0
+  Accepted z = listedOf s z ≡ some w → Result w
+
+  same-value : (v : Asked) → Result v → some v ≡ some w → Result w
+  same-value v r q = let e : v ≡ w = cc in subst Result e r
+
+  refused : Accepted listing.Wrong
+  refused q = let z : _≡_ {A = ℕ} 0 1 = cc in absurd (omega arith)
+
+  module _ (start stop : ℕ) (q : element.Found start stop ≡ expectAt s at end 0x4F 0 16) where
+    who-written : (who : List ℕ) (life shown : Bool) → Sought who → window s start stop ≡ who → tags.Shown life shown ≡ tagsAt s stop end
+        → Result (asked who life shown)
+    who-written who life shown sought e t =
+        let i = expect-inside s at end 0x4F 0 16 start stop q in
+        let l = tags-written s stop end life shown b t in (
+          omega arith,
+          (
+            omega arith,
+            record {
+              tags = l .tags;
+              sought = sought;
+              short = l .short;
+              lifeAsked = l .lists;
+              fallBackAsked = l .listsToo;
+              written = window-cut s at stop end (omega arith) (i .within) (i .held)
+                  ∙ ap (λ (a : List ℕ). a ++ window s stop end) (element-written s at end 0x4F 0 16 start stop b q ∙ ap (encodeElement 0x4F) e)
+                  ∙ ap (λ (a : List ℕ). encodeElement 0x4F who ++ a) (l .bytes);
+            },
+          ),
+        )
+
+    shown-written : (r : Tags) → r ≡ tagsAt s stop end
+        → Accepted (onShown r listing.Wrong (λ life shown. when (eq? (stop - start) 0) (listing.All life shown)
+        (when (lt? (stop - start) 5) listing.Wrong (listing.One (partOf start stop) life shown))))
+    shown-written tags.Wrong g = refused
+    shown-written (tags.Shown life shown) g =
+        let x = expect-parts s at end 0x4F 0 16 start stop q in
+        let i = x .inside in
+        let p : partBytes s (partOf start stop) ≡ window s start stop = part-bytes s start stop (i .ordered) in
+        each-eq Accepted
+        (λ h.
+        let m : start ≡ stop = omega arith in
+        same-value (asked [] life shown) (who-written [] life shown all (ap (λ (n : ℕ). window s n stop) m ∙ window-none s stop) g))
+        (λ _. each-lt Accepted (λ _. refused) (λ k.
+        let named : Named (partBytes s (partOf start stop)) = subst Named (sym p) (part-named s start stop (i .ordered) (omega arith) k (x .most)) in
+        same-value (asked (partBytes s (partOf start stop)) life shown)
+        (who-written (partBytes s (partOf start stop)) life shown (one named) (sym p) g)))
+
+  aid-written : (r : Element) → r ≡ expectAt s at end 0x4F 0 16
+      → Accepted (onFound r listing.Wrong (λ start stop. onShown (tagsAt s stop end) listing.Wrong (λ life shown.
+      when (eq? (stop - start) 0) (listing.All life shown)
+      (when (lt? (stop - start) 5) listing.Wrong (listing.One (partOf start stop) life shown)))))
+  aid-written element.Wrong g = refused
+  aid-written (element.Found start stop) g = shown-written start stop g (tagsAt s stop end) refl
+
+pub listing-written : ListingWritten
+unfolding listingAt
+listing-written s at end w b q = aid-written s at end w b (expectAt s at end 0x4F 0 16) refl q

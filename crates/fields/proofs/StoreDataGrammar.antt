@@ -1,0 +1,161 @@
+-- STORE DATA, both directions. An encoded field is a DGI and, in it, one element alone: both are read back, and the tests on the DGI's number
+-- take its branch. What is accepted came by such a branch, so the window is the DGI's bytes around the element's.
+use Prim.Native.Nat.{ℕ, _+_, _/_, _%_, _≤_, _<_}
+use mathlib.Core.Path.{_≡_, refl, sym, ap, subst, _∙_}
+use mathlib.Core.List.{List, [], _∷_}
+use mathlib.Core.Option.{some}
+use native.Mathlib.Omega.{arith}
+use lib.ListN.{length}
+use Rattle.tlv.specs.When.{when, eq?}
+use Rattle.tlv.specs.Tlv.{byte, onFound}
+use Rattle.tlv.specs.declared.Element.{Element}
+use Rattle.tlv.specs.declared.Element.the-variants as element
+use Rattle.tlv.specs.declared.Part.{Part}
+use Rattle.tlv.specs.Encoding.{window, Bytes, encodeNumber, encodeTag, encodeLength, encodeElement}
+use Rattle.tlv.proofs.Branches.{each-eq, lt!, eq!, ne! }
+use Rattle.tlv.proofs.Windows.{window-starts}
+use Rattle.tlv.proofs.Written.{window-two}
+use Rattle.tlv.proofs.ReadBack.{one}
+use Rattle.fields.specs.declared.Dgi.{Dgi}
+use Rattle.fields.specs.declared.Dgi.the-variants as dgi
+use Rattle.fields.specs.declared.StoreData.{StoreData}
+use Rattle.fields.specs.declared.StoreData.the-variants as store
+use Rattle.fields.specs.Alone.{aloneAt, partOf}
+use Rattle.fields.specs.StoreData.{numberAt, dgiAt, onDgi, confirmationAt, namedBy, storeDataAt}
+use Rattle.fields.specs.Grammar.{Named, Stored, enable, disable, setFallBack, confirmation, storedOf, partBytes, encodeDgi, EncodesStored, StoreDataBack, StoreDataWritten}
+use Rattle.fields.proofs.Only.{alone-expected, alone-parts}
+use Rattle.fields.proofs.Parts.{alone-back, alone-written, dgi-back, dgi-parts, dgi-written, part-bytes, part-named}
+
+-- ---- an encoded field is read back
+
+short-element : (t : ℕ) (v : List ℕ) → t < 256 → length v < 0x80 → length (encodeElement t v) ≡ 2 + length v
+unfolding encodeElement encodeTag encodeLength
+short-element t v h i =
+    let a : t ∷ [] ≡ encodeTag t = lt! _ h refl in
+    let b : length v ∷ [] ≡ encodeLength (length v) = lt! _ i refl in
+    rw (← a) (rw (← b) (omega arith))
+
+module _ (s : List ℕ) (at end : ℕ) (ordered : at ≤ end) (held : end ≤ length s) where
+  pub record AidBack (number : ℕ) (aid : List ℕ) : Type 0 where
+    pub part : Part
+    pub read : namedBy number part ≡ storeDataAt s at end
+    pub bytes : partBytes s part ≡ aid
+
+  aid-back : (number : ℕ) (aid : List ℕ) → (number ≡ 0x3A08 → ⊥) → Named aid → window s at end ≡ encodeDgi number (encodeElement 0x4F aid)
+      → AidBack number aid
+  unfolding storeDataAt
+  aid-back number aid other named q =
+      let n = short-element 0x4F aid (omega arith) (omega arith) in
+      let d = dgi-back s at end ordered held number (encodeElement 0x4F aid) (omega arith) q in
+      let a = alone-back s (at + 3) end (d .room) held 0x4F 5 16 aid (one (omega arith) (omega arith)) (named .least) (named .most) (d .after) in
+      let l = a .long in
+      record {
+        part = partOf (a .start) end;
+        read = rw (← d .found) (ne! _ other (rw (← a .found) refl));
+        bytes = part-bytes s (a .start) end (omega arith) ∙ a .value;
+      }
+
+  number-back : (number : ℕ) → window s at end ≡ encodeDgi 0x3A08 (encodeElement 0x4E (encodeNumber number))
+      → store.Confirm number ≡ storeDataAt s at end
+  unfolding storeDataAt confirmationAt
+  number-back number q =
+      let n = short-element 0x4E (encodeNumber number) (omega arith) (omega arith) in
+      let d = dgi-back s at end ordered held 0x3A08 (encodeElement 0x4E (encodeNumber number)) (omega arith) q in
+      let a = alone-back s (at + 3) end (d .room) held 0x4E 2 2 (encodeNumber number) (one (omega arith) (omega arith)) (omega arith) (omega arith) (d .after) in
+      let l = a .long in
+      let x = window-starts s (a .start) end (omega arith) held (number / 256) (number % 256 ∷ []) (a .value) in
+      let y = window-starts s (a .start + 1) end (omega arith) held (number % 256) [] (x .after) in
+      let f = x .first in let g = y .first in
+      let e : number ≡ numberAt s (a .start) = omega arith in
+      rw (← d .found) (eq! _ refl (rw (← a .found) (ap store.Confirm e)))
+
+pub store-data-back : StoreDataBack
+unfolding namedBy
+store-data-back s at end (enable aid) ordered held (named, q) =
+    let a = aid-back s at end ordered held 0x3A03 aid (omega arith) named q in
+    let r : store.Enable (a .part) ≡ namedBy 0x3A03 (a .part) = eq! _ refl refl in
+    rw (← a .read) (rw (← r) (ap (λ (l : List ℕ). some (enable l)) (a .bytes)))
+store-data-back s at end (disable aid) ordered held (named, q) =
+    let a = aid-back s at end ordered held 0x3A04 aid (omega arith) named q in
+    let r : store.Disable (a .part) ≡ namedBy 0x3A04 (a .part) = ne! _ (omega arith) (eq! _ refl refl) in
+    rw (← a .read) (rw (← r) (ap (λ (l : List ℕ). some (disable l)) (a .bytes)))
+store-data-back s at end (setFallBack aid) ordered held (named, q) =
+    let a = aid-back s at end ordered held 0x3A05 aid (omega arith) named q in
+    let r : store.SetFallBack (a .part) ≡ namedBy 0x3A05 (a .part) = ne! _ (omega arith) (ne! _ (omega arith) (eq! _ refl refl)) in
+    rw (← a .read) (rw (← r) (ap (λ (l : List ℕ). some (setFallBack l)) (a .bytes)))
+store-data-back s at end (confirmation number) ordered held (legal, q) = rw (← number-back s at end ordered held number q) refl
+
+-- ---- what is accepted is so encoded
+
+module _ (s : List ℕ) (at end : ℕ) (v : Stored) (b : Bytes s) where
+  abbrev Result : Stored → Type 0
+  Result w = (at ≤ end) × ((end ≤ length s) × EncodesStored w (window s at end))
+
+  abbrev Accepted : StoreData → Type 0
+  Accepted z = storedOf s z ≡ some v → Result v
+
+  same-value : (w : Stored) → Result w → some w ≡ some v → Result v
+  same-value w r q = let e : w ≡ v = cc in subst Result e r
+
+  refused : Accepted store.Wrong
+  refused q = let z : _≡_ {A = ℕ} 0 1 = cc in absurd (omega arith)
+
+  module _ (number contents : ℕ) (d : dgi.Found number contents ≡ dgiAt s at end) where
+    aid-written : (r : Element) → r ≡ aloneAt s contents end 0x4F 5 16
+        → Accepted (onFound r store.Wrong (λ start stop. namedBy number (partOf start stop)))
+    unfolding namedBy
+    aid-written element.Wrong g = refused
+    aid-written (element.Found start stop) g =
+        let p = dgi-parts s at end number contents d in
+        let x = alone-expected s contents end 0x4F 5 16 start stop g in
+        let k : start ≤ stop = x .inside .ordered in
+        let f : stop ≡ end = alone-parts s contents end 0x4F 5 16 start stop g .fills in
+        let aid = partBytes s (partOf start stop) in
+        let e : aid ≡ window s start stop = part-bytes s start stop k in
+        let named : Named aid = subst Named (sym e) (part-named s start stop k (omega arith) (x .least) (x .most)) in
+        let w : window s at end ≡ encodeDgi number (encodeElement 0x4F aid) =
+        dgi-written s at end number contents b d
+        ∙ ap (encodeDgi number) (alone-written s contents end 0x4F 5 16 start stop b g ∙ ap (encodeElement 0x4F) (sym e)) in
+        let by : (n : ℕ) → number ≡ n → window s at end ≡ encodeDgi n (encodeElement 0x4F aid) =
+        λ n h. subst (λ (m : ℕ). window s at end ≡ encodeDgi m (encodeElement 0x4F aid)) h w in
+        let lies : at ≤ end = omega arith in
+        let held : end ≤ length s = omega arith in
+        each-eq Accepted (λ h. same-value (enable aid) (lies, (held, (named, by 0x3A03 h))))
+        (λ _. each-eq Accepted (λ h. same-value (disable aid) (lies, (held, (named, by 0x3A04 h))))
+        (λ _. each-eq Accepted (λ h. same-value (setFallBack aid) (lies, (held, (named, by 0x3A05 h))))
+        (λ _. refused)))
+
+    number-written : number ≡ 0x3A08 → (r : Element) → r ≡ aloneAt s contents end 0x4E 2 2
+        → Accepted (onFound r store.Wrong (λ start stop. store.Confirm (numberAt s start)))
+    number-written h element.Wrong g = refused
+    number-written h (element.Found start stop) g =
+        let p = dgi-parts s at end number contents d in
+        let x = alone-expected s contents end 0x4E 2 2 start stop g in
+        let f : stop ≡ end = alone-parts s contents end 0x4E 2 2 start stop g .fills in
+        let i = x .inside in
+        let l = x .least in let m = x .most in
+        let y : byte s start < 256 = b start in
+        let z : byte s (start + 1) < 256 = b (start + 1) in
+        let n = numberAt s start in
+        let high : byte s start ≡ n / 256 = omega arith in
+        let low : byte s (start + 1) ≡ n % 256 = omega arith in
+        let c : window s start stop ≡ encodeNumber n =
+        ap (window s start) {x = stop} {y = start + 1 + 1} (omega arith) ∙ window-two s start (omega arith) ∙ cc in
+        let w : window s at end ≡ encodeDgi 0x3A08 (encodeElement 0x4E (encodeNumber n)) =
+        dgi-written s at end number contents b d
+        ∙ ap (encodeDgi number) (alone-written s contents end 0x4E 2 2 start stop b g ∙ ap (encodeElement 0x4E) c)
+        ∙ ap (λ (m : ℕ). encodeDgi m (encodeElement 0x4E (encodeNumber n))) h in
+        same-value (confirmation n) (omega arith, (omega arith, (omega arith, w)))
+
+  contents-written : (r : Dgi) → r ≡ dgiAt s at end
+      → Accepted (onDgi r store.Wrong (λ number contents. when (eq? number 0x3A08) (confirmationAt s contents end)
+      (onFound (aloneAt s contents end 0x4F 5 16) store.Wrong (λ start stop. namedBy number (partOf start stop)))))
+  unfolding confirmationAt
+  contents-written dgi.Wrong g = refused
+  contents-written (dgi.Found number contents) g =
+      each-eq Accepted (λ h. number-written number contents g h (aloneAt s contents end 0x4E 2 2) refl)
+      (λ _. aid-written number contents g (aloneAt s contents end 0x4F 5 16) refl)
+
+pub store-data-written : StoreDataWritten
+unfolding storeDataAt
+store-data-written s at end v b q = contents-written s at end v b (dgiAt s at end) refl q

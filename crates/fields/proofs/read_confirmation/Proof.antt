@@ -1,0 +1,41 @@
+use Rattle.fields.proofs.Only.{alone-expected}
+use Rattle.fields.specs.StoreData.{confirmationAt}
+use mathlib.Core.Path.{refl, sym, _∙_}
+use native.Mathlib.Omega.{arith}
+use borrow.Author.Needs.{needs}
+use Rattle.fields.proofs.read_confirmation.Statement.{statement}
+use Rattle.fields.proofs.read_confirmation.Tie as tie
+
+read-alone-requires : tie.Need-read-alone-requires
+read-alone-requires c κs = search needs
+
+enum-known-start : tie.Need-enum-known-start
+enum-known-start c = search needs
+
+enum-told : tie.Need-enum-told
+enum-told c = search needs
+
+returns : tie.Need-returns
+unfolding confirmationAt
+returns c = rw (← c .before .before .read-alone .ensures) (rw (c .enum-told .given .1) refl)
+
+read-number-requires : tie.Need-read-number-requires
+read-number-requires c κs =
+    let g = c .before .start .given in
+    let e = alone-expected _ _ _ _ _ _ (g .0 .0) (g .0 .1 .0) (sym (g .1) ∙ c .before .before .before .read-alone .ensures) in
+    omega arith
+
+returns-2 : tie.Need-returns-2
+unfolding confirmationAt
+returns-2 c = rw (← c .before .before .before .before .read-alone .ensures) (rw (c .before .before .start .given .1) (rw (c .read-number .ensures) refl))
+
+pub read-confirmation-spec : {M : Type 1} → statement M
+read-confirmation-spec =
+    tie.close
+    (tie.spec
+    read-alone-requires
+    enum-known-start
+    enum-told
+    returns
+    read-number-requires
+    returns-2)

@@ -1,0 +1,67 @@
+use Rattle.fields.specs.StoreData.{dgiAt}
+use mir.Facts.{fits-8-64}
+use Rattle.tlv.proofs.Branches.{lt!, nlt!, eq!, ne! }
+use mathlib.Core.Path.{refl}
+use native.Mathlib.Omega.{arith}
+use borrow.Author.Needs.{needs}
+use Rattle.fields.proofs.read_dgi.Statement.{statement}
+use Rattle.fields.proofs.read_dgi.Tie as tie
+
+returns : tie.Need-returns
+unfolding dgiAt
+returns c = lt! _ (omega arith) refl
+
+returns-2 : tie.Need-returns-2
+unfolding dgiAt
+returns-2 c = nlt! _ (omega arith) (lt! _ (omega arith) refl)
+
+returns-3 : tie.Need-returns-3
+unfolding dgiAt
+returns-3 c = nlt! _ (omega arith) (lt! _ (omega arith) refl)
+
+add-place : tie.Need-add-place
+add-place c = search needs
+
+shared-slice-read-count : tie.Need-shared-slice-read-count
+shared-slice-read-count c = search needs
+
+cast-count : tie.Need-cast-count
+cast-count c = fits-8-64 (c .shared-slice-known2 .given _)
+
+returns-4 : tie.Need-returns-4
+unfolding dgiAt
+returns-4 c = nlt! _ (omega arith) (nlt! _ (omega arith) (lt! _ (omega arith) refl))
+
+add-start : tie.Need-add-start
+add-start c = search needs
+
+sub-if5 : tie.Need-sub-if5
+sub-if5 c = search needs
+
+returns-5 : tie.Need-returns-5
+unfolding dgiAt
+returns-5 c = nlt! _ (omega arith) (nlt! _ (omega arith) (nlt! _ (omega arith) (ne! _ (omega arith) refl)))
+
+read-number-requires : tie.Need-read-number-requires
+read-number-requires c κs = search needs
+
+returns-6 : tie.Need-returns-6
+unfolding dgiAt
+returns-6 c = nlt! _ (omega arith) (nlt! _ (omega arith) (nlt! _ (omega arith) (eq! _ (omega arith) (rw (c .read-number .ensures) refl))))
+
+pub read-dgi-spec : {M : Type 1} → statement M
+read-dgi-spec =
+    tie.close
+    (tie.spec
+    returns
+    returns-2
+    returns-3
+    add-place
+    shared-slice-read-count
+    cast-count
+    returns-4
+    add-start
+    sub-if5
+    returns-5
+    read-number-requires
+    returns-6)

@@ -1,0 +1,83 @@
+use Rattle.fields.proofs.Only.{alone-expected}
+use Rattle.fields.specs.StoreData.{namedBy, storeDataAt}
+use Rattle.tlv.proofs.Branches.{eq!, ne! }
+use mathlib.Core.Path.{refl, sym, _∙_}
+use native.Mathlib.Omega.{arith}
+use borrow.Author.Needs.{needs}
+use Rattle.fields.proofs.read_store_data.Statement.{statement}
+use Rattle.fields.proofs.read_store_data.Tie as tie
+
+read-dgi-requires : tie.Need-read-dgi-requires
+read-dgi-requires c κs = search needs
+
+enum-known-dgi : tie.Need-enum-known-dgi
+enum-known-dgi c = search needs
+
+enum-told : tie.Need-enum-told
+enum-told c = search needs
+
+returns : tie.Need-returns
+unfolding storeDataAt namedBy
+returns c = rw (← c .before .before .read-dgi .ensures) (rw (c .enum-told .given .1) refl)
+
+read-confirmation-requires : tie.Need-read-confirmation-requires
+read-confirmation-requires c κs = search needs
+
+returns-2 : tie.Need-returns-2
+unfolding storeDataAt namedBy
+returns-2 c = rw (← c .before .before .before .before .before .read-dgi .ensures) (rw (c .before .before .before .dgi .given .1) (eq! _ (omega arith) (c .read-confirmation .ensures)))
+
+read-alone-requires : tie.Need-read-alone-requires
+read-alone-requires c κs = search needs
+
+enum-known-start : tie.Need-enum-known-start
+enum-known-start c = search needs
+
+enum-told-2 : tie.Need-enum-told-2
+enum-told-2 c = search needs
+
+returns-3 : tie.Need-returns-3
+unfolding storeDataAt namedBy
+returns-3 c = rw (← c .before .before .before .before .before .before .before .read-dgi .ensures) (rw (c .before .before .before .before .before .dgi .given .1) (ne! _ (omega arith) (rw (← c .before .before .read-alone .ensures) (rw (c .enum-told2 .given .1) refl))))
+
+sub-len : tie.Need-sub-len
+sub-len c =
+    let g = c .before .start .given in
+    let e = alone-expected _ _ _ _ _ _ (g .0 .0) (g .0 .1 .0) (sym (g .1) ∙ c .before .before .before .read-alone .ensures) in
+    omega arith
+
+returns-4 : tie.Need-returns-4
+unfolding storeDataAt namedBy
+returns-4 c = rw (← c .before .before .before .before .before .before .before .before .before .read-dgi .ensures) (rw (c .before .before .before .before .before .before .before .dgi .given .1) (ne! _ (omega arith) (rw (← c .before .before .before .before .read-alone .ensures) (rw (c .before .before .start .given .1) (eq! _ (omega arith) refl)))))
+
+returns-5 : tie.Need-returns-5
+unfolding storeDataAt namedBy
+returns-5 c = rw (← c .before .before .before .before .before .before .before .before .before .before .read-dgi .ensures) (rw (c .before .before .before .before .before .before .before .before .dgi .given .1) (ne! _ (omega arith) (rw (← c .before .before .before .before .before .read-alone .ensures) (rw (c .before .before .before .start .given .1) (ne! _ (omega arith) (eq! _ (omega arith) refl))))))
+
+returns-6 : tie.Need-returns-6
+unfolding storeDataAt namedBy
+returns-6 c = rw (← c .before .before .before .before .before .before .before .before .before .before .before .read-dgi .ensures) (rw (c .before .before .before .before .before .before .before .before .before .dgi .given .1) (ne! _ (omega arith) (rw (← c .before .before .before .before .before .before .read-alone .ensures) (rw (c .before .before .before .before .start .given .1) (ne! _ (omega arith) (ne! _ (omega arith) (eq! _ (omega arith) refl)))))))
+
+returns-7 : tie.Need-returns-7
+unfolding storeDataAt namedBy
+returns-7 c = rw (← c .before .before .before .before .before .before .before .before .before .before .before .read-dgi .ensures) (rw (c .before .before .before .before .before .before .before .before .before .dgi .given .1) (ne! _ (omega arith) (rw (← c .before .before .before .before .before .before .read-alone .ensures) (rw (c .before .before .before .before .start .given .1) (ne! _ (omega arith) (ne! _ (omega arith) (ne! _ (omega arith) refl)))))))
+
+pub read-store-data-spec : {M : Type 1} → statement M
+read-store-data-spec =
+    tie.close
+    (tie.spec
+    read-dgi-requires
+    enum-known-dgi
+    enum-told
+    returns
+    read-confirmation-requires
+    returns-2
+    read-alone-requires
+    enum-known-start
+    enum-told-2
+    returns-3
+    sub-len
+    returns-4
+    returns-5
+    returns-6
+    returns-7)

@@ -1,0 +1,33 @@
+-- Document 01, 'Reading a command': "Delete: 4F. Master delete: 4F, B6 with 42, 45, 5F20, 93, then 9E (Table 33), each at least 1 byte";
+-- the data field alone tells the two apart (000, Tables 20 and 33).
+use Prim.Native.Nat.{ℕ}
+use mathlib.Core.List.{List}
+use Rattle.tlv.specs.When.{when, eq?}
+use Rattle.tlv.specs.Tlv.{expectAt, onFound}
+use Rattle.fields.specs.Alone.{aloneAt, partOf}
+use Rattle.fields.specs.declared.Verification.{Verification}
+use Rattle.fields.specs.declared.Verification.the-variants as verification
+use Rattle.fields.specs.declared.Deletion.{Deletion}
+use Rattle.fields.specs.declared.Deletion.the-variants as deletion
+
+-- what B6 holds
+unfoldable pub verificationAt : List ℕ → ℕ → ℕ → Verification
+verificationAt s at end =
+    onFound (expectAt s at end 0x42 1 255) verification.Wrong λ _ first.
+    onFound (expectAt s first end 0x45 1 255) verification.Wrong λ _ second.
+    onFound (expectAt s second end 0x5F20 1 255) verification.Wrong λ _ third.
+    onFound (aloneAt s third end 0x93 1 255) verification.Wrong λ _ _.
+    verification.Filled
+
+abbrev pub onFilled {ℓ} : {X : Type ℓ} → Verification → X → X → X
+onFilled verification.Wrong w x = w
+onFilled verification.Filled w x = x
+
+unfoldable pub deletionAt : List ℕ → ℕ → ℕ → Deletion
+deletionAt s at end =
+    onFound (expectAt s at end 0x4F 5 16) deletion.Wrong λ start stop.
+    when (eq? stop end) (deletion.Delete (partOf start stop))
+    (onFound (expectAt s stop end 0xB6 0 255) deletion.Wrong λ from to.
+    onFilled (verificationAt s from to) deletion.Wrong
+    (onFound (aloneAt s to end 0x9E 1 255) deletion.Wrong λ _ _.
+    deletion.MasterDelete (partOf start stop)))

@@ -1,0 +1,56 @@
+-- Document 01, 'Reading a command': "GET STATUS: 4F of length 0 (all) or one AID (5 to 16 bytes); then optionally 5C listing any of 4F,
+-- 9F70, 53. Repeats count once; an empty list is allowed" (000, Table 27). With no 5C both optional tags are shown.
+use Prim.Native.Nat.{ℕ, zero, suc, _-_}
+use mathlib.Core.List.{List}
+use mathlib.Core.Bool.{Bool, true, false}
+use Rattle.tlv.specs.When.{when, le?, lt?, eq?}
+use Rattle.tlv.specs.Tlv.{tagAt, expectAt, onFound}
+use Rattle.tlv.specs.declared.TagRead.{TagRead}
+use Rattle.tlv.specs.declared.TagRead.the-variants as tag
+use Rattle.fields.specs.Alone.{aloneAt, partOf}
+use Rattle.fields.specs.declared.Tags.{Tags}
+use Rattle.fields.specs.declared.Tags.the-variants as tags
+use Rattle.fields.specs.declared.Listing.{Listing}
+use Rattle.fields.specs.declared.Listing.the-variants as listing
+
+-- one more listed tag
+unfoldable pub noted : ℕ → Bool → Bool → Tags
+noted t life fallBack =
+    when (eq? t 0x4F) (tags.Shown life fallBack)
+    (when (eq? t 0x9F70) (tags.Shown true fallBack)
+    (when (eq? t 0x53) (tags.Shown life true)
+    tags.Wrong))
+
+abbrev pub onTag {ℓ} : {X : Type ℓ} → TagRead → X → (ℕ → ℕ → X) → X
+onTag tag.Wrong w f = w
+onTag (tag.Tag t constructed next) w f = f t next
+
+abbrev pub onShown {ℓ} : {X : Type ℓ} → Tags → X → (Bool → Bool → X) → X
+onShown tags.Wrong w f = w
+onShown (tags.Shown life fallBack) w f = f life fallBack
+
+-- the tags listed from `at` up to `end`, after those seen so far; `n` counts down from the bytes left
+unfoldable pub listedWithin : ℕ → List ℕ → ℕ → ℕ → Bool → Bool → Tags
+listedWithin zero s at end life fallBack = tags.Shown life fallBack
+listedWithin (suc n) s at end life fallBack =
+    when (le? end at) (tags.Shown life fallBack)
+    (onTag (tagAt s at end) tags.Wrong λ t next.
+    onShown (noted t life fallBack) tags.Wrong λ l f.
+    listedWithin n s next end l f)
+
+unfoldable pub listedAt : List ℕ → ℕ → ℕ → Tags
+listedAt s at end = listedWithin (end - at) s at end false false
+
+unfoldable pub tagsAt : List ℕ → ℕ → ℕ → Tags
+tagsAt s at end =
+    when (eq? at end) (tags.Shown true true)
+    (onFound (aloneAt s at end 0x5C 0 255) tags.Wrong λ start stop.
+    listedAt s start stop)
+
+unfoldable pub listingAt : List ℕ → ℕ → ℕ → Listing
+listingAt s at end =
+    onFound (expectAt s at end 0x4F 0 16) listing.Wrong λ start stop.
+    onShown (tagsAt s stop end) listing.Wrong λ life fallBack.
+    when (eq? (stop - start) 0) (listing.All life fallBack)
+    (when (lt? (stop - start) 5) listing.Wrong
+    (listing.One (partOf start stop) life fallBack))

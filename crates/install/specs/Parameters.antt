@@ -1,0 +1,61 @@
+-- Document 01, 'Reading a command', 'Create': the install parameters. Which tags must or may stand is Table 10 of 000:
+-- C9 with 81 of two bytes, n times; then EF with one 83 of 2 or 4 bytes, which must be present.
+use Prim.Native.Nat.{ℕ, zero, suc, _+_, _-_, _*_, _≤_}
+use mathlib.Core.Path.{_≡_}
+use mathlib.Core.List.{List}
+use lib.ListN.{length}
+use Rattle.tlv.specs.When.{when, le?, lt?, eq?}
+use Rattle.tlv.specs.Tlv.{byte, expectAt, onFound}
+use Rattle.install.specs.declared.Protocols.{Protocols}
+use Rattle.install.specs.declared.Protocols.the-variants as protocols
+use Rattle.install.specs.declared.Quota.{Quota}
+use Rattle.install.specs.declared.Quota.the-variants as quota
+
+-- elements 81 of two bytes that fill the window; n counts down, from the bytes left or more
+unfoldable pub protocolsWithin : ℕ → List ℕ → ℕ → ℕ → Protocols
+protocolsWithin zero s at end = protocols.Listed
+protocolsWithin (suc n) s at end =
+    when (le? end at) protocols.Listed
+    (onFound (expectAt s at end 0x81 2 2) protocols.Wrong λ _ stop. protocolsWithin n s stop end)
+
+unfoldable pub protocolsAt : List ℕ → ℕ → ℕ → Protocols
+protocolsAt s at end = protocolsWithin (end - at) s at end
+
+abbrev pub onListed : Protocols → Quota → Quota
+onListed protocols.Wrong q = quota.Wrong
+onListed protocols.Listed q = q
+
+-- "high byte first"
+abbrev pub pairAt : List ℕ → ℕ → ℕ
+pairAt s at = byte s at * 256 + byte s (at + 1)
+
+-- "2 or 4 bytes"
+unfoldable pub numberAt : List ℕ → ℕ → ℕ → ℕ
+numberAt s start count = when (eq? count 2) (pairAt s start) (pairAt s start * 65536 + pairAt s (start + 2))
+
+-- so many bytes are there, and they are 2 or 4
+pub record Counted (s : List ℕ) (start count : ℕ) : Type 0 where
+  pub held : start + count ≤ length s
+  pub least : 2 ≤ count
+  pub most : count ≤ 4
+  pub notThree : count ≡ 3 → ⊥
+
+-- "1 up to capacity"
+unfoldable pub grantOf : ℕ → ℕ → Quota
+grantOf number capacity = when (eq? number 0) quota.Wrong (when (lt? capacity number) quota.Wrong (quota.Granted number))
+
+-- the cumulative granted non-volatile memory, alone in its window
+unfoldable pub memoryAt : List ℕ → ℕ → ℕ → ℕ → Quota
+memoryAt s at end capacity =
+    onFound (expectAt s at end 0x83 2 4) quota.Wrong λ start stop.
+    when (eq? stop end)
+    (when (eq? (stop - start) 3) quota.Wrong (grantOf (numberAt s start (stop - start)) capacity))
+    quota.Wrong
+
+-- C9, then EF, and nothing after
+unfoldable pub parametersAt : List ℕ → ℕ → ℕ → ℕ → Quota
+parametersAt s at end capacity =
+    onFound (expectAt s at end 0xC9 1 255) quota.Wrong λ start stop.
+    onListed (protocolsAt s start stop)
+    (onFound (expectAt s stop end 0xEF 0 255) quota.Wrong λ from to.
+    when (eq? to end) (memoryAt s from to capacity) quota.Wrong)

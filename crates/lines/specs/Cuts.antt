@@ -1,0 +1,70 @@
+-- What a reader that drives the window gets: before each read it takes the lines that have arrived, then keeps what is left, and
+-- the read goes behind it; when the input has ended it takes what is left.
+use Prim.Native.Nat.{ℕ, zero, suc, _+_, _≤_}
+use mathlib.Core.List.{List, [], _∷_, _++_, flatten}
+use mathlib.Core.Path.{_≡_}
+use mathlib.Core.Bool.{Bool, true, false}
+use lib.ListN.{length}
+use Rattle.text.specs.Words.{part, before}
+use Rattle.text.specs.Put.{put}
+use Rattle.lines.specs.Lines.{Line, linesOf}
+use Rattle.lines.specs.Lines as line
+use Rattle.lines.specs.Window.{nextOf, freshWindow, heldOf, keptOf, grownOf}
+use Rattle.lines.specs.declared.Window.{Window}
+use Rattle.lines.specs.declared.Found.{Found}
+use Rattle.lines.specs.declared.Found.the-variants as found
+
+-- the line that a step found, as its bytes lie in the buffer
+abbrev pub handed : List ℕ → Found → List Line
+handed buf (found.Line from to) = line.Whole (part buf from to) ∷ []
+handed buf found.TooLong = line.TooLong ∷ []
+handed buf found.More = []
+handed buf found.End = []
+
+-- the lines of so many steps, and the window after them. A step after `More` or `End` finds the same again
+unfoldable pub drained : ℕ → Bool → Window → List ℕ → List Line
+drained zero last w buf = []
+drained (suc n) last w buf = handed buf (nextOf w buf last .found) ++ drained n last (nextOf w buf last .window) buf
+
+unfoldable pub drainedTo : ℕ → Bool → Window → List ℕ → Window
+drainedTo zero last w buf = w
+drainedTo (suc n) last w buf = drainedTo n last (nextOf w buf last .window) buf
+
+-- the buffer and the window after bytes were read behind what was kept
+abbrev pub readBuffer : Window → List ℕ → List ℕ → List ℕ
+readBuffer w buf bytes = put (put buf 0 (heldOf w buf)) (length (heldOf w buf)) bytes
+
+abbrev pub readWindow : Window → List ℕ → List ℕ → Window
+readWindow w buf bytes = grownOf (keptOf w buf) (length bytes) (length buf)
+
+-- a step hands out at least a byte, so a step a byte is enough
+abbrev pub steps : List ℕ → ℕ
+steps buf = suc (length buf)
+
+-- the lines that come out where the input comes in by these reads
+unfoldable pub linesBy : Window → List ℕ → List (List ℕ) → List Line
+linesBy w buf [] = drained (steps buf) true w buf
+linesBy w buf (bytes ∷ reads) =
+    drained (steps buf) false w buf
+    ++ linesBy (readWindow (drainedTo (steps buf) false w buf) buf bytes) (readBuffer (drainedTo (steps buf) false w buf) buf bytes) reads
+
+-- every read has at most so many bytes
+pub data AtMost (n : ℕ) : List (List ℕ) → Type 0 where
+  none : AtMost n []
+  one : {bytes : List ℕ} {reads : List (List ℕ)} → length bytes ≤ n → AtMost n reads → AtMost n (bytes ∷ reads)
+
+-- however an input is cut into reads, the lines that come out are those that its bytes say. The buffer has room for a read beside
+-- the 4,096 bytes that may be kept
+abbrev pub AnyCut : Type 0
+AnyCut =
+    (n : ℕ) (buf : List ℕ) (reads : List (List ℕ)) → AtMost n reads → n + 4096 ≤ length buf → linesBy freshWindow buf reads ≡ linesOf (flatten reads)
+
+-- a step waits only where no line end has arrived and more may come, and ends only where nothing is left and nothing comes
+abbrev pub Settled : Bool → Found → List ℕ → Type 0
+Settled last (found.Line from to) held = Unit {0}
+Settled last found.TooLong held = Unit {0}
+Settled last found.More held = (last ≡ false) × (before 10 held ≡ length held)
+Settled last found.End held = (last ≡ true) × (held ≡ [])
+
+abbrev pub AnswersAtOnce : Type 0
+AnswersAtOnce = (w : Window) (buf : List ℕ) (last : Bool) → Settled last (nextOf w buf last .found) (heldOf (nextOf w buf last .window) buf)

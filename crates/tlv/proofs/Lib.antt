@@ -1,0 +1,9 @@
+-- The laws of what is read.
+pub mod Branches
+pub mod Inside
+pub mod Counts
+pub mod Fills
+pub mod Examples
+pub mod Windows
+pub mod Written
+pub mod ReadBack

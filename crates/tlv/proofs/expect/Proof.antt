@@ -1,0 +1,57 @@
+use Rattle.tlv.proofs.Inside.{head-inside}
+use Rattle.tlv.specs.Tlv.{expectAt}
+use Rattle.tlv.proofs.Branches.{lt!, nlt!, eq!, ne! }
+use mathlib.Core.Path.{refl, sym, _∙_}
+use native.Mathlib.Omega.{arith}
+use borrow.Author.Needs.{needs}
+use Rattle.tlv.proofs.expect.Statement.{statement}
+use Rattle.tlv.proofs.expect.Tie as tie
+
+read-head-requires : tie.Need-read-head-requires
+read-head-requires c κs = search needs
+
+enum-known-found : tie.Need-enum-known-found
+enum-known-found c = search needs
+
+enum-told : tie.Need-enum-told
+enum-told c = search needs
+
+returns : tie.Need-returns
+unfolding expectAt
+returns c = rw (← c .before .before .read-head .ensures) (rw (c .enum-told .given .1) refl)
+
+returns-2 : tie.Need-returns-2
+unfolding expectAt
+returns-2 c = rw (← c .before .before .before .before .read-head .ensures) (rw (c .before .before .found .given .1) (ne! _ (omega arith) refl))
+
+sub-count : tie.Need-sub-count
+sub-count c =
+    let g = c .before .before .found .given in
+    let i = head-inside _ _ _ (g .0 .0) (g .0 .1 .0) (g .0 .1 .1 .0) (g .0 .1 .1 .1 .0) (sym (g .1) ∙ c .before .before .before .before .read-head .ensures) in
+    omega arith
+
+returns-3 : tie.Need-returns-3
+unfolding expectAt
+returns-3 c = rw (← c .before .before .before .before .before .read-head .ensures) (rw (c .before .before .before .found .given .1) (eq! _ (omega arith) (lt! _ (omega arith) refl)))
+
+returns-4 : tie.Need-returns-4
+unfolding expectAt
+returns-4 c = rw (← c .before .before .before .before .before .before .read-head .ensures) (rw (c .before .before .before .before .found .given .1) (eq! _ (omega arith) (nlt! _ (omega arith) (lt! _ (omega arith) refl))))
+
+returns-5 : tie.Need-returns-5
+unfolding expectAt
+returns-5 c = rw (← c .before .before .before .before .before .before .read-head .ensures) (rw (c .before .before .before .before .found .given .1) (eq! _ (omega arith) (nlt! _ (omega arith) (nlt! _ (omega arith) refl))))
+
+pub expect-spec : {M : Type 1} → statement M
+expect-spec =
+    tie.close
+    (tie.spec
+    read-head-requires
+    enum-known-found
+    enum-told
+    returns
+    returns-2
+    sub-count
+    returns-3
+    returns-4
+    returns-5)

@@ -1,0 +1,6 @@
+-- Document 01, 'Reading a command': the TLV forms.
+pub mod When
+pub mod Tlv
+pub mod Lists
+pub mod Filled
+pub mod Encoding
