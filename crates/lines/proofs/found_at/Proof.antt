@@ -1,0 +1,21 @@
+use native.Mathlib.Omega.{arith}
+use mathlib.Core.Path.{refl}
+use Rattle.lines.specs.Window.{found}
+use Rattle.text.proofs.Branches.{lt!, nlt! }
+use borrow.Author.Needs.{needs}
+use Rattle.lines.proofs.found_at.Statement.{statement}
+use Rattle.lines.proofs.found_at.Tie as tie
+
+sub-if1 : tie.Need-sub-if1
+sub-if1 c = search needs
+
+returns : tie.Need-returns
+unfolding found
+returns c = lt! _ (omega arith) refl
+
+returns-2 : tie.Need-returns-2
+unfolding found
+returns-2 c = nlt! _ (omega arith) refl
+
+pub found-at-spec : {M : Type 1} → statement M
+found-at-spec = tie.close (tie.spec sub-if1 returns returns-2)

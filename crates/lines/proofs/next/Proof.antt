@@ -1,0 +1,30 @@
+use Prim.Native.Nat.{ℕ}
+use mathlib.Core.List.{List}
+use Rattle.lines.specs.Window.{stepOf}
+use mathlib.Core.Path.{_≡_, sym, ap, _∙_}
+use Prim.Native.Nat.{_≤_}
+use lib.ListN.{length, take}
+use lib.Seq.{length-take-le}
+use Rattle.lines.proofs.WindowLaws.{take-least}
+use borrow.Author.Needs.{needs}
+use Rattle.lines.proofs.next.Statement.{statement}
+use Rattle.lines.proofs.next.Tie as tie
+
+least-requires : tie.Need-least-requires
+least-requires c κs = search needs
+
+slice-aggregate-step-from : tie.Need-slice-aggregate-step-from
+slice-aggregate-step-from c = let h : c .before .least .result ≤ length (c .before .before .before .args .buf .now) = search needs in sym (length-take-le _ _ h)
+
+step-from-requires : tie.Need-step-from-requires
+step-from-requires c κs = search needs
+
+returns : tie.Need-returns
+returns c =
+    let w = c .before .before .before .before .args in
+    let e : take (c .before .before .least .result) (w .buf .now) ≡ take (w .window .end) (w .buf .now) = rw (c .before .before .least .ensures) (take-least (w .window .end) (w .buf .now)) in
+    c .step-from .ensures ∙ ap (λ (s : List ℕ). stepOf s (w .window .at) (w .window .skipping) (w .last)) e
+
+pub next-spec : {M : Type 1} → statement M
+next-spec =
+    tie.close (tie.spec least-requires slice-aggregate-step-from step-from-requires returns)

@@ -1,0 +1,120 @@
+-- Laws of hex. Those on a loop take its equation first, so that a proof finds the numbers by it; then they say which way the next
+-- pair of digits, or the end, decides.
+use mathlib.Core.Path.{_≡_, refl, ap, sym, _∙_}
+use Prim.Native.Nat.{ℕ, suc, _+_, _-_, _/_, _≤_, _<_}
+use native.Mathlib.Omega.{arith}
+use mathlib.Core.List.{List, [], _∷_}
+use mathlib.Core.Bool.{Bool, true, false}
+use lib.ListN.{length, getD, set, drop, drop-of-length-le, length-drop}
+use lib.Seq.{drop-cons}
+use Rattle.text.specs.When.{when, lt?}
+use Rattle.text.specs.Words.{sameOf}
+use Rattle.text.specs.Hex.{nibbleOf, pairsOf, isHex, byteOf, spelled, hexByteOf, hexReadOf, hexLeft, hexText, hexWord}
+use Rattle.text.specs.declared.hex.Byte.the-variants as byte
+use Rattle.text.specs.declared.hex.HexRead.the-variants.{Bytes, NoRoom, Wrong}
+use Rattle.text.specs.Put.{put}
+use Rattle.text.proofs.Branches.{yes!, no!, lt!, nlt! }
+use Rattle.text.proofs.PutLaws.{put-none, put-cons}
+use Rattle.text.proofs.Rest.{rest, rest-one, rest-two, rest-end}
+
+module _ (s : List ℕ) (i : ℕ) (o : Bool) (q : pairsOf (rest s i) ≡ o) where
+  pub pairs-end : length s ≤ i → true ≡ o
+  unfolding pairsOf
+  pairs-end h = rw (rest-end s i h) at q
+
+  pub pairs-odd : i < length s → length s - i < 2 → false ≡ o
+  unfolding pairsOf
+  pairs-odd h k = rw (← q, rest-one s i h, rest-end s (i + 1) (omega arith)) refl
+
+  module _ (h : i + 1 < length s) where
+    pub pairs-first : 15 < nibbleOf (getD s i 0) → false ≡ o
+    unfolding pairsOf
+    pairs-first k = rw (← q, rest-two s i h) (lt! _ k refl)
+
+    module _ (k : nibbleOf (getD s i 0) ≤ 15) where
+      pub pairs-second : 15 < nibbleOf (getD s (i + 1) 0) → false ≡ o
+      unfolding pairsOf
+      pairs-second l = rw (← q, rest-two s i h) (nlt! _ k (lt! _ l refl))
+
+      pub pairs-next : nibbleOf (getD s (i + 1) 0) ≤ 15 → pairsOf (rest s (i + 2)) ≡ o
+      unfolding pairsOf
+      pairs-next l = rw (← q, rest-two s i h) (nlt! _ k (nlt! _ l refl))
+
+-- two digits a byte, and half a pair none
+pub spelled-length : (s : List ℕ) → length (spelled s) ≡ length s / 2
+unfolding spelled
+spelled-length [] = refl
+spelled-length (a ∷ []) = refl
+spelled-length (a ∷ b ∷ r) = let e = spelled-length r in omega arith
+
+none-of : (l : List ℕ) → length l ≤ 1 → spelled l ≡ []
+unfolding spelled
+none-of [] h = refl
+none-of (a ∷ []) h = refl
+none-of (a ∷ b ∷ r) h = absurd (omega arith)
+
+module _ (s : List ℕ) (i k : ℕ) (l o : List ℕ) (q : put l k (spelled (rest s i)) ≡ o) where
+  pub spell-next : (v : ℕ) → v ≡ byteOf (getD s i 0) (getD s (i + 1) 0) → i + 1 < length s → put (set l k v) (k + 1) (spelled (rest s (i + 2))) ≡ o
+  unfolding spelled
+  spell-next v e h = sym (put-cons l k v (spelled (rest s (i + 2)))) ∙ ap (λ (u : ℕ). put l k (u ∷ spelled (rest s (i + 2)))) e ∙ (rw (rest-two s i h) at q)
+
+  pair-none : length s ≤ i + 1 → spelled (rest s i) ≡ []
+  unfolding rest
+  pair-none h = none-of (drop i s) (simp length-drop (omega arith))
+
+  pub spell-end : length s ≤ i + 1 → l ≡ o
+  spell-end h = sym (put-none l k) ∙ ap (put l k) (sym (pair-none h)) ∙ q
+
+-- two digits that are a byte
+pub byte-not : (s : List ℕ) → (length s ≡ 2 → ⊥) → byte.Wrong ≡ hexByteOf s
+unfolding hexByteOf
+byte-not [] h = refl
+byte-not (a ∷ []) h = refl
+byte-not (a ∷ b ∷ []) h = absurd (h refl)
+byte-not (a ∷ b ∷ c ∷ r) h = refl
+
+pub byte-two : (s : List ℕ) → length s ≡ 2
+    → hexByteOf s ≡ when (lt? 15 (nibbleOf (getD s 0 0))) byte.Wrong (when (lt? 15 (nibbleOf (getD s 1 0))) byte.Wrong (byte.Value (byteOf (getD s 0 0) (getD s 1 0))))
+unfolding hexByteOf
+byte-two [] h = absurd (omega arith)
+byte-two (a ∷ []) h = absurd (omega arith)
+byte-two (a ∷ b ∷ []) h = refl
+byte-two (a ∷ b ∷ c ∷ r) h = absurd (omega arith)
+
+-- a byte string, where some text stands
+pub hex-none : (s : List ℕ) → length s ≡ 0 → false ≡ isHex s
+unfolding isHex
+hex-none [] h = refl
+hex-none (c ∷ cs) h = absurd (omega arith)
+
+pub hex-some : (s : List ℕ) → (length s ≡ 0 → ⊥) → isHex s ≡ when (sameOf s (45 ∷ [])) true (pairsOf s)
+unfolding isHex
+hex-some [] h = absurd (h refl)
+hex-some (c ∷ cs) h = refl
+
+-- the three answers of reading, and what each leaves
+module _ (s : List ℕ) (room : ℕ) where
+  pub hex-fits : isHex s ≡ true → length s / 2 ≤ room → (Bytes (length s / 2) ≡ hexReadOf s room) × (spelled s ≡ hexLeft s room)
+  unfolding hexReadOf hexLeft
+  hex-fits e h =
+      let k : length (spelled s) ≤ room = rw (spelled-length s) h in
+      (yes! _ e (nlt! _ k (ap Bytes (sym (spelled-length s)))), yes! _ e (nlt! _ k refl))
+
+  pub hex-full : isHex s ≡ true → room < length s / 2 → (NoRoom ≡ hexReadOf s room) × ([] ≡ hexLeft s room)
+  unfolding hexReadOf hexLeft
+  hex-full e h = let k : room < length (spelled s) = rw (spelled-length s) h in (yes! _ e (lt! _ k refl), yes! _ e (lt! _ k refl))
+
+  pub hex-wrong : isHex s ≡ false → (Wrong ≡ hexReadOf s room) × ([] ≡ hexLeft s room)
+  unfolding hexReadOf hexLeft
+  hex-wrong e = (no! _ e refl, no! _ e refl)
+
+-- a byte string as a word
+pub word-none : (s : List ℕ) → length s ≡ 0 → 45 ∷ [] ≡ hexWord s
+unfolding hexWord
+word-none [] h = refl
+word-none (b ∷ bs) h = absurd (omega arith)
+
+pub word-some : (s : List ℕ) → (length s ≡ 0 → ⊥) → hexText s ≡ hexWord s
+unfolding hexWord
+word-some [] h = absurd (h refl)
+word-some (b ∷ bs) h = refl

@@ -1,0 +1,7 @@
+-- Laws that several proofs cite, here and in the crates above.
+pub mod Branches
+pub mod Rest
+pub mod WordLaws
+pub mod NumberLaws
+pub mod HexLaws
+pub mod PutLaws

@@ -1,0 +1,23 @@
+use native.Mathlib.Omega.{arith}
+use Rattle.text.proofs.PutLaws.{wrote-store, wrote-past}
+use borrow.Author.Needs.{needs}
+use Rattle.text.proofs.writing.put_byte.Statement.{statement}
+use Rattle.text.proofs.writing.put_byte.Tie as tie
+
+slice-write-buf : tie.Need-slice-write-buf
+slice-write-buf c = search needs
+
+add-result : tie.Need-add-result
+add-result c = search needs
+
+same-length : tie.Need-same-length
+same-length c = search needs
+
+returns : tie.Need-returns
+returns c = wrote-store _ _ _ (omega arith)
+
+returns-2 : tie.Need-returns-2
+returns-2 c = wrote-past _ _ _ (omega arith)
+
+pub put-byte-spec : {M : Type 1} → statement M
+put-byte-spec = tie.close (tie.spec slice-write-buf add-result same-length returns returns-2)

@@ -1,0 +1,27 @@
+// Text in bytes: the words of a line, the numbers and byte strings that they spell, and the same written into a lent buffer.
+// Every function is total, and its contract gives its whole answer and what it leaves in the buffer.
+mod hex;
+mod numbers;
+mod words;
+mod writing;
+
+pub use hex::Byte;
+pub use hex::HexRead;
+pub use hex::hex_byte;
+pub use hex::is_hex;
+pub use hex::read_hex;
+pub use numbers::Number;
+pub use numbers::decimal;
+pub use words::Word;
+pub use words::next_field;
+pub use words::next_word;
+pub use words::past;
+pub use words::same;
+pub use words::until;
+pub use writing::put_byte;
+pub use writing::put_bytes;
+pub use writing::put_decimal;
+pub use writing::put_hex;
+pub use writing::put_hex_8;
+pub use writing::put_hex_16;
+pub use writing::put_hex_word;

@@ -1,0 +1,104 @@
+// Text written into a lent buffer from a place on. What does not fit is dropped; the answer is the place after what was written,
+// so that one writer goes on where another ended, and a text that reaches the buffer's end stays there.
+ghost use mathlib.Core.Path.{_≡_};
+ghost use mathlib.Core.List.{_∷_, []};
+ghost use Prim.Native.Nat.{_/_, _%_};
+ghost use Rattle.text.specs.Put.{Wrote};
+ghost use Rattle.text.specs.Numbers.{digitsText, decimalText};
+ghost use Rattle.text.specs.Hex.{glyphOf, hexText, hexWord};
+
+pub fn put_byte(buf: &mut [u8], at: usize, byte: u8) -> usize
+    ensures { λ r. ⌜ Wrote (now (buf .entry)) at (byte ∷ []) r (now (buf .exit)) ⌝ }
+{
+    if at < buf.len() {
+        buf[at] = byte;
+        return at + 1;
+    }
+    at
+}
+
+// A byte string as it stands.
+pub fn put_bytes(buf: &mut [u8], at: usize, text: &[u8]) -> usize
+    ensures { λ r. ⌜ Wrote (now (buf .entry)) at (now (text .entry)) r (now (buf .exit)) ⌝ }
+{
+    let mut i = 0;
+    let mut k = at;
+    while i < text.len() {
+        k = put_byte(buf, k, text[i]);
+        i += 1;
+    }
+    k
+}
+
+// The hex digit of the low four bits.
+fn glyph(n: u8) -> u8
+    ensures { λ r. ⌜ r ≡ glyphOf n ⌝ }
+{
+    let d = n % 16;
+    if d < 10 {
+        return 48 + d;
+    }
+    55 + d
+}
+
+// A byte as two hex digits.
+pub fn put_hex_8(buf: &mut [u8], at: usize, n: u8) -> usize
+    ensures { λ r. ⌜ Wrote (now (buf .entry)) at (hexText (n ∷ [])) r (now (buf .exit)) ⌝ }
+{
+    let k = put_byte(buf, at, glyph(n / 16));
+    put_byte(buf, k, glyph(n))
+}
+
+// A number of 16 bits as four hex digits.
+pub fn put_hex_16(buf: &mut [u8], at: usize, n: u16) -> usize
+    ensures { λ r. ⌜ Wrote (now (buf .entry)) at (hexText (n / 256 ∷ n % 256 ∷ [])) r (now (buf .exit)) ⌝ }
+{
+    let high = (n / 256) as u8;
+    let low = (n % 256) as u8;
+    let k = put_hex_8(buf, at, high);
+    put_hex_8(buf, k, low)
+}
+
+// A byte string in hex, two digits a byte.
+pub fn put_hex(buf: &mut [u8], at: usize, s: &[u8]) -> usize
+    ensures { λ r. ⌜ Wrote (now (buf .entry)) at (hexText (now (s .entry))) r (now (buf .exit)) ⌝ }
+{
+    let mut i = 0;
+    let mut k = at;
+    while i < s.len() {
+        k = put_hex_8(buf, k, s[i]);
+        i += 1;
+    }
+    k
+}
+
+// The same as a word: `-` where there is no byte.
+pub fn put_hex_word(buf: &mut [u8], at: usize, s: &[u8]) -> usize
+    ensures { λ r. ⌜ Wrote (now (buf .entry)) at (hexWord (now (s .entry))) r (now (buf .exit)) ⌝ }
+{
+    if s.len() == 0 {
+        return put_byte(buf, at, b'-');
+    }
+    put_hex(buf, at, s)
+}
+
+// The last `left + 1` digits of a number at the most, and no zeros in front.
+fn put_digits(buf: &mut [u8], at: usize, n: u64, left: usize) -> usize
+    ensures { λ r. ⌜ Wrote (now (buf .entry)) at (digitsText left n) r (now (buf .exit)) ⌝ }
+{
+    let last = 48 + (n % 10) as u8;
+    if n < 10 {
+        return put_byte(buf, at, last);
+    }
+    if left == 0 {
+        return put_byte(buf, at, last);
+    }
+    let k = put_digits(buf, at, n / 10, left - 1);
+    put_byte(buf, k, last)
+}
+
+pub fn put_decimal(buf: &mut [u8], at: usize, n: u64) -> usize
+    ensures { λ r. ⌜ Wrote (now (buf .entry)) at (decimalText n) r (now (buf .exit)) ⌝ }
+{
+    put_digits(buf, at, n, 19)
+}
