@@ -1,0 +1,2 @@
+-- Laws that several proofs cite, here and in the crates above.
+pub mod Rows

@@ -1,0 +1,15 @@
+use Rattle.responses.proofs.mark_of.Statement.{statement}
+use Rattle.responses.proofs.mark_of.Tie as tie
+use Rattle.responses.proofs.mark_of.Reads as reads
+use Rattle.responses.proofs.mark_of.Lts as lts
+
+-- src/lib.rt:77:9
+returns : tie.Need-returns
+returns c = ?
+
+-- src/lib.rt:73:1
+returns-2 : tie.Need-returns-2
+returns-2 c = ?
+
+pub mark-of-spec : {M : Type 1} → statement M
+mark-of-spec = tie.close (tie.spec returns returns-2)
