@@ -26,7 +26,7 @@ abbrev pub markElement : ℕ → List ℕ
 markElement mark = 0x53 ∷ 1 ∷ mark ∷ []
 
 abbrev pub markOf : ℕ → ℕ → ℕ
-markOf fallback place = cond (eqb place fallback) 1 0
+markOf holder place = cond (eqb place holder) 1 0
 
 -- "4F is always there and the others if listed"
 abbrev pub listed : Bool → List ℕ → List ℕ
@@ -34,30 +34,30 @@ listed asked bytes = cond asked bytes []
 
 -- what E3 holds of a place
 unfoldable pub statusBody : Isdp → ℕ → Bool → Bool → List ℕ
-statusBody p mark life fallBack =
-    aidElement (aidOf p) ++ (listed life (lifeElement (p .life)) ++ listed fallBack (markElement mark))
+statusBody p mark life fallback =
+    aidElement (aidOf p) ++ (listed life (lifeElement (p .life)) ++ listed fallback (markElement mark))
 
 unfoldable pub statusRow : Isdp → ℕ → Bool → Bool → List ℕ
-statusRow p mark life fallBack =
-    0xE3 ∷ length (statusBody p mark life fallBack) ∷ statusBody p mark life fallBack
+statusRow p mark life fallback =
+    0xE3 ∷ length (statusBody p mark life fallback) ∷ statusBody p mark life fallback
 
 -- a place that is not held has no row
 unfoldable pub rowOf : Isdp → ℕ → Bool → Bool → List ℕ
-rowOf p mark life fallBack = cond (held p) (statusRow p mark life fallBack) []
+rowOf p mark life fallback = cond (held p) (statusRow p mark life fallback) []
 
 -- the rows of these places, the first of which has the number `place`
 unfoldable pub rowsFrom : ℕ → ℕ → Bool → Bool → List Isdp → List ℕ
-rowsFrom fallback place life fallBack [] = []
-rowsFrom fallback place life fallBack (p ∷ ps) =
-    rowOf p (markOf fallback place) life fallBack ++ rowsFrom fallback (suc place) life fallBack ps
+rowsFrom holder place life fallback [] = []
+rowsFrom holder place life fallback (p ∷ ps) =
+    rowOf p (markOf holder place) life fallback ++ rowsFrom holder (suc place) life fallback ps
 
 -- GET STATUS of all: "for each place from the lowest"
 unfoldable pub statusResponse : Card → Bool → Bool → List ℕ
-statusResponse c life fallBack = rowsFrom (c .fallback) 0 life fallBack (c .places)
+statusResponse c life fallback = rowsFrom (c .fallback) 0 life fallback (c .places)
 
 -- GET STATUS of one AID, held at this place
 unfoldable pub oneStatus : Card → ℕ → Bool → Bool → List ℕ
-oneStatus c place life fallBack = rowOf (at (c .places) place) (markOf (c .fallback) place) life fallBack
+oneStatus c place life fallback = rowOf (at (c .places) place) (markOf (c .fallback) place) life fallback
 
 -- four bytes, high byte first
 abbrev pub fourBytes : ℕ → List ℕ

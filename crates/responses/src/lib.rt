@@ -70,79 +70,86 @@ fn write_mark(mark: u8, asked: bool, buf: &mut [u8], at: usize) -> usize
     at
 }
 
-fn mark_of(fallback: usize, place: usize) -> u8
-    ensures { λ r. ⌜ r ≡ markOf fallback place ⌝ }
+fn mark_of(holder: usize, place: usize) -> u8
+    ensures { λ r. ⌜ r ≡ markOf holder place ⌝ }
 {
-    if place == fallback {
+    if place == holder {
         return 1;
     }
     0
 }
 
 // The bytes that the elements asked for take.
-fn listed_size(life: bool, fall_back: bool) -> u8
-    ensures { λ r. ⌜ r ≡ cond life 4 0 + cond fall_back 3 0 ⌝ }
+fn listed_size(life: bool, fallback: bool) -> u8
+    ensures { λ r. ⌜ r ≡ cond life 4 0 + cond fallback 3 0 ⌝ }
 {
     if life {
-        if fall_back {
+        if fallback {
             return 7;
         }
         return 4;
     }
-    if fall_back {
+    if fallback {
         return 3;
     }
     0
 }
 
-fn write_row(p: Isdp, mark: u8, life: bool, fall_back: bool, buf: &mut [u8], at: usize) -> usize
-    ensures { λ r. ⌜ Wrote (now (buf .entry)) at (statusRow p mark life fall_back) r (now (buf .exit)) ⌝ }
+fn write_row(p: Isdp, mark: u8, life: bool, fallback: bool, buf: &mut [u8], at: usize) -> usize
+    ensures { λ r. ⌜ Wrote (now (buf .entry)) at (statusRow p mark life fallback) r (now (buf .exit)) ⌝ }
 {
     let n = held_bytes(p.len);
-    let listed = listed_size(life, fall_back);
+    let listed = listed_size(life, fallback);
     let size = n as u8 + 2 + listed;
     let head = [0xE3, size];
     let body = put_bytes(buf, at, &head);
     let bytes = p.aid;
     let state = write_aid(bytes, p.len, buf, body);
     let last = write_life(p.life, life, buf, state);
-    write_mark(mark, fall_back, buf, last)
+    write_mark(mark, fallback, buf, last)
 }
 
 // A place that is not held has no row.
-fn write_place(p: Isdp, mark: u8, life: bool, fall_back: bool, buf: &mut [u8], at: usize) -> usize
-    ensures { λ r. ⌜ Wrote (now (buf .entry)) at (rowOf p mark life fall_back) r (now (buf .exit)) ⌝ }
+fn write_place(p: Isdp, mark: u8, life: bool, fallback: bool, buf: &mut [u8], at: usize) -> usize
+    ensures { λ r. ⌜ Wrote (now (buf .entry)) at (rowOf p mark life fallback) r (now (buf .exit)) ⌝ }
 {
     if p.len == 0 {
         return at;
     }
-    write_row(p, mark, life, fall_back, buf, at)
+    write_row(p, mark, life, fallback, buf, at)
 }
 
 // GET STATUS of all.
-pub fn write_status(card: Card, life: bool, fall_back: bool, buf: &mut [u8], at: usize) -> usize
-    ensures { λ r. ⌜ Wrote (now (buf .entry)) at (statusResponse card life fall_back) r (now (buf .exit)) ⌝ }
+pub fn write_status(card: Card, life: bool, fallback: bool, buf: &mut [u8], at: usize) -> usize
+    ensures { λ r. ⌜ Wrote (now (buf .entry)) at (statusResponse card life fallback) r (now (buf .exit)) ⌝ }
 {
     let places = card.places;
-    let fallback = card.fallback;
+    let holder = card.fallback;
     let mut i = 0;
     let mut k = at;
     while i < PLACES {
         let p = places[i];
-        let mark = mark_of(fallback, i);
-        k = write_place(p, mark, life, fall_back, buf, k);
+        let mark = mark_of(holder, i);
+        k = write_place(p, mark, life, fallback, buf, k);
         i += 1;
     }
     k
 }
 
 // GET STATUS of the profile at a place.
-pub fn write_one_status(card: Card, place: usize, life: bool, fall_back: bool, buf: &mut [u8], at: usize) -> usize
-    ensures { λ r. ⌜ Wrote (now (buf .entry)) at (oneStatus card place life fall_back) r (now (buf .exit)) ⌝ }
+pub fn write_one_status(
+    card: Card,
+    place: usize,
+    life: bool,
+    fallback: bool,
+    buf: &mut [u8],
+    at: usize,
+) -> usize
+    ensures { λ r. ⌜ Wrote (now (buf .entry)) at (oneStatus card place life fallback) r (now (buf .exit)) ⌝ }
 {
     let p = card.profile(place);
     let mark = mark_of(card.fallback, place);
-    write_place(p, mark, life, fall_back, buf, at)
+    write_place(p, mark, life, fallback, buf, at)
 }
 
 // Four bytes, high byte first.

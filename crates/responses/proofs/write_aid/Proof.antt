@@ -50,7 +50,7 @@ same-length c = search needs
 returns : tie.Need-returns
 returns c = let s = c .before .before .before .before .before .before .before .before .before .before .before .before in
     let n : length (s .args .t1) ≡ 16 = search needs in
-    wrote-as _ (aid-element (s .args .t1) (s .args .len) _ n (c .before .before .before .before .before .before .before .before .before .before .held-bytes .ensures)) (wrote-then (c .before .before .before .before .before .put-bytes .ensures) (c .before .before .put-bytes2 .ensures))
+    wrote-as _ (aid-element (s .args .t1) (s .args .len) _ n (c .before .before .before .before .before .before .before .before .before .before .held-bytes .ensures)) (wrote-then (c .before .before .before .before .before .before .before .put-bytes .ensures) (c .before .before .put-bytes2 .ensures))
 
 pub write-aid-spec : {M : Type 1} → statement M
 write-aid-spec =

@@ -20,11 +20,11 @@ same-length c = search needs
 
 -- src/lib.rt:57:9
 returns : tie.Need-returns
-returns c = rw (c .before .before .before .before .before .before .if1 .taken) (c .before .before .put-bytes .ensures)
+returns c = rw (c .before .before .before .before .before .if1 .taken) (c .before .before .put-bytes .ensures)
 
 -- src/lib.rt:52:1
 returns-2 : tie.Need-returns-2
-returns-2 c = rw (c .before .if1 .left) (wrote-none _ _)
+returns-2 c = rw (c .if1 .left) (wrote-none _ _)
 
 pub write-life-spec : {M : Type 1} → statement M
 write-life-spec =

@@ -20,11 +20,11 @@ same-length c = search needs
 
 -- src/lib.rt:67:9
 returns : tie.Need-returns
-returns c = rw (c .before .before .before .before .before .before .if1 .taken) (c .before .before .put-bytes .ensures)
+returns c = rw (c .before .before .before .before .before .if1 .taken) (c .before .before .put-bytes .ensures)
 
 -- src/lib.rt:62:1
 returns-2 : tie.Need-returns-2
-returns-2 c = rw (c .before .if1 .left) (wrote-none _ _)
+returns-2 c = rw (c .if1 .left) (wrote-none _ _)
 
 pub write-mark-spec : {M : Type 1} → statement M
 write-mark-spec =
