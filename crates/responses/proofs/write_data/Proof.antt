@@ -1,3 +1,5 @@
+use Rattle.text.proofs.PutLaws.{wrote-as, wrote-then}
+use Rattle.responses.proofs.Rows.{data-bytes}
 use borrow.Author.Needs.{needs}
 use Rattle.responses.proofs.write_data.Statement.{statement}
 use Rattle.responses.proofs.write_data.Tie as tie
@@ -46,7 +48,7 @@ same-length c = search needs
 
 -- src/lib.rt:161:1
 returns : tie.Need-returns
-returns c = ?
+returns c = wrote-as _ (data-bytes _ _ _ (c .before .before .before .before .before .before .before .before .before .before .before .before .before .before .before .before .before .before .before .count-held .ensures) (c .before .before .before .before .before .before .before .before .before .before .before .before .before .before .before .before .before .before .free .ensures)) (wrote-then (wrote-then (wrote-then (c .before .before .before .before .before .before .before .before .before .before .before .before .before .before .before .put-bytes .ensures) (c .before .before .before .before .before .before .before .before .before .before .before .write-four .ensures)) (c .before .before .before .before .before .before .put-bytes2 .ensures)) (c .before .before .write-four2 .ensures))
 
 pub write-data-spec : {M : Type 1} → statement M
 write-data-spec =

@@ -1,3 +1,7 @@
+use mathlib.Core.Path.{_≡_}
+use lib.ListN.{length}
+use Rattle.text.proofs.PutLaws.{wrote-as, wrote-then, wrote-none}
+use Rattle.responses.proofs.Rows.{deleted-none, deleted-some}
 use borrow.Author.Needs.{needs}
 use Rattle.responses.proofs.write_deleted.Statement.{statement}
 use Rattle.responses.proofs.write_deleted.Tie as tie
@@ -9,7 +13,7 @@ use Rattle.text.proofs.put_bytes.Reads as put-bytes-reads
 
 -- src/lib.rt:180:9
 returns : tie.Need-returns
-returns c = ?
+returns c = wrote-as _ (deleted-none _ (c .if1 .taken)) (wrote-none _ _)
 
 -- src/lib.rt:182:9
 held-bytes-requires : tie.Need-held-bytes-requires
@@ -41,7 +45,9 @@ same-length c = search needs
 
 -- src/lib.rt:176:1
 returns-2 : tie.Need-returns-2
-returns-2 c = ?
+returns-2 c = let s = c .before .before .before .before .before .before .before .before .before .before .before .before .before .before in
+    let n : length (s .args .aid .bytes) ≡ 16 = search needs in
+    wrote-as _ (deleted-some (s .args .aid) _ n (c .before .before .before .before .before .before .before .before .before .before .before .if1 .left) (c .before .before .before .before .before .before .before .before .before .before .held-bytes .ensures)) (wrote-then (c .before .before .before .before .before .before .before .put-bytes .ensures) (c .before .before .write-aid .ensures))
 
 pub write-deleted-spec : {M : Type 1} → statement M
 write-deleted-spec =

@@ -1,3 +1,5 @@
+use Rattle.text.proofs.PutLaws.{wrote-as}
+use Rattle.responses.proofs.Rows.{one-row}
 use borrow.Author.Needs.{needs}
 use Rattle.responses.proofs.write_one_status.Statement.{statement}
 use Rattle.responses.proofs.write_one_status.Tie as tie
@@ -25,7 +27,7 @@ same-length c = search needs
 
 -- src/lib.rt:140:1
 returns : tie.Need-returns
-returns c = ?
+returns c = wrote-as _ (one-row _ _ _ _ _ _ (c .before .before .before .before .before .profile .ensures) (c .before .before .before .before .mark-of .ensures)) (c .before .before .write-place .ensures)
 
 pub write-one-status-spec : {M : Type 1} → statement M
 write-one-status-spec =

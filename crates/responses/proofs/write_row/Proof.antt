@@ -1,3 +1,8 @@
+use mathlib.Core.Path.{_≡_}
+use native.Mathlib.Omega.{arith}
+use lib.ListN.{length}
+use Rattle.text.proofs.PutLaws.{wrote-as, wrote-then}
+use Rattle.responses.proofs.Rows.{listed-small, status-row}
 use borrow.Author.Needs.{needs}
 use Rattle.responses.proofs.write_row.Statement.{statement}
 use Rattle.responses.proofs.write_row.Tie as tie
@@ -28,7 +33,9 @@ add-size c = search needs
 
 -- src/lib.rt:103:16
 add-size-2 : tie.Need-add-size-2
-add-size-2 c = ?
+add-size-2 c = let s = c .before .before .before in
+    let h = listed-small (s .args .life) (s .args .fallback) in
+    omega (arith, c .listed-size .ensures, c .before .held-bytes .ensures)
 
 -- src/lib.rt:105:35
 slice-aggregate-put-bytes : tie.Need-slice-aggregate-put-bytes
@@ -56,7 +63,9 @@ same-length c = search needs
 
 -- src/lib.rt:98:1
 returns : tie.Need-returns
-returns c = ?
+returns c = let s = c .before .before .before .before .before .before .before .before .before .before .before .before .before .before .before .before .before .before .before .before .before in
+    let n : length (s .args .p .aid) ≡ 16 = search needs in
+    wrote-as _ (status-row (s .args .p) (s .args .mark) (s .args .life) (s .args .fallback) _ _ n (c .before .before .before .before .before .before .before .before .before .before .before .before .before .before .before .before .before .before .before .held-bytes .ensures) (c .before .before .before .before .before .before .before .before .before .before .before .before .before .before .before .before .before .before .listed-size .ensures)) (wrote-then (wrote-then (wrote-then (c .before .before .before .before .before .before .before .before .before .before .before .before .before .before .before .put-bytes .ensures) (c .before .before .before .before .before .before .before .before .before .before .write-aid .ensures)) (c .before .before .before .before .before .before .write-life .ensures)) (c .before .before .write-mark .ensures))
 
 pub write-row-spec : {M : Type 1} → statement M
 write-row-spec =
