@@ -1,15 +1,14 @@
 -- How long the responses are: a row has 27 bytes at the most, so that the rows of eight places are within 255 bytes.
 -- Assumes nothing.
-use mathlib.Core.Path.{_≡_, refl, sym, ap, _∙_}
-use Prim.Native.Nat.{ℕ, zero, suc, _+_, _*_, _≤_, min}
+use mathlib.Core.Path.{_≡_, refl}
+use Prim.Native.Nat.{ℕ, zero, suc, _*_, _≤_}
 use native.Mathlib.Omega.{arith}
-use mathlib.Core.List.{List, [], _∷_, _++_}
+use mathlib.Core.List.{List, [], _∷_}
 use mathlib.Core.Bool.{Bool, true, false, cond, _&&_}
 use lib.ListN.{length, take, length-append, length-take}
 use lib.Dec.{leb, eqb}
-use borrow.Author.Tests.{leb-true, le-leb, eqb-true, eq-eqb}
+use borrow.Author.Tests.{leb-true, le-leb, eqb-true}
 use Rattle.isdp.specs.Sizes.{mostPlaces, mostAid, eidSize, mostCapacity, lastNumber}
-use Rattle.isdp.specs.Aids.{aidOf}
 use Rattle.isdp.specs.Place.{none, held, placeOk}
 use Rattle.isdp.specs.declared.Isdp.{Isdp}
 use Rattle.isdp.specs.declared.Aid.{Aid}
@@ -17,7 +16,7 @@ use Rattle.places.specs.Places.{at, allOf}
 use Rattle.card.specs.Sound.{sound}
 use Rattle.card.specs.declared.Card.{Card}
 use Rattle.card.proofs.Bools.{and-l, and-r, both}
-use Rattle.responses.specs.Responses.{aidElement, markOf, statusBody, statusRow, rowOf, rowsFrom, statusResponse, oneStatus, dataResponse, deletedResponse}
+use Rattle.responses.specs.Responses.{aidElement, markOf, statusRow, rowOf, rowsFrom, statusResponse, oneStatus, dataResponse, deletedResponse}
 use Rattle.responses.proofs.Rows.{body-length, listed-small}
 
 -- the AID's bytes are sixteen at the most, as they are in every record of the code

@@ -7,7 +7,7 @@ use native.Mathlib.Omega.{arith}
 use mathlib.Core.List.{List, [], _∷_, _++_, append-assoc}
 use mathlib.Core.Bool.{Bool, true, false, cond}
 use lib.ListN.{length, take, drop, getD, length-append, drop-of-length-le}
-use lib.Dec.{leb, eqb}
+use lib.Dec.{leb}
 use lib.Seq.{length-take-le, take-all, drop-cons}
 use borrow.Author.Tests.{leb-true, leb-false, eq-eqb, ne-eqb}
 use Rattle.isdp.specs.Aids.{aidOf}

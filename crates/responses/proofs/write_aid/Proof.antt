@@ -1,3 +1,4 @@
+-- `responses::write_aid`: tag and length, then the bytes; a length over sixteen takes the whole array, as `take` does.
 use mathlib.Core.Path.{_≡_, sym}
 use native.Mathlib.Omega.{arith}
 use lib.ListN.{length}
@@ -7,46 +8,33 @@ use Rattle.responses.proofs.Rows.{aid-element}
 use borrow.Author.Needs.{needs}
 use Rattle.responses.proofs.write_aid.Statement.{statement}
 use Rattle.responses.proofs.write_aid.Tie as tie
-use Rattle.responses.proofs.write_aid.Reads as reads
-use Rattle.responses.proofs.write_aid.Lts as lts
-use Rattle.responses.proofs.held_bytes.Reads as held-bytes-reads
-use Rattle.text.proofs.put_bytes.Reads as put-bytes-reads
 
--- src/lib.rt:45:9
 held-bytes-requires : tie.Need-held-bytes-requires
 held-bytes-requires c κs = search needs
 
--- src/lib.rt:46:16
 cast-size : tie.Need-cast-size
 cast-size c = search needs
 
--- src/lib.rt:48:32
 slice-aggregate-put-bytes : tie.Need-slice-aggregate-put-bytes
 slice-aggregate-put-bytes c = search needs
 
--- src/lib.rt:48:9
 put-bytes-requires : tie.Need-put-bytes-requires
 put-bytes-requires c κs = search needs
 
--- src/lib.rt:49:23
 array-share-prefix-bytes : tie.Need-array-share-prefix-bytes
 array-share-prefix-bytes c = search needs
 
--- src/lib.rt:49:23
 slice-aggregate-put-bytes-2 : tie.Need-slice-aggregate-put-bytes-2
 slice-aggregate-put-bytes-2 c = let s = c .before .before .before .before .before .before .before .before .before in
     let n : length (s .args .t1) ≡ 16 = search needs in
     sym (length-take-le _ (s .args .t1) (omega arith))
 
--- src/lib.rt:49:5
 put-bytes-requires-2 : tie.Need-put-bytes-requires-2
 put-bytes-requires-2 c κs = search needs
 
--- src/lib.rt:42:1
 same-length : tie.Need-same-length
 same-length c = search needs
 
--- src/lib.rt:42:1
 returns : tie.Need-returns
 returns c = let s = c .before .before .before .before .before .before .before .before .before .before .before .before in
     let n : length (s .args .t1) ≡ 16 = search needs in

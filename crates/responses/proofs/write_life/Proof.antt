@@ -1,28 +1,21 @@
+-- `responses::write_life`: the element where it is asked for, else nothing.
 use Rattle.text.proofs.PutLaws.{wrote-none}
 use borrow.Author.Needs.{needs}
 use Rattle.responses.proofs.write_life.Statement.{statement}
 use Rattle.responses.proofs.write_life.Tie as tie
-use Rattle.responses.proofs.write_life.Reads as reads
-use Rattle.responses.proofs.write_life.Lts as lts
-use Rattle.text.proofs.put_bytes.Reads as put-bytes-reads
 
--- src/lib.rt:57:35
 slice-aggregate-put-bytes : tie.Need-slice-aggregate-put-bytes
 slice-aggregate-put-bytes c = search needs
 
--- src/lib.rt:57:9
 put-bytes-requires : tie.Need-put-bytes-requires
 put-bytes-requires c κs = search needs
 
--- src/lib.rt:57:9
 same-length : tie.Need-same-length
 same-length c = search needs
 
--- src/lib.rt:57:9
 returns : tie.Need-returns
 returns c = rw (c .before .before .before .before .before .if1 .taken) (c .before .before .put-bytes .ensures)
 
--- src/lib.rt:52:1
 returns-2 : tie.Need-returns-2
 returns-2 c = rw (c .if1 .left) (wrote-none _ _)
 

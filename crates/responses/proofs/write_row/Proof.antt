@@ -1,3 +1,4 @@
+-- `responses::write_row`: the head and the three elements one after the other are the row (`status-row`).
 use mathlib.Core.Path.{_≡_}
 use native.Mathlib.Omega.{arith}
 use lib.ListN.{length}
@@ -6,62 +7,42 @@ use Rattle.responses.proofs.Rows.{listed-small, status-row}
 use borrow.Author.Needs.{needs}
 use Rattle.responses.proofs.write_row.Statement.{statement}
 use Rattle.responses.proofs.write_row.Tie as tie
-use Rattle.responses.proofs.write_row.Reads as reads
-use Rattle.responses.proofs.write_row.Lts as lts
-use Rattle.responses.proofs.held_bytes.Reads as held-bytes-reads
-use Rattle.responses.proofs.listed_size.Reads as listed-size-reads
-use Rattle.responses.proofs.write_aid.Reads as write-aid-reads
-use Rattle.responses.proofs.write_life.Reads as write-life-reads
-use Rattle.responses.proofs.write_mark.Reads as write-mark-reads
-use Rattle.text.proofs.put_bytes.Reads as put-bytes-reads
 
--- src/lib.rt:101:9
 held-bytes-requires : tie.Need-held-bytes-requires
 held-bytes-requires c κs = search needs
 
--- src/lib.rt:102:9
 listed-size-requires : tie.Need-listed-size-requires
 listed-size-requires c κs = search needs
 
--- src/lib.rt:103:16
 cast-size : tie.Need-cast-size
 cast-size c = search needs
 
--- src/lib.rt:103:16
 add-size : tie.Need-add-size
 add-size c = search needs
 
--- src/lib.rt:103:16
 add-size-2 : tie.Need-add-size-2
 add-size-2 c = let s = c .before .before .before in
     let h = listed-small (s .args .life) (s .args .fallback) in
     omega (arith, c .listed-size .ensures, c .before .held-bytes .ensures)
 
--- src/lib.rt:105:35
 slice-aggregate-put-bytes : tie.Need-slice-aggregate-put-bytes
 slice-aggregate-put-bytes c = search needs
 
--- src/lib.rt:105:9
 put-bytes-requires : tie.Need-put-bytes-requires
 put-bytes-requires c κs = search needs
 
--- src/lib.rt:107:9
 write-aid-requires : tie.Need-write-aid-requires
 write-aid-requires c κs = search needs
 
--- src/lib.rt:108:9
 write-life-requires : tie.Need-write-life-requires
 write-life-requires c κs = search needs
 
--- src/lib.rt:109:5
 write-mark-requires : tie.Need-write-mark-requires
 write-mark-requires c κs = search needs
 
--- src/lib.rt:98:1
 same-length : tie.Need-same-length
 same-length c = search needs
 
--- src/lib.rt:98:1
 returns : tie.Need-returns
 returns c = let s = c .before .before .before .before .before .before .before .before .before .before .before .before .before .before .before .before .before .before .before .before .before in
     let n : length (s .args .p .aid) ≡ 16 = search needs in

@@ -1,3 +1,4 @@
+-- `responses::write_status`: the rows from place i on are still to write, which leaves what writing all of them leaves.
 use mathlib.Core.Path.{_≡_}
 use Prim.Native.Nat.{_-_, _≤_}
 use native.Mathlib.Omega.{arith}
@@ -10,10 +11,6 @@ use Rattle.responses.proofs.Rows.{rows-step, rows-end, status-rows}
 use borrow.Author.Needs.{needs}
 use Rattle.responses.proofs.write_status.Statement.{statement}
 use Rattle.responses.proofs.write_status.Tie as tie
-use Rattle.responses.proofs.write_status.Reads as reads
-use Rattle.responses.proofs.write_status.Lts as lts
-use Rattle.responses.proofs.mark_of.Reads as mark-of-reads
-use Rattle.responses.proofs.write_place.Reads as write-place-reads
 
 abbrev Inv-loop : tie.InvT-loop
 Inv-loop life fallback buf₀ at places holder i₀ k₀ buf i k = (i ≤ mostPlaces) × Writing buf₀ at (rowsFrom holder 0 life fallback places) buf k (rowsFrom holder i life fallback (drop i places))
@@ -21,45 +18,35 @@ Inv-loop life fallback buf₀ at places holder i₀ k₀ buf i k = (i ≤ mostPl
 abbrev μ-loop : tie.MeasureT-loop
 μ-loop life fallback buf₀ at places holder i₀ k₀ buf i k = mostPlaces - i
 
--- src/lib.rt:130:5
 loop-holds : tie.Need-loop-holds Inv-loop μ-loop
 loop-holds c = (omega arith, writing-starts _ _ _)
 
--- src/lib.rt:131:17
 mul-p : tie.Need-mul-p Inv-loop μ-loop
 mul-p c = search needs
 
--- src/lib.rt:131:17
 array-copy-out-p : tie.Need-array-copy-out-p Inv-loop μ-loop
 array-copy-out-p c = search needs
 
--- src/lib.rt:132:13
 mark-of-requires : tie.Need-mark-of-requires Inv-loop μ-loop
 mark-of-requires c κs = search needs
 
--- src/lib.rt:133:9
 write-place-requires : tie.Need-write-place-requires Inv-loop μ-loop
 write-place-requires c κs = search needs
 
--- src/lib.rt:134:9
 add-i : tie.Need-add-i Inv-loop μ-loop
 add-i c = search needs
 
--- src/lib.rt:130:5
 loop-less : tie.Need-loop-less Inv-loop μ-loop
 loop-less c = search needs
 
--- src/lib.rt:130:5
 loop-again : tie.Need-loop-again Inv-loop μ-loop
 loop-again c = let s = c .before .before .before .before .before .before .before .before .before .before in
     let n : length (s .args .card .places) ≡ mostPlaces = full (s .args .card) _ (s .good .0) in
     (omega arith, writing-goes _ (writing-as _ (rows-step _ _ _ _ _ _ (omega arith) (c .before .before .before .before .mark-of .ensures)) (c .before .before .before .before .before .before .before .loop .inv .1)) (c .before .before .write-place .ensures))
 
--- src/lib.rt:123:1
 same-length : tie.Need-same-length Inv-loop μ-loop
 same-length c = c .before .loop .inv .1 .size
 
--- src/lib.rt:123:1
 returns : tie.Need-returns Inv-loop μ-loop
 returns c = let s = c .before .before .before .before in
     let n : length (s .args .card .places) ≡ mostPlaces = full (s .args .card) _ (s .good .0) in
