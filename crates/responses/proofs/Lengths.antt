@@ -1,0 +1,98 @@
+-- How long the responses are: a row has 27 bytes at the most, so that the rows of eight places are within 255 bytes.
+-- Assumes nothing.
+use mathlib.Core.Path.{_≡_, refl}
+use Prim.Native.Nat.{ℕ, zero, suc, _*_, _≤_}
+use native.Mathlib.Omega.{arith}
+use mathlib.Core.List.{List, [], _∷_}
+use mathlib.Core.Bool.{Bool, true, false, cond, _&&_}
+use lib.ListN.{length, take, length-append, length-take}
+use lib.Dec.{leb, eqb}
+use borrow.Author.Tests.{leb-true, le-leb, eqb-true}
+use Rattle.isdp.specs.Sizes.{mostPlaces, mostAid, eidSize, mostCapacity, lastNumber}
+use Rattle.isdp.specs.Place.{none, held, placeOk}
+use Rattle.isdp.specs.declared.Isdp.{Isdp}
+use Rattle.isdp.specs.declared.Aid.{Aid}
+use Rattle.places.specs.Places.{at, allOf}
+use Rattle.card.specs.Sound.{sound}
+use Rattle.card.specs.declared.Card.{Card}
+use Rattle.card.proofs.Bools.{and-l, and-r, both}
+use Rattle.responses.specs.Responses.{aidElement, markOf, statusRow, rowOf, rowsFrom, statusResponse, oneStatus, dataResponse, deletedResponse}
+use Rattle.responses.proofs.Rows.{body-length, listed-small}
+
+-- the AID's bytes are sixteen at the most, as they are in every record of the code
+abbrev pub aidFits : Isdp → Bool
+aidFits p = leb (length (p .aid)) mostAid
+
+row-case : (p : Isdp) (mark : ℕ) (life fallback there : Bool) → length (p .aid) ≤ 16 → length (cond there (statusRow p mark life fallback) []) ≤ 27
+unfolding statusRow
+row-case p mark life fallback true h =
+    omega (arith, body-length p mark life fallback, listed-small life fallback, length-take (p .len) (p .aid))
+row-case p mark life fallback false h = omega arith
+
+pub row-length : (p : Isdp) (mark : ℕ) (life fallback : Bool) → aidFits p ≡ true → length (rowOf p mark life fallback) ≤ 27
+unfolding rowOf
+row-length p mark life fallback e = row-case p mark life fallback (held p) (leb-true (length (p .aid)) mostAid e)
+
+pub rows-length : (holder place : ℕ) (life fallback : Bool) (l : List Isdp) → allOf aidFits l ≡ true → length (rowsFrom holder place life fallback l) ≤ 27 * length l
+unfolding rowsFrom allOf
+rows-length holder place life fallback [] e = omega arith
+rows-length holder place life fallback (p ∷ ps) e =
+    let h = row-length p (markOf holder place) life fallback (and-l (aidFits p) (allOf aidFits ps) e) in
+    let k = rows-length holder (suc place) life fallback ps (and-r (aidFits p) (allOf aidFits ps) e) in
+    omega (arith, length-append (rowOf p (markOf holder place) life fallback) (rowsFrom holder (suc place) life fallback ps))
+
+-- GET STATUS of all, over any number of places
+pub status-length : (c : Card) (life fallback : Bool) → allOf aidFits (c .places) ≡ true → length (statusResponse c life fallback) ≤ 27 * length (c .places)
+unfolding statusResponse
+status-length c life fallback e = rows-length (c .fallback) 0 life fallback (c .places) e
+
+-- a test that every place passes is passed by the place at any number, where a place that is not held passes it too
+all-at : (t : Isdp → Bool) (l : List Isdp) (i : ℕ) → allOf t l ≡ true → t none ≡ true → t (at l i) ≡ true
+unfolding allOf
+all-at t [] i e n = n
+all-at t (p ∷ ps) zero e n = and-l (t p) (allOf t ps) e
+all-at t (p ∷ ps) (suc i) e n = all-at t ps i (and-r (t p) (allOf t ps) e) n
+
+-- GET STATUS of one
+pub one-length : (c : Card) (place : ℕ) (life fallback : Bool) → allOf aidFits (c .places) ≡ true → length (oneStatus c place life fallback) ≤ 27
+unfolding oneStatus
+one-length c place life fallback e = row-length (at (c .places) place) (markOf (c .fallback) place) life fallback (all-at aidFits (c .places) place e refl)
+
+all-more : (t u : Isdp → Bool) (l : List Isdp) → ((p : Isdp) → t p ≡ true → u p ≡ true) → allOf t l ≡ true → allOf u l ≡ true
+unfolding allOf
+all-more t u [] f e = refl
+all-more t u (p ∷ ps) f e = both (u p) (allOf u ps) (f p (and-l (t p) (allOf t ps) e)) (all-more t u ps f (and-r (t p) (allOf t ps) e))
+
+ok-fits : (capacity : ℕ) (p : Isdp) → placeOk capacity p ≡ true → aidFits p ≡ true
+unfolding placeOk
+ok-fits capacity p e =
+    let h : length (p .aid) ≡ 16 = eqb-true (length (p .aid)) mostAid (and-l (eqb (length (p .aid)) mostAid) _ e) in
+    le-leb (length (p .aid)) mostAid (omega arith)
+
+-- a sound card has such places, and eight of them
+module _ (c : Card) (e : sound c ≡ true) where
+  pub sound-fits : allOf aidFits (c .places) ≡ true
+  unfolding sound
+  sound-fits = all-more (placeOk (c .capacity)) aidFits (c .places) (ok-fits (c .capacity)) (and-l (allOf (placeOk (c .capacity)) (c .places)) _ (and-r (leb (c .capacity) mostCapacity) _ (and-r (leb 1 (c .capacity)) _ (and-r (eqb (length (c .eid)) eidSize && (eqb (length (c .places)) mostPlaces && leb (c .last) lastNumber)) _ e))))
+
+  sound-full : length (c .places) ≡ mostPlaces
+  unfolding sound
+  sound-full = eqb-true (length (c .places)) mostPlaces (and-l (eqb (length (c .places)) mostPlaces) _ (and-r (eqb (length (c .eid)) eidSize) _ (and-l (eqb (length (c .eid)) eidSize && (eqb (length (c .places)) mostPlaces && leb (c .last) lastNumber)) _ e)))
+
+  pub sound-status-length : (life fallback : Bool) → length (statusResponse c life fallback) ≤ 216
+  sound-status-length life fallback =
+      let h = status-length c life fallback sound-fits in
+      let k = sound-full in
+      omega arith
+
+pub data-length : (c : Card) → length (dataResponse c) ≡ 18
+unfolding dataResponse
+data-length c = refl
+
+deleted-case : (a : Aid) (gone : Bool) → length (a .bytes) ≤ 16 → length (cond gone [] (0x80 ∷ length (aidElement (take (a .len) (a .bytes))) ∷ aidElement (take (a .len) (a .bytes)))) ≤ 20
+deleted-case a true h = omega arith
+deleted-case a false h = omega (arith, length-take (a .len) (a .bytes))
+
+pub deleted-length : (a : Aid) → length (a .bytes) ≤ 16 → length (deletedResponse a) ≤ 20
+unfolding deletedResponse
+deleted-length a h = deleted-case a (eqb (a .len) 0) h

@@ -1,0 +1,113 @@
+-- The code's pieces put together are the responses. A length over sixteen takes the whole array, which is what `take` takes too.
+-- Assumes nothing.
+use mathlib.Core.Path.{_≡_, refl, sym, ap, _∙_}
+use Prim.Native.Nat.{ℕ, _+_, _≤_, _<_, min}
+use native.Mathlib.Numerals.{add-one}
+use native.Mathlib.Omega.{arith}
+use mathlib.Core.List.{List, [], _∷_, _++_, append-assoc}
+use mathlib.Core.Bool.{Bool, true, false, cond}
+use lib.ListN.{length, take, drop, getD, length-append, drop-of-length-le}
+use lib.Dec.{leb}
+use lib.Seq.{length-take-le, take-all, drop-cons}
+use borrow.Author.Tests.{leb-true, leb-false, eq-eqb, ne-eqb}
+use Rattle.isdp.specs.Aids.{aidOf}
+use Rattle.isdp.specs.Place.{held}
+use Rattle.isdp.specs.declared.Isdp.{Isdp}
+use Rattle.isdp.specs.declared.Aid.{Aid}
+use Rattle.places.specs.Places.{at, countOf}
+use Rattle.places.proofs.Records.{unread}
+use Rattle.card.specs.Cards.{freeIn}
+use Rattle.card.specs.declared.Card.{Card}
+use Rattle.responses.specs.Responses.{aidElement, lifeElement, markElement, markOf, listed, statusBody, statusRow, rowOf, rowsFrom, statusResponse, oneStatus, fourBytes, dataResponse, deletedResponse}
+
+cut-case : (bytes : List ℕ) (len n : ℕ) (fits : Bool) → leb len 16 ≡ fits → length bytes ≡ 16 → n ≡ min len 16 → take n bytes ≡ take len bytes
+cut-case bytes len n true t e m =
+    let h = leb-true len 16 t in
+    let f : n ≡ len = omega arith in
+    ap (λ (k : ℕ). take k bytes) f
+cut-case bytes len n false t e m =
+    let h = leb-false len 16 t in
+    take-all n bytes (omega arith) ∙ sym (take-all len bytes (omega arith))
+
+-- the bytes that are written are the AID's
+pub cut : (bytes : List ℕ) (len n : ℕ) → length bytes ≡ 16 → n ≡ min len 16 → take n bytes ≡ take len bytes
+cut bytes len n e m = cut-case bytes len n (leb len 16) refl e m
+
+pub cut-length : (bytes : List ℕ) (len n : ℕ) → length bytes ≡ 16 → n ≡ min len 16 → n ≡ length (take len bytes)
+cut-length bytes len n e m = sym (length-take-le n bytes (omega arith)) ∙ ap length (cut bytes len n e m)
+
+pub aid-element : (bytes : List ℕ) (len n : ℕ) → length bytes ≡ 16 → n ≡ min len 16 → 0x4F ∷ n ∷ take n bytes ≡ aidElement (take len bytes)
+aid-element bytes len n e m = rw (cut bytes len n e m, ← cut-length bytes len n e m)
+
+pub listed-small : (life fallback : Bool) → cond life 4 0 + cond fallback 3 0 ≤ 7
+listed-small true true = omega arith
+listed-small true false = omega arith
+listed-small false true = omega arith
+listed-small false false = omega arith
+
+listed-length : (life fallback : Bool) (state mark : ℕ) → length (listed life (lifeElement state) ++ listed fallback (markElement mark)) ≡ cond life 4 0 + cond fallback 3 0
+listed-length true true state mark = refl
+listed-length true false state mark = refl
+listed-length false true state mark = refl
+listed-length false false state mark = refl
+
+-- what E3 holds, counted
+pub body-length : (p : Isdp) (mark : ℕ) (life fallback : Bool) → length (statusBody p mark life fallback) ≡ length (aidOf p) + 2 + (cond life 4 0 + cond fallback 3 0)
+unfolding statusBody
+body-length p mark life fallback =
+    let e = length-append (aidOf p) (listed life (lifeElement (p .life)) ++ listed fallback (markElement mark)) in
+    let f = listed-length life fallback (p .life) mark in
+    omega (arith, e, f)
+
+pub status-row : (p : Isdp) (mark : ℕ) (life fallback : Bool) (n m : ℕ) → length (p .aid) ≡ 16 → n ≡ min (p .len) 16 → m ≡ cond life 4 0 + cond fallback 3 0
+    → (((0xE3 ∷ (n + 2 + m) ∷ []) ++ aidElement (aidOf p)) ++ listed life (lifeElement (p .life))) ++ listed fallback (markElement mark) ≡ statusRow p mark life fallback
+unfolding statusRow statusBody
+status-row p mark life fallback n m w e f =
+    let h = body-length p mark life fallback in
+    let k = cut-length (p .aid) (p .len) n w e in
+    let g : n + 2 + m ≡ length (statusBody p mark life fallback) = rw (h, ← k, f) refl in
+    let rest = append-assoc (aidElement (aidOf p)) (listed life (lifeElement (p .life))) (listed fallback (markElement mark)) in
+    rw g (ap (λ (xs : List ℕ). 0xE3 ∷ length (statusBody p mark life fallback) ∷ xs) rest)
+
+pub row-none : (p : Isdp) (mark : ℕ) (life fallback : Bool) → p .len ≡ 0 → [] ≡ rowOf p mark life fallback
+unfolding rowOf
+row-none p mark life fallback e = rw (eq-eqb (p .len) 0 e)
+
+pub row-some : (p : Isdp) (mark : ℕ) (life fallback : Bool) → (p .len ≡ 0 → ⊥) → statusRow p mark life fallback ≡ rowOf p mark life fallback
+unfolding rowOf
+row-some p mark life fallback e = rw (ne-eqb (p .len) 0 e)
+
+pub one-row : (c : Card) (place : ℕ) (life fallback : Bool) (p : Isdp) (mark : ℕ) → p ≡ at (c .places) place → mark ≡ markOf (c .fallback) place → rowOf p mark life fallback ≡ oneStatus c place life fallback
+unfolding oneStatus
+one-row c place life fallback p mark e f = rw (e, f)
+
+-- one turn of the loop over the places, and its end
+pub rows-step : (holder : ℕ) (life fallback : Bool) (l : List Isdp) (i mark : ℕ) → i < length l → mark ≡ markOf holder i
+    → rowsFrom holder i life fallback (drop i l) ≡ rowOf (getD l i unread) mark life fallback ++ rowsFrom holder (i + 1) life fallback (drop (i + 1) l)
+unfolding rowsFrom
+rows-step holder life fallback l i mark h e = rw (drop-cons l i unread, add-one, e)
+
+pub rows-end : (holder : ℕ) (life fallback : Bool) (l : List Isdp) (i : ℕ) → length l ≤ i → rowsFrom holder i life fallback (drop i l) ≡ []
+unfolding rowsFrom
+rows-end holder life fallback l i h = rw (drop-of-length-le l h)
+
+pub status-rows : (c : Card) (life fallback : Bool) → rowsFrom (c .fallback) 0 life fallback (c .places) ≡ statusResponse c life fallback
+unfolding statusResponse
+status-rows c life fallback = refl
+
+pub data-bytes : (c : Card) (n f : ℕ) → n ≡ countOf held (c .places) → f ≡ freeIn c
+    → 0xFF ∷ 0x21 ∷ 0x0F ∷ 0x81 ∷ 1 ∷ n ∷ 0x82 ∷ 4 ∷ fourBytes f ++ (0x83 ∷ 4 ∷ fourBytes (c .volatile)) ≡ dataResponse c
+unfolding dataResponse
+data-bytes c n f e g = rw (e, g)
+
+pub deleted-none : (a : Aid) → a .len ≡ 0 → [] ≡ deletedResponse a
+unfolding deletedResponse
+deleted-none a e = rw (eq-eqb (a .len) 0 e)
+
+pub deleted-some : (a : Aid) (n : ℕ) → length (a .bytes) ≡ 16 → (a .len ≡ 0 → ⊥) → n ≡ min (a .len) 16
+    → 0x80 ∷ (n + 2) ∷ aidElement (take (a .len) (a .bytes)) ≡ deletedResponse a
+unfolding deletedResponse
+deleted-some a n w e m =
+    let k = cut-length (a .bytes) (a .len) n w m in
+    let g : n + 2 ≡ length (aidElement (take (a .len) (a .bytes))) = omega arith in
+    rw (ne-eqb (a .len) 0 e, ← g)

@@ -1,0 +1,55 @@
+-- `responses::write_aid`: tag and length, then the bytes; a length over sixteen takes the whole array, as `take` does.
+use mathlib.Core.Path.{_≡_, sym}
+use native.Mathlib.Omega.{arith}
+use lib.ListN.{length}
+use lib.Seq.{length-take-le}
+use Rattle.text.proofs.PutLaws.{wrote-as, wrote-then}
+use Rattle.responses.proofs.Rows.{aid-element}
+use borrow.Author.Needs.{needs}
+use Rattle.responses.proofs.write_aid.Statement.{statement}
+use Rattle.responses.proofs.write_aid.Tie as tie
+
+held-bytes-requires : tie.Need-held-bytes-requires
+held-bytes-requires c κs = search needs
+
+cast-size : tie.Need-cast-size
+cast-size c = search needs
+
+slice-aggregate-put-bytes : tie.Need-slice-aggregate-put-bytes
+slice-aggregate-put-bytes c = search needs
+
+put-bytes-requires : tie.Need-put-bytes-requires
+put-bytes-requires c κs = search needs
+
+array-share-prefix-bytes : tie.Need-array-share-prefix-bytes
+array-share-prefix-bytes c = search needs
+
+slice-aggregate-put-bytes-2 : tie.Need-slice-aggregate-put-bytes-2
+slice-aggregate-put-bytes-2 c = let s = c .before .before .before .before .before .before .before .before .before in
+    let n : length (s .args .t1) ≡ 16 = search needs in
+    sym (length-take-le _ (s .args .t1) (omega arith))
+
+put-bytes-requires-2 : tie.Need-put-bytes-requires-2
+put-bytes-requires-2 c κs = search needs
+
+same-length : tie.Need-same-length
+same-length c = search needs
+
+returns : tie.Need-returns
+returns c = let s = c .before .before .before .before .before .before .before .before .before .before .before .before in
+    let n : length (s .args .t1) ≡ 16 = search needs in
+    wrote-as _ (aid-element (s .args .t1) (s .args .len) _ n (c .before .before .before .before .before .before .before .before .before .before .held-bytes .ensures)) (wrote-then (c .before .before .before .before .before .before .before .put-bytes .ensures) (c .before .before .put-bytes2 .ensures))
+
+pub write-aid-spec : {M : Type 1} → statement M
+write-aid-spec =
+    tie.close
+    (tie.spec
+    held-bytes-requires
+    cast-size
+    slice-aggregate-put-bytes
+    put-bytes-requires
+    array-share-prefix-bytes
+    slice-aggregate-put-bytes-2
+    put-bytes-requires-2
+    same-length
+    returns)

@@ -1,0 +1,51 @@
+-- `responses::write_deleted`: nothing where no AID is handed in, else the head and the AID.
+use mathlib.Core.Path.{_≡_}
+use lib.ListN.{length}
+use Rattle.text.proofs.PutLaws.{wrote-as, wrote-then, wrote-none}
+use Rattle.responses.proofs.Rows.{deleted-none, deleted-some}
+use borrow.Author.Needs.{needs}
+use Rattle.responses.proofs.write_deleted.Statement.{statement}
+use Rattle.responses.proofs.write_deleted.Tie as tie
+
+returns : tie.Need-returns
+returns c = wrote-as _ (deleted-none _ (c .if1 .taken)) (wrote-none _ _)
+
+held-bytes-requires : tie.Need-held-bytes-requires
+held-bytes-requires c κs = search needs
+
+cast-size : tie.Need-cast-size
+cast-size c = search needs
+
+add-size : tie.Need-add-size
+add-size c = search needs
+
+slice-aggregate-put-bytes : tie.Need-slice-aggregate-put-bytes
+slice-aggregate-put-bytes c = search needs
+
+put-bytes-requires : tie.Need-put-bytes-requires
+put-bytes-requires c κs = search needs
+
+write-aid-requires : tie.Need-write-aid-requires
+write-aid-requires c κs = search needs
+
+same-length : tie.Need-same-length
+same-length c = search needs
+
+returns-2 : tie.Need-returns-2
+returns-2 c = let s = c .before .before .before .before .before .before .before .before .before .before .before .before .before .before in
+    let n : length (s .args .aid .bytes) ≡ 16 = search needs in
+    wrote-as _ (deleted-some (s .args .aid) _ n (c .before .before .before .before .before .before .before .before .before .before .before .if1 .left) (c .before .before .before .before .before .before .before .before .before .before .held-bytes .ensures)) (wrote-then (c .before .before .before .before .before .before .before .put-bytes .ensures) (c .before .before .write-aid .ensures))
+
+pub write-deleted-spec : {M : Type 1} → statement M
+write-deleted-spec =
+    tie.close
+    (tie.spec
+    returns
+    held-bytes-requires
+    cast-size
+    add-size
+    slice-aggregate-put-bytes
+    put-bytes-requires
+    write-aid-requires
+    same-length
+    returns-2)

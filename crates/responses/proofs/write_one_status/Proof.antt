@@ -1,0 +1,25 @@
+-- `responses::write_one_status`: the place and its mark are those of the definition (`one-row`).
+use Rattle.text.proofs.PutLaws.{wrote-as}
+use Rattle.responses.proofs.Rows.{one-row}
+use borrow.Author.Needs.{needs}
+use Rattle.responses.proofs.write_one_status.Statement.{statement}
+use Rattle.responses.proofs.write_one_status.Tie as tie
+
+profile-requires : tie.Need-profile-requires
+profile-requires c κs = search needs
+
+mark-of-requires : tie.Need-mark-of-requires
+mark-of-requires c κs = search needs
+
+write-place-requires : tie.Need-write-place-requires
+write-place-requires c κs = search needs
+
+same-length : tie.Need-same-length
+same-length c = search needs
+
+returns : tie.Need-returns
+returns c = wrote-as _ (one-row _ _ _ _ _ _ (c .before .before .before .before .before .profile .ensures) (c .before .before .before .before .mark-of .ensures)) (c .before .before .write-place .ensures)
+
+pub write-one-status-spec : {M : Type 1} → statement M
+write-one-status-spec =
+    tie.close (tie.spec profile-requires mark-of-requires write-place-requires same-length returns)

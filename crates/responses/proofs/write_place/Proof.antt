@@ -1,0 +1,21 @@
+-- `responses::write_place`: a place that is not held has nothing to write.
+use Rattle.text.proofs.PutLaws.{wrote-as, wrote-none}
+use Rattle.responses.proofs.Rows.{row-none, row-some}
+use borrow.Author.Needs.{needs}
+use Rattle.responses.proofs.write_place.Statement.{statement}
+use Rattle.responses.proofs.write_place.Tie as tie
+
+returns : tie.Need-returns
+returns c = wrote-as _ (row-none _ _ _ _ (c .if1 .taken)) (wrote-none _ _)
+
+write-row-requires : tie.Need-write-row-requires
+write-row-requires c κs = search needs
+
+same-length : tie.Need-same-length
+same-length c = search needs
+
+returns-2 : tie.Need-returns-2
+returns-2 c = wrote-as _ (row-some _ _ _ _ (c .before .before .before .before .if1 .left)) (c .before .before .write-row .ensures)
+
+pub write-place-spec : {M : Type 1} → statement M
+write-place-spec = tie.close (tie.spec returns write-row-requires same-length returns-2)

@@ -1,0 +1,2 @@
+-- Document 01, 'Responses': what each command writes for its caller.
+pub mod Responses

@@ -1,0 +1,78 @@
+-- Document 01, 'Responses' (000: Tables 28, 29, 63; ETSI TS 102 226 for GET DATA): the bytes of each response.
+-- All is said over a list of places of any length, so that no count of places is written here.
+use Prim.Native.Nat.{ℕ, suc, _/_, _%_}
+use mathlib.Core.List.{List, [], _∷_, _++_}
+use mathlib.Core.Bool.{Bool, cond}
+use lib.ListN.{length, take}
+use lib.Dec.{eqb}
+use Rattle.isdp.specs.Aids.{aidOf}
+use Rattle.isdp.specs.Place.{held}
+use Rattle.isdp.specs.declared.Isdp.{Isdp}
+use Rattle.isdp.specs.declared.Aid.{Aid}
+use Rattle.places.specs.Places.{at, countOf}
+use Rattle.card.specs.Cards.{freeIn}
+use Rattle.card.specs.declared.Card.{Card}
+
+-- "4F": the AID, with its true length
+abbrev pub aidElement : List ℕ → List ℕ
+aidElement aid = 0x4F ∷ length aid ∷ aid
+
+-- "9F70": the life cycle
+abbrev pub lifeElement : ℕ → List ℕ
+lifeElement life = 0x9F ∷ 0x70 ∷ 1 ∷ life ∷ []
+
+-- "53 is 01 for the fall-back, else 00"
+abbrev pub markElement : ℕ → List ℕ
+markElement mark = 0x53 ∷ 1 ∷ mark ∷ []
+
+abbrev pub markOf : ℕ → ℕ → ℕ
+markOf holder place = cond (eqb place holder) 1 0
+
+-- "4F is always there and the others if listed"
+abbrev pub listed : Bool → List ℕ → List ℕ
+listed asked bytes = cond asked bytes []
+
+-- what E3 holds of a place
+unfoldable pub statusBody : Isdp → ℕ → Bool → Bool → List ℕ
+statusBody p mark life fallback =
+    aidElement (aidOf p) ++ (listed life (lifeElement (p .life)) ++ listed fallback (markElement mark))
+
+unfoldable pub statusRow : Isdp → ℕ → Bool → Bool → List ℕ
+statusRow p mark life fallback =
+    0xE3 ∷ length (statusBody p mark life fallback) ∷ statusBody p mark life fallback
+
+-- a place that is not held has no row
+unfoldable pub rowOf : Isdp → ℕ → Bool → Bool → List ℕ
+rowOf p mark life fallback = cond (held p) (statusRow p mark life fallback) []
+
+-- the rows of these places, the first of which has the number `place`
+unfoldable pub rowsFrom : ℕ → ℕ → Bool → Bool → List Isdp → List ℕ
+rowsFrom holder place life fallback [] = []
+rowsFrom holder place life fallback (p ∷ ps) =
+    rowOf p (markOf holder place) life fallback ++ rowsFrom holder (suc place) life fallback ps
+
+-- GET STATUS of all: "for each place from the lowest"
+unfoldable pub statusResponse : Card → Bool → Bool → List ℕ
+statusResponse c life fallback = rowsFrom (c .fallback) 0 life fallback (c .places)
+
+-- GET STATUS of one AID, held at this place
+unfoldable pub oneStatus : Card → ℕ → Bool → Bool → List ℕ
+oneStatus c place life fallback = rowOf (at (c .places) place) (markOf (c .fallback) place) life fallback
+
+-- four bytes, high byte first
+abbrev pub fourBytes : ℕ → List ℕ
+fourBytes n = n / 16777216 % 256 ∷ n / 65536 % 256 ∷ n / 256 % 256 ∷ n % 256 ∷ []
+
+-- GET DATA: "FF21 holding 81 (number of ISD-Ps, 1 byte), 82 (free, 4 bytes), 83 (volatile figure, 4 bytes)"
+unfoldable pub dataResponse : Card → List ℕ
+dataResponse c =
+    0xFF ∷ 0x21 ∷ 0x0F
+    ∷ 0x81 ∷ 1 ∷ countOf held (c .places)
+    ∷ 0x82 ∷ 4 ∷ fourBytes (freeIn c)
+    ++ (0x83 ∷ 4 ∷ fourBytes (c .volatile))
+
+-- confirmation: the AID deleted, where there is one
+unfoldable pub deletedResponse : Aid → List ℕ
+deletedResponse a =
+    cond (eqb (a .len) 0) []
+    (0x80 ∷ length (aidElement (take (a .len) (a .bytes))) ∷ aidElement (take (a .len) (a .bytes)))

@@ -1,0 +1,194 @@
+// The responses of the commands, written into a lent buffer from a place on; each answers the place after what it wrote.
+// Every function answers for every record and every buffer: what does not fit is dropped, as the writers of `text` do.
+use card::Card;
+use isdp::Aid;
+use isdp::Isdp;
+use places::PLACES;
+use text::put_bytes;
+ghost use mathlib.Core.Path.{_≡_};
+ghost use mathlib.Core.Bool.{cond};
+ghost use Prim.Native.Nat.{_+_, min};
+ghost use lib.ListN.{take};
+ghost use Rattle.isdp.specs.Place.{held};
+ghost use Rattle.places.specs.Places.{countOf};
+ghost use Rattle.text.specs.Put.{Wrote};
+ghost use Rattle.responses.specs.Responses.{aidElement, lifeElement, markElement, markOf, listed, statusRow, rowOf, statusResponse, oneStatus, dataResponse, deletedResponse, fourBytes};
+
+// The number of ISD-Ps, in the one byte that GET DATA has for it.
+pub fn count_held(places: [Isdp; PLACES]) -> u8
+    ensures { λ r. ⌜ r ≡ countOf held places ⌝ }
+{
+    let mut n = 0;
+    let mut i = 0;
+    while i < PLACES {
+        if places[i].len != 0 {
+            n += 1;
+        }
+        i += 1;
+    }
+    n
+}
+
+// The bytes of an AID that an array of sixteen can have.
+fn held_bytes(len: usize) -> usize
+    ensures { λ r. ⌜ r ≡ min len 16 ⌝ }
+{
+    if len > 16 {
+        return 16;
+    }
+    len
+}
+
+fn write_aid(bytes: [u8; 16], len: usize, buf: &mut [u8], at: usize) -> usize
+    ensures { λ r. ⌜ Wrote (now (buf .entry)) at (aidElement (take len bytes)) r (now (buf .exit)) ⌝ }
+{
+    let n = held_bytes(len);
+    let size = n as u8;
+    let head = [0x4F, size];
+    let k = put_bytes(buf, at, &head);
+    put_bytes(buf, k, &bytes[..n])
+}
+
+fn write_life(life: u8, asked: bool, buf: &mut [u8], at: usize) -> usize
+    ensures { λ r. ⌜ Wrote (now (buf .entry)) at (listed asked (lifeElement life)) r (now (buf .exit)) ⌝ }
+{
+    if asked {
+        let element = [0x9F, 0x70, 1, life];
+        return put_bytes(buf, at, &element);
+    }
+    at
+}
+
+fn write_mark(mark: u8, asked: bool, buf: &mut [u8], at: usize) -> usize
+    ensures { λ r. ⌜ Wrote (now (buf .entry)) at (listed asked (markElement mark)) r (now (buf .exit)) ⌝ }
+{
+    if asked {
+        let element = [0x53, 1, mark];
+        return put_bytes(buf, at, &element);
+    }
+    at
+}
+
+fn mark_of(holder: usize, place: usize) -> u8
+    ensures { λ r. ⌜ r ≡ markOf holder place ⌝ }
+{
+    if place == holder {
+        return 1;
+    }
+    0
+}
+
+// The bytes that the elements asked for take.
+fn listed_size(life: bool, fallback: bool) -> u8
+    ensures { λ r. ⌜ r ≡ cond life 4 0 + cond fallback 3 0 ⌝ }
+{
+    if life {
+        if fallback {
+            return 7;
+        }
+        return 4;
+    }
+    if fallback {
+        return 3;
+    }
+    0
+}
+
+fn write_row(p: Isdp, mark: u8, life: bool, fallback: bool, buf: &mut [u8], at: usize) -> usize
+    ensures { λ r. ⌜ Wrote (now (buf .entry)) at (statusRow p mark life fallback) r (now (buf .exit)) ⌝ }
+{
+    let n = held_bytes(p.len);
+    let listed = listed_size(life, fallback);
+    let size = n as u8 + 2 + listed;
+    let head = [0xE3, size];
+    let body = put_bytes(buf, at, &head);
+    let bytes = p.aid;
+    let state = write_aid(bytes, p.len, buf, body);
+    let last = write_life(p.life, life, buf, state);
+    write_mark(mark, fallback, buf, last)
+}
+
+// A place that is not held has no row.
+fn write_place(p: Isdp, mark: u8, life: bool, fallback: bool, buf: &mut [u8], at: usize) -> usize
+    ensures { λ r. ⌜ Wrote (now (buf .entry)) at (rowOf p mark life fallback) r (now (buf .exit)) ⌝ }
+{
+    if p.len == 0 {
+        return at;
+    }
+    write_row(p, mark, life, fallback, buf, at)
+}
+
+// GET STATUS of all.
+pub fn write_status(card: Card, life: bool, fallback: bool, buf: &mut [u8], at: usize) -> usize
+    ensures { λ r. ⌜ Wrote (now (buf .entry)) at (statusResponse card life fallback) r (now (buf .exit)) ⌝ }
+{
+    let places = card.places;
+    let holder = card.fallback;
+    let mut i = 0;
+    let mut k = at;
+    while i < PLACES {
+        let p = places[i];
+        let mark = mark_of(holder, i);
+        k = write_place(p, mark, life, fallback, buf, k);
+        i += 1;
+    }
+    k
+}
+
+// GET STATUS of the profile at a place.
+pub fn write_one_status(
+    card: Card,
+    place: usize,
+    life: bool,
+    fallback: bool,
+    buf: &mut [u8],
+    at: usize,
+) -> usize
+    ensures { λ r. ⌜ Wrote (now (buf .entry)) at (oneStatus card place life fallback) r (now (buf .exit)) ⌝ }
+{
+    let p = card.profile(place);
+    let mark = mark_of(card.fallback, place);
+    write_place(p, mark, life, fallback, buf, at)
+}
+
+// Four bytes, high byte first.
+fn write_four(n: u32, buf: &mut [u8], at: usize) -> usize
+    ensures { λ r. ⌜ Wrote (now (buf .entry)) at (fourBytes n) r (now (buf .exit)) ⌝ }
+{
+    let first = (n / 16777216 % 256) as u8;
+    let second = (n / 65536 % 256) as u8;
+    let third = (n / 256 % 256) as u8;
+    let fourth = (n % 256) as u8;
+    let bytes = [first, second, third, fourth];
+    put_bytes(buf, at, &bytes)
+}
+
+// GET DATA.
+pub fn write_data(card: Card, buf: &mut [u8], at: usize) -> usize
+    ensures { λ r. ⌜ Wrote (now (buf .entry)) at (dataResponse card) r (now (buf .exit)) ⌝ }
+{
+    let places = card.places;
+    let count = count_held(places);
+    let head = [0xFF, 0x21, 0x0F, 0x81, 1, count, 0x82, 4];
+    let free = card.free();
+    let k = put_bytes(buf, at, &head);
+    let m = write_four(free, buf, k);
+    let figure = [0x83, 4];
+    let j = put_bytes(buf, m, &figure);
+    write_four(card.volatile, buf, j)
+}
+
+// Confirmation: the AID deleted, where there is one.
+pub fn write_deleted(aid: Aid, buf: &mut [u8], at: usize) -> usize
+    ensures { λ r. ⌜ Wrote (now (buf .entry)) at (deletedResponse aid) r (now (buf .exit)) ⌝ }
+{
+    if aid.len == 0 {
+        return at;
+    }
+    let n = held_bytes(aid.len);
+    let size = n as u8 + 2;
+    let head = [0x80, size];
+    let k = put_bytes(buf, at, &head);
+    let bytes = aid.bytes;
+    write_aid(bytes, aid.len, buf, k)
+}
