@@ -61,3 +61,16 @@ withPlaces c l = withChange c (c .last) (c .phase) l
 
 abbrev pub withPhase : Card → Phase → Card
 withPhase c p = withChange c (c .last) p (c .places)
+
+-- a card with another fall-back
+abbrev pub withFallback : Card → ℕ → Card
+withFallback c f =
+    record {
+      eid = c .eid;
+      capacity = c .capacity;
+      volatile = c .volatile;
+      last = c .last;
+      fallback = f;
+      phase = c .phase;
+      places = c .places;
+    }

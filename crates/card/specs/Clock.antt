@@ -7,7 +7,7 @@ use Rattle.isdp.specs.Sizes.{wait, lastNumber}
 use Rattle.isdp.specs.Policy.{onceDisabled}
 use Rattle.isdp.specs.Place.{none}
 use Rattle.places.specs.Places.{at, enableAt}
-use Rattle.card.specs.Cards.{isQuiet, onFallback, withChange, withPhase}
+use Rattle.card.specs.Cards.{isQuiet, enabledPlace, onFallback, withChange, withPhase}
 use Rattle.card.specs.declared.Card.{Card}
 use Rattle.card.specs.declared.Phase.{Phase}
 use Rattle.card.specs.declared.Phase.the-variants.{Quiet, Trial, Back, Fallen}
@@ -19,6 +19,10 @@ nextOf n = cond (eqb n lastNumber) 0 (n + 1)
 -- the place at i is enabled, the next number is issued, and the phase opens
 abbrev pub moved : Card → ℕ → Phase → Card
 moved c i p = withChange c (nextOf (c .last)) p (enableAt (c .places) i)
+
+-- the profile at place t is enabled in place of the enabled one: Trial
+abbrev pub opened : Card → ℕ → Card
+opened c t = moved c t (Trial (enabledPlace c) wait (nextOf (c .last)))
 
 -- the fall-back is enabled: Fallen
 abbrev pub fallen : Card → Card

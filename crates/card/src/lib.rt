@@ -13,10 +13,10 @@ ghost use mathlib.Core.Bool.{true, not, cond, _&&_};
 ghost use Prim.Native.Nat.{_+_, _*_, _-_, _<_, _≤_};
 ghost use lib.ListN.{length, set};
 ghost use lib.Dec.{leb, ltb, eqb};
-ghost use Rattle.card.specs.Cards.{withPhase, withPlaces, isQuiet, placeOf, enabledPlace, freePlace, freeIn, mayBeDeleted};
+ghost use Rattle.card.specs.Cards.{withPhase, withPlaces, isQuiet, placeOf, enabledPlace, freePlace, freeIn, mayBeDeleted, withFallback};
 ghost use Rattle.places.specs.Places.{at, foundOf};
 ghost use Rattle.card.specs.Sound.{openOk, phaseOk, sound};
-ghost use Rattle.card.specs.Clock.{nextOf, moved, fallen, tickOf, lostOf, dropped, trialClosed, outstanding};
+ghost use Rattle.card.specs.Clock.{nextOf, moved, opened, fallen, tickOf, lostOf, dropped, trialClosed, outstanding};
 ghost use Rattle.card.specs.Ticks.{ticksByPhase};
 ghost use Rattle.card.specs.Notifications.{silent, kindOf, codeOf, issued, noticeOf};
 ghost use Rattle.card.specs.Answers.{handed, refusedAt, answerAt};
@@ -66,7 +66,7 @@ pub struct Notification {
     pub aid: Aid,
 }
 
-// The card after a step, with what the step handed out: the notification, and the AID it deleted (length 0: none).
+// The card after a step, with what the step handed out: the notification, and the AID that a confirmation deleted (length 0: none).
 pub struct Step {
     pub card: Card,
     pub notification: Notification,
@@ -227,6 +227,14 @@ impl Card {
         let places = places::put(before, i, p);
         let mut after = self;
         after.places = places;
+        after
+    }
+
+    pub fn with_fallback(self, i: usize) -> Card
+        ensures { λ r. ⌜ r ≡ withFallback self i ⌝ }
+    {
+        let mut after = self;
+        after.fallback = i;
         after
     }
 
@@ -470,6 +478,22 @@ impl Card {
             return self;
         }
         self.fallen()
+    }
+
+    // The change to the profile at a place is opened: Trial.
+    pub fn opened(self, t: usize) -> Card
+        ensures { λ r. ⌜ r ≡ opened self t ⌝ }
+    {
+        let e = self.enabled_place();
+        let n = next(self.last);
+        self.moved(
+            t,
+            Phase::Trial {
+                previous: e,
+                left: Card::WAIT,
+                number: n,
+            },
+        )
     }
 
     // Does the confirmation delete the profile at a place?

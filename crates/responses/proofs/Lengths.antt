@@ -15,7 +15,7 @@ use Rattle.isdp.specs.declared.Aid.{Aid}
 use Rattle.places.specs.Places.{at, allOf}
 use Rattle.card.specs.Sound.{sound}
 use Rattle.card.specs.declared.Card.{Card}
-use Rattle.card.proofs.Bools.{and-l, and-r, both}
+use Rattle.isdp.proofs.Bools.{and-l, and-r, both}
 use Rattle.responses.specs.Responses.{aidElement, markOf, statusRow, rowOf, rowsFrom, statusResponse, oneStatus, dataResponse, deletedResponse}
 use Rattle.responses.proofs.Rows.{body-length, listed-small}
 

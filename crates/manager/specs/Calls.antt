@@ -1,0 +1,50 @@
+-- Document 01, 'What is bought': the calls, and what each asks of a card once it is read.
+use Prim.Native.Nat.{ℕ}
+use mathlib.Core.List.{List}
+use mathlib.Core.Bool.{Bool}
+use lib.ListN.{take, drop}
+use Rattle.tlv.specs.declared.Part.{Part}
+use Rattle.command.specs.Requests.{fieldOf}
+use Rattle.command.specs.declared.request.Request.{Request}
+use Rattle.command.specs.declared.request.Request.the-variants as request
+use Rattle.command.specs.declared.request.Field.{Field}
+use Rattle.command.specs.declared.request.Field.the-variants as field
+use Rattle.steps.specs.Asked.{Act, Act.enable, Act.disable, Act.delete, Act.masterDelete, Act.setFallBack, Act.status, Act.keyed, Act.stored, Act.finished, Asked, Asked.unread, Asked.create, Asked.on, Asked.confirm, Asked.statusOfAll, Asked.getData, Asked.tick, Asked.lost}
+use Rattle.card.specs.declared.Card.{Card}
+
+pub data Call : Type 0 where
+  -- the token verdict, the bytes, and how many bytes the lent response buffer has
+  Command : ℕ → List ℕ → ℕ → Call
+  Keyed : List ℕ → Call
+  Stored : List ℕ → ℕ → Call
+  Finished : List ℕ → ℕ → Call
+  Tick : Call
+  Lost : Call
+
+-- the bytes of a part of the command
+abbrev pub partOf : List ℕ → Part → List ℕ
+partOf s part = take (part .len) (drop (part .start) s)
+
+abbrev pub requestAsks : ℕ → List ℕ → Request → Asked
+requestAsks verdict s (request.Create aid quota) = create (partOf s aid) quota
+requestAsks verdict s (request.Enable aid) = on (partOf s aid) enable
+requestAsks verdict s (request.Disable aid) = on (partOf s aid) disable
+requestAsks verdict s (request.SetFallBack aid) = on (partOf s aid) setFallBack
+requestAsks verdict s (request.Delete aid) = on (partOf s aid) delete
+requestAsks verdict s (request.MasterDelete aid) = on (partOf s aid) (masterDelete verdict)
+requestAsks verdict s (request.Confirm number) = confirm number
+requestAsks verdict s (request.GetStatusOfAll life fallback) = statusOfAll life fallback
+requestAsks verdict s (request.GetStatusOfOne aid life fallback) = on (partOf s aid) (status life fallback)
+requestAsks verdict s request.GetData = getData
+
+abbrev pub fieldAsks : ℕ → List ℕ → Field → Asked
+fieldAsks verdict s field.Wrong = unread
+fieldAsks verdict s (field.Found r) = requestAsks verdict s r
+
+abbrev pub asked : Card → Call → Asked
+asked c (Command verdict s room) = fieldAsks verdict s (fieldOf s (c .capacity))
+asked c (Keyed aid) = on aid keyed
+asked c (Stored aid n) = on aid (stored n)
+asked c (Finished aid policy) = on aid (finished policy)
+asked c Tick = tick
+asked c Lost = lost

@@ -1,0 +1,32 @@
+-- Document 01, 'What is bought': what the manager answers to a call, and what a run of calls makes of a card.
+-- The status is the word of the table; "Otherwise 90 00" the step is taken and its response given.
+use Prim.Native.Nat.{ℕ}
+use mathlib.Core.List.{List, [], _∷_}
+use Rattle.status.specs.Rows.{wordOf}
+use Rattle.card.specs.Answers.{Outcome, Work, accepted, decide, outcome}
+use Rattle.card.specs.declared.Card.{Card}
+use Rattle.steps.specs.Steps.{stepOf, responseOf}
+use Rattle.manager.specs.Calls.{Call, asked}
+use Rattle.manager.specs.Table.{table, rowsAfter}
+
+-- the work of a call: the rows after the first, the step, the response
+abbrev pub work : Card → Call → Work
+work c call =
+    record {
+      rows = rowsAfter c call;
+      step = stepOf c (asked c call);
+      response = responseOf c (asked c call);
+    }
+
+-- the answer: `decide c (wordOf (table c call)) (accepted step response)`
+unfoldable pub step : Card → Call → Outcome
+step c call = outcome c (work c call)
+
+-- a run of calls, in order: the card that it ends on, and every answer
+unfoldable pub run : Card → List Call → Card
+run c [] = c
+run c (call ∷ calls) = run (step c call .card) calls
+
+unfoldable pub answers : Card → List Call → List Outcome
+answers c [] = []
+answers c (call ∷ calls) = step c call ∷ answers (step c call .card) calls

@@ -1,0 +1,70 @@
+-- Document 01, 'Status words': the table, row for row. "Given exactly when, in this order".
+use Prim.Native.Nat.{ℕ}
+use mathlib.Core.List.{List, [], _∷_, _++_}
+use mathlib.Core.Bool.{Bool, true, false, not, _&&_}
+use lib.Dec.{ltb}
+use Rattle.status.specs.Rows.{Row, row}
+use Rattle.status.specs.declared.Status.the-variants.{Unsound, BufferShort, LengthWrong, ClassWrong, InstructionWrong, ParametersWrong, DataWrong, StateWrong, NotHeld, PolicyForbids, VerdictWrong, NoRoom}
+use Rattle.isdp.specs.Aids.{aidOk}
+use Rattle.isdp.specs.Policy.{policyOk}
+use Rattle.card.specs.Sound.{sound}
+use Rattle.card.specs.Answers.{soundRow}
+use Rattle.card.specs.declared.Card.{Card}
+use Rattle.command.specs.Framing.{lengthWrong, classWrong, instructionWrong, parametersWrong, shapeWrong}
+use Rattle.command.specs.Requests.{dataWrong}
+use Rattle.steps.specs.Conditions.{changeWrong, targetMissing, alreadyHeld, stateWrong, policyForbids, verdictWrong, noRoom}
+use Rattle.manager.specs.Calls.{Call, Call.Command, Call.Keyed, Call.Stored, Call.Finished, Call.Tick, Call.Lost, asked}
+
+-- a lent response buffer has at least so many bytes
+abbrev pub leastBuffer : ℕ
+leastBuffer = 256
+
+-- "response buffer under 256 bytes (commands only)"
+abbrev pub bufferShort : Call → Bool
+bufferShort (Command verdict s room) = ltb room leastBuffer
+bufferShort (Keyed aid) = false
+bufferShort (Stored aid n) = false
+bufferShort (Finished aid policy) = false
+bufferShort Tick = false
+bufferShort Lost = false
+
+-- a test of a command's bytes; no other call meets it
+abbrev pub inCommand : (List ℕ → Bool) → Call → Bool
+inCommand test (Command verdict s room) = test s
+inCommand test (Keyed aid) = false
+inCommand test (Stored aid n) = false
+inCommand test (Finished aid policy) = false
+inCommand test Tick = false
+inCommand test Lost = false
+
+-- "data field, DGI, or inner call's values wrong"
+abbrev pub valuesWrong : Card → Call → Bool
+valuesWrong c (Command verdict s room) = dataWrong s (c .capacity)
+valuesWrong c (Keyed aid) = not (aidOk aid)
+valuesWrong c (Stored aid n) = not (aidOk aid)
+valuesWrong c (Finished aid policy) = not (aidOk aid && policyOk policy)
+valuesWrong c Tick = false
+valuesWrong c Lost = false
+
+-- the rows after the first
+abbrev pub rowsAfter : Card → Call → List Row
+rowsAfter c call =
+    row (bufferShort call) BufferShort
+    ∷ row (inCommand lengthWrong call) LengthWrong
+    ∷ row (inCommand classWrong call) ClassWrong
+    ∷ row (inCommand instructionWrong call) InstructionWrong
+    ∷ row (inCommand parametersWrong call) ParametersWrong
+    ∷ row (inCommand shapeWrong call) LengthWrong
+    ∷ row (valuesWrong c call) DataWrong
+    ∷ row (changeWrong c (asked c call)) StateWrong
+    ∷ row (targetMissing c (asked c call)) NotHeld
+    ∷ row (alreadyHeld c (asked c call)) DataWrong
+    ∷ row (stateWrong c (asked c call)) StateWrong
+    ∷ row (policyForbids c (asked c call)) PolicyForbids
+    ∷ row (verdictWrong (asked c call)) VerdictWrong
+    ∷ row (noRoom c (asked c call)) NoRoom
+    ∷ []
+
+-- the whole table: "the card is not sound" stands first
+abbrev pub table : Card → Call → List Row
+table c call = soundRow c ∷ rowsAfter c call

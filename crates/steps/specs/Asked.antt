@@ -1,0 +1,31 @@
+-- Document 01, 'Steps': what a call asks of the card. Most acts concern one target, named by its AID.
+use Prim.Native.Nat.{ℕ}
+use mathlib.Core.List.{List}
+use mathlib.Core.Bool.{Bool}
+
+-- on one target
+pub data Act : Type 0 where
+  enable : Act
+  disable : Act
+  delete : Act
+  -- with the token verdict
+  masterDelete : ℕ → Act
+  setFallBack : Act
+  -- GET STATUS of one AID: is 9F70 listed, is 53 listed
+  status : Bool → Bool → Act
+  keyed : Act
+  stored : ℕ → Act
+  finished : ℕ → Act
+
+pub data Asked : Type 0 where
+  -- a command that cannot be read asks nothing
+  unread : Asked
+  -- AID and quota
+  create : List ℕ → ℕ → Asked
+  on : List ℕ → Act → Asked
+  -- the number
+  confirm : ℕ → Asked
+  statusOfAll : Bool → Bool → Asked
+  getData : Asked
+  tick : Asked
+  lost : Asked

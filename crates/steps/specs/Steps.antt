@@ -1,0 +1,81 @@
+-- Document 01, 'Steps' and 'Responses': what an accepted call does and answers.
+use Prim.Native.Nat.{ℕ, _+_}
+use mathlib.Core.List.{List, [], _∷_}
+use mathlib.Core.Bool.{Bool}
+use mathlib.Core.Path.{_≡_}
+use lib.ListN.{set}
+use Rattle.isdp.specs.Aids.{noAid}
+use Rattle.isdp.specs.LifeCycle.{selectable, personalized, withLife, withUsed, finish}
+use Rattle.isdp.specs.Place.{none, made}
+use Rattle.card.specs.Cards.{placeOf, profileOf, freePlace, withPlaces, withFallback}
+use Rattle.card.specs.Clock.{opened}
+use Rattle.card.specs.Steps.{stepTo, tickStep, lostStep, confirmStep}
+use Rattle.card.specs.Answers.{Outcome, Work, handed}
+use Rattle.card.specs.declared.Card.{Card}
+use Rattle.card.specs.declared.Step.{Step}
+use Rattle.card.specs.declared.Answer.{Answer}
+use Rattle.calls.specs.Calls.{rewritten}
+use Rattle.responses.specs.Responses.{statusResponse, oneStatus, dataResponse, deletedResponse}
+use Rattle.text.specs.Put.{put}
+use Rattle.steps.specs.Asked.{Act, Act.enable, Act.disable, Act.delete, Act.masterDelete, Act.setFallBack, Act.status, Act.keyed, Act.stored, Act.finished, Asked, Asked.unread, Asked.create, Asked.on, Asked.confirm, Asked.statusOfAll, Asked.getData, Asked.tick, Asked.lost}
+use Rattle.steps.specs.Conditions.{cardRows}
+
+-- nothing changes
+abbrev pub still : Card → Step
+still c = stepTo c c noAid
+
+abbrev pub actStep : Card → List ℕ → Act → Step
+-- "Enable: .. They trade states; Trial."
+actStep c aid enable = stepTo c (opened c (placeOf c aid)) noAid
+-- "Disable: .. The fall-back is enabled; Trial."
+actStep c aid disable = stepTo c (opened c (c .fallback)) noAid
+-- "Delete", "Master delete is the same without policy, with the token verdict"
+actStep c aid delete = rewritten c aid none
+actStep c aid (masterDelete verdict) = rewritten c aid none
+-- "Set fall-back: .. Naming the holder changes nothing"
+actStep c aid setFallBack = stepTo c (withFallback c (placeOf c aid)) noAid
+actStep c aid (status life fallback) = still c
+actStep c aid keyed = rewritten c aid (withLife (profileOf c aid) personalized)
+actStep c aid (stored n) = rewritten c aid (withUsed (profileOf c aid) (profileOf c aid .used + n))
+actStep c aid (finished policy) = rewritten c aid (finish (profileOf c aid) policy)
+
+abbrev pub stepOf : Card → Asked → Step
+stepOf c unread = still c
+-- "Create: the lowest free place, SELECTABLE, used 0, empty policy."
+stepOf c (create aid quota) = stepTo c (withPlaces c (set (c .places) (freePlace c) (made aid selectable quota 0))) noAid
+stepOf c (on aid act) = actStep c aid act
+stepOf c (confirm number) = confirmStep c
+stepOf c (statusOfAll life fallback) = still c
+stepOf c getData = still c
+stepOf c tick = tickStep c
+stepOf c lost = lostStep c
+
+-- "Response of both: 00" (delete and master delete); create too (000, 4.1.1.1); enable, disable and set fall-back have none
+abbrev pub actResponse : Card → List ℕ → Act → List ℕ
+actResponse c aid enable = []
+actResponse c aid disable = []
+actResponse c aid delete = 0x00 ∷ []
+actResponse c aid (masterDelete verdict) = 0x00 ∷ []
+actResponse c aid setFallBack = []
+actResponse c aid (status life fallback) = oneStatus c (placeOf c aid) life fallback
+actResponse c aid keyed = []
+actResponse c aid (stored n) = []
+actResponse c aid (finished policy) = []
+
+abbrev pub responseOf : Card → Asked → List ℕ
+responseOf c unread = []
+responseOf c (create aid quota) = 0x00 ∷ []
+responseOf c (on aid act) = actResponse c aid act
+responseOf c (confirm number) = deletedResponse (confirmStep c .deleted)
+responseOf c (statusOfAll life fallback) = statusResponse c life fallback
+responseOf c getData = dataResponse c
+responseOf c tick = []
+responseOf c lost = []
+
+abbrev pub askedWork : Card → Asked → Work
+askedWork c a = record { rows = cardRows c a; step = stepOf c a; response = responseOf c a }
+
+-- an outcome as it is handed out over a lent buffer: the answer, and in the buffer the response and then its old bytes
+pub record Handed (old : List ℕ) (o : Outcome) (r : Answer) (new : List ℕ) : Type 0 where
+  pub answer : r ≡ handed o
+  pub content : new ≡ put old 0 (o .response)

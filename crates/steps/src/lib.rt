@@ -1,0 +1,136 @@
+// What each command does on a card known to be sound, once it is read: create, enable, disable, delete, master delete, set fall-back.
+// No buffer is seen here; a response of one byte 00 is told by its length, and the manager writes it.
+use card::Answer;
+use card::Card;
+use isdp::Aid;
+use isdp::Isdp;
+use isdp::forbids_deletion;
+use isdp::forbids_disabling;
+use places::Found;
+use status::Status;
+ghost use mathlib.Core.Path.{_≡_};
+ghost use Rattle.card.specs.Answers.{handed, known};
+ghost use Rattle.steps.specs.Asked.{Act.enable, Act.disable, Act.delete, Act.masterDelete, Act.setFallBack, Asked.create, Asked.on};
+ghost use Rattle.steps.specs.Steps.{askedWork};
+
+pub fn create(card: Card, aid: &[u8], quota: u32) -> Answer
+    ensures { λ r. ⌜ r ≡ handed (known card (askedWork card (create (now (aid .entry)) quota))) ⌝ }
+{
+    let phase = card.phase;
+    if !phase.is_quiet() {
+        return card.refused(Status::StateWrong);
+    }
+    let Found::Nothing = card.place_of(aid) else {
+        return card.refused(Status::DataWrong);
+    };
+    let Found::At(t) = card.free_place() else {
+        return card.refused(Status::NoRoom);
+    };
+    if quota > card.free() {
+        return card.refused(Status::NoRoom);
+    }
+    let after = card.with_place(t, Isdp::made(aid, Isdp::SELECTABLE, quota, 0));
+    card.step_to(after, Aid::none()).answer(1)
+}
+
+pub fn enable(card: Card, aid: &[u8]) -> Answer
+    ensures { λ r. ⌜ r ≡ handed (known card (askedWork card (on (now (aid .entry)) enable))) ⌝ }
+{
+    let phase = card.phase;
+    if !phase.is_quiet() {
+        return card.refused(Status::StateWrong);
+    }
+    let Found::At(t) = card.place_of(aid) else {
+        return card.refused(Status::NotHeld);
+    };
+    let p = card.profile(t);
+    if p.life != Isdp::DISABLED {
+        return card.refused(Status::StateWrong);
+    }
+    let e = card.profile(card.enabled_place());
+    if forbids_disabling(e.policy) {
+        return card.refused(Status::PolicyForbids);
+    }
+    card.step_to(card.opened(t), Aid::none()).answer(0)
+}
+
+pub fn disable(card: Card, aid: &[u8]) -> Answer
+    ensures { λ r. ⌜ r ≡ handed (known card (askedWork card (on (now (aid .entry)) disable))) ⌝ }
+{
+    let phase = card.phase;
+    if !phase.is_quiet() {
+        return card.refused(Status::StateWrong);
+    }
+    let Found::At(t) = card.place_of(aid) else {
+        return card.refused(Status::NotHeld);
+    };
+    let p = card.profile(t);
+    let may = (p.life == Isdp::ENABLED) & (t != card.fallback);
+    if !may {
+        return card.refused(Status::StateWrong);
+    }
+    if forbids_disabling(p.policy) {
+        return card.refused(Status::PolicyForbids);
+    }
+    card.step_to(card.opened(card.fallback), Aid::none())
+        .answer(0)
+}
+
+pub fn delete(card: Card, aid: &[u8]) -> Answer
+    ensures { λ r. ⌜ r ≡ handed (known card (askedWork card (on (now (aid .entry)) delete))) ⌝ }
+{
+    let phase = card.phase;
+    if !phase.is_quiet() {
+        return card.refused(Status::StateWrong);
+    }
+    let Found::At(t) = card.place_of(aid) else {
+        return card.refused(Status::NotHeld);
+    };
+    if !card.may_be_deleted(t) {
+        return card.refused(Status::StateWrong);
+    }
+    let p = card.profile(t);
+    if forbids_deletion(p.policy) {
+        return card.refused(Status::PolicyForbids);
+    }
+    let after = card.with_place(t, Isdp::none());
+    card.step_to(after, Aid::none()).answer(1)
+}
+
+pub fn master_delete(card: Card, aid: &[u8], verdict: u8) -> Answer
+    ensures { λ r. ⌜ r ≡ handed (known card (askedWork card (on (now (aid .entry)) (masterDelete verdict)))) ⌝ }
+{
+    let phase = card.phase;
+    if !phase.is_quiet() {
+        return card.refused(Status::StateWrong);
+    }
+    let Found::At(t) = card.place_of(aid) else {
+        return card.refused(Status::NotHeld);
+    };
+    if !card.may_be_deleted(t) {
+        return card.refused(Status::StateWrong);
+    }
+    if verdict != 1 {
+        return card.refused(Status::VerdictWrong);
+    }
+    let after = card.with_place(t, Isdp::none());
+    card.step_to(after, Aid::none()).answer(1)
+}
+
+pub fn set_fall_back(card: Card, aid: &[u8]) -> Answer
+    ensures { λ r. ⌜ r ≡ handed (known card (askedWork card (on (now (aid .entry)) setFallBack))) ⌝ }
+{
+    let phase = card.phase;
+    if !phase.is_quiet() {
+        return card.refused(Status::StateWrong);
+    }
+    let Found::At(t) = card.place_of(aid) else {
+        return card.refused(Status::NotHeld);
+    };
+    let p = card.profile(t);
+    let may = (p.life == Isdp::DISABLED) | (p.life == Isdp::ENABLED);
+    if !may {
+        return card.refused(Status::StateWrong);
+    }
+    card.step_to(card.with_fallback(t), Aid::none()).answer(0)
+}
