@@ -3,3 +3,4 @@ pub mod Inside
 pub mod Listing
 pub mod Numbers
 pub mod Written
+pub mod ReadBack

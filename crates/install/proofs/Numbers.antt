@@ -1,14 +1,13 @@
 -- The quota read is the number of its bytes, high byte first: 2 or 4 of them, each case by computing.
-use Prim.Native.Nat.{ℕ, _+_, _-_, _*_, _≤_, _<_}
-use mathlib.Core.Path.{_≡_, refl, sym, ap, _∙_}
-use mathlib.Core.List.{List, [], _∷_}
+use Prim.Native.Nat.{ℕ, _+_, _-_, _*_, _≤_}
+use mathlib.Core.Path.{_≡_}
+use mathlib.Core.List.{List}
 use native.Mathlib.Omega.{arith}
 use lib.ListN.{length}
-use Rattle.tlv.specs.When.{when, eq?}
 use Rattle.tlv.specs.Tlv.{byte}
 use Rattle.tlv.specs.Encoding.{window}
 use Rattle.tlv.proofs.Branches.{each-eq}
-use Rattle.tlv.proofs.Windows.{window-first, window-none}
+use Rattle.tlv.proofs.Windows.{window-first}
 use Rattle.tlv.proofs.Written.{window-two}
 use Rattle.install.specs.Parameters.{numberAt}
 use Rattle.install.specs.Grammar.{highFirst}

@@ -1,18 +1,17 @@
 -- Create's data field: whatever is accepted is the encoding of what was read. Each reader's definition is followed to the branch that reads
 -- something; there the window is cut where its parts were found, and each part is the bytes of its encoding.
-use Prim.Native.Nat.{ℕ, zero, suc, _+_, _-_, _*_, _≤_, _<_}
-use mathlib.Core.Path.{_≡_, refl, sym, ap, subst, _∙_}
+use Prim.Native.Nat.{ℕ, zero, suc, _+_, _-_, _≤_}
+use mathlib.Core.Path.{_≡_, sym, ap, subst, _∙_}
 use mathlib.Core.List.{List, [], _∷_, _++_}
-use mathlib.Core.Option.{Option, none, some}
+use mathlib.Core.Option.{none, some}
 use native.Mathlib.Omega.{arith}
 use lib.ListN.{length}
-use Rattle.tlv.specs.When.{when, eq?}
-use Rattle.tlv.specs.Tlv.{expectAt, onFound}
+use Rattle.tlv.specs.Tlv.{expectAt}
 use Rattle.tlv.specs.declared.Element.{Element}
 use Rattle.tlv.specs.declared.Element.the-variants as element
 use Rattle.tlv.specs.Encoding.{window, Bytes, encodeLength, encodeElement}
 use Rattle.tlv.proofs.Branches.{each-le, each-lt, each-eq}
-use Rattle.tlv.proofs.Inside.{Inside, Expected, expect-parts}
+use Rattle.tlv.proofs.Inside.{expect-parts}
 use Rattle.tlv.proofs.Windows.{window-none, window-length, window-cut}
 use Rattle.tlv.proofs.Written.{length-written, element-written}
 use Rattle.install.specs.declared.Protocols.{Protocols}
@@ -21,10 +20,10 @@ use Rattle.install.specs.declared.Quota.{Quota}
 use Rattle.install.specs.declared.Quota.the-variants as quota
 use Rattle.install.specs.declared.Installation.{Installation}
 use Rattle.install.specs.declared.Installation.the-variants as installation
-use Rattle.install.specs.Parameters.{protocolsWithin, protocolsAt, onListed, numberAt, grantOf, memoryAt, parametersAt}
-use Rattle.install.specs.Install.{prefixedAt, namesAt, rightsAt, onGranted, installOf}
-use Rattle.install.specs.Grammar.{Free, encodePrefixed, encodeProtocols, encodeParameters, encodeNames, encodeRights, encodeInstall, highFirst, Sized, OrTwoMore, AllPairs, LegalParameters, EncodesInstall, Created, createdOf, InstallWritten}
-use Rattle.install.proofs.Inside.{Prefixed, prefixed-parts, each-found, each-granted, each-listed}
+use Rattle.install.specs.Parameters.{protocolsWithin, protocolsAt, numberAt, grantOf, memoryAt, parametersAt}
+use Rattle.install.specs.Install.{prefixedAt, namesAt, rightsAt, installOf}
+use Rattle.install.specs.Grammar.{Free, encodePrefixed, encodeProtocols, encodeParameters, encodeNames, encodeRights, encodeInstall, highFirst, Sized, OrTwoMore, AllPairs, EncodesInstall, Created, createdOf, InstallWritten}
+use Rattle.install.proofs.Inside.{prefixed-parts, each-found, each-granted, each-listed}
 use Rattle.install.proofs.Numbers.{number-first}
 
 -- ---- a field after its length
@@ -230,3 +229,51 @@ module _ (s : List ℕ) (at end from to : ℕ) where
         ordered = omega arith;
         written = rw (← a₁, ← a₂) whole;
       }) (λ _. none))
+
+-- ---- the whole field
+
+module _ (s : List ℕ) (at end capacity start stop from to number : ℕ) where
+  abbrev free-of : NamesWritten s at end start stop → RightsWritten s stop end from to → ParametersWritten s from to capacity number → Free
+  free-of n r p = record {
+    loadFile = n .loadFile;
+    moduleAid = n .moduleAid;
+    privileges = r .privileges;
+    protocols = p .values;
+    memory = p .memory;
+  }
+
+  whole : (n : NamesWritten s at end start stop) (r : RightsWritten s stop end from to) (p : ParametersWritten s from to capacity number)
+      → EncodesInstall capacity (window s start stop) number (window s at end)
+  unfolding encodeInstall encodeNames encodeRights encodeParameters
+  whole n r p =
+      let parameters : window s from to ≡ encodeParameters (free-of n r p) = p .written in
+      let o = n .ordered in let w = n .within in
+      record {
+        free = free-of n r p;
+        loaded = n .loaded;
+        moduled = n .moduled;
+        named = n .named;
+        privileged = r .privileged;
+        parameters = record { pairs = p .pairs; listed = p .listed; counted = p .counted; number = p .numbered; granted = p .granted; fits = p .fits };
+        short = subst (Sized 0 255) parameters (r .parameters) .most;
+        written = window-cut s at stop end o w (n .held)
+            ∙ ap (λ (l : List ℕ). l ++ window s stop end) (n .written)
+            ∙ ap (λ (l : List ℕ). encodeNames (window s start stop) (free-of n r p) ++ l)
+            (r .written ∙ ap (λ (l : List ℕ). encodePrefixed (r .privileges) ++ (encodePrefixed l ++ encodePrefixed [])) parameters);
+      }
+
+pub install-written : InstallWritten
+unfolding installOf
+install-written s at end capacity v b =
+    let P : Installation → Type 0 = λ z. createdOf s z ≡ some v → (at ≤ end) × ((end ≤ length s) × EncodesInstall capacity (v .aid) (v .quota) (window s at end)) in
+    let none : P installation.Wrong = λ q. let z : _≡_ {A = ℕ} 0 1 = cc in absurd (omega arith) in
+    each-found P (namesAt s at end) none λ start stop c. each-found P (rightsAt s stop end) none λ from to d.
+    each-granted P (parametersAt s from to capacity) none λ number g q.
+    let n = names-written s at end start stop c in
+    let r = rights-written s stop end from to d in
+    let p = parameters-written s from to capacity number b g in
+    let o = n .ordered in let w = n .within in let x = n .reached in
+    let e : record { aid = window s start (start + (stop - start)); quota = number } ≡ v = cc in
+    let f : window s start stop ≡ v .aid = ap (window s start) {x = stop} {y = start + (stop - start)} (omega arith) ∙ ap (λ (z : Created). z .aid) e in
+    let h : number ≡ v .quota = ap (λ (z : Created). z .quota) e in
+    (omega arith, (n .held, rw (← f, ← h) (whole s at end capacity start stop from to number n r p)))
