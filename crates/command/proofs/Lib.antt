@@ -2,3 +2,4 @@
 pub mod Frames
 pub mod Answers
 pub mod Within
+pub mod Examples
