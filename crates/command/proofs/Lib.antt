@@ -3,3 +3,4 @@ pub mod Frames
 pub mod Answers
 pub mod Within
 pub mod Examples
+pub mod Fields
