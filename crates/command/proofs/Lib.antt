@@ -2,3 +2,5 @@
 pub mod Frames
 pub mod Answers
 pub mod Within
+pub mod Examples
+pub mod Fields

@@ -10,7 +10,7 @@ use Rattle.tlv.specs.declared.Element.the-variants as element
 use Rattle.tlv.proofs.Branches.{each-eq, each-lt}
 use Rattle.tlv.proofs.Inside.{Expected, expect-parts}
 use Rattle.fields.specs.Alone.{aloneAt, partOf}
-use Rattle.fields.specs.StoreData.{dgiAt, onDgi, confirmationAt, storeDataAt}
+use Rattle.fields.specs.StoreData.{dgiAt, onDgi, confirmationAt, namedBy, storeDataAt}
 use Rattle.fields.specs.Delete.{verificationAt, onFilled, deletionAt}
 use Rattle.fields.specs.GetStatus.{tagsAt, onShown, listingAt}
 use Rattle.fields.specs.declared.Dgi.{Dgi}
@@ -57,7 +57,7 @@ module _ (s : List ℕ) (capacity at end : ℕ) where
 
 module _ (s : List ℕ) (capacity end : ℕ) where
   store-data-in : FieldIn s capacity (storeDataOf s end)
-  unfolding storeDataAt confirmationAt
+  unfolding storeDataAt confirmationAt namedBy
   store-data-in = each-dgi (λ z. FieldIn s capacity (onStoreData z)) (dgiAt s 5 end) tt λ n contents.
       each-eq (λ z. FieldIn s capacity (onStoreData z)) (λ _. each-found (λ z. FieldIn s capacity (onStoreData z)) (aloneAt s contents end 0x4E 2 2) tt (λ k e q. tt))
       (λ _. each-found (λ z. FieldIn s capacity (onStoreData z)) (aloneAt s contents end 0x4F 5 16) tt (λ k e q.

@@ -4,3 +4,4 @@ pub mod Frame
 pub mod Requests
 pub mod Reading
 pub mod Places
+pub mod Grammar

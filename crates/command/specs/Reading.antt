@@ -4,7 +4,6 @@ use mathlib.Core.List.{List, [], _∷_}
 use mathlib.Core.Bool.{cond}
 use Rattle.status.specs.StatusWords.{isDone}
 use Rattle.status.specs.Rows.{Row, row, wordOf}
-use Rattle.status.specs.declared.Status.{Status}
 use Rattle.status.specs.declared.Status.the-variants as status
 use Rattle.command.specs.declared.request.Field.{Field}
 use Rattle.command.specs.declared.request.Field.the-variants as field

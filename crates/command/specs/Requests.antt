@@ -18,7 +18,6 @@ use Rattle.install.specs.declared.Installation.{Installation}
 use Rattle.install.specs.declared.Installation.the-variants as installation
 use Rattle.tlv.specs.Tlv.{byte}
 use Rattle.command.specs.Framing.{dataEnd}
-use Rattle.command.specs.declared.request.Request.{Request}
 use Rattle.command.specs.declared.request.Request.the-variants as request
 use Rattle.command.specs.declared.request.Field.{Field}
 use Rattle.command.specs.declared.request.Field.the-variants as field

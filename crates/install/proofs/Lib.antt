@@ -1,5 +1,6 @@
 -- Laws about create's data field.
 pub mod Inside
 pub mod Listing
-pub mod Stands
-pub mod Writes
+pub mod Numbers
+pub mod Written
+pub mod ReadBack

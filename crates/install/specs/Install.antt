@@ -3,7 +3,7 @@
 -- token (length 0)".
 use Prim.Native.Nat.{ℕ, _+_, _-_}
 use mathlib.Core.List.{List}
-use Rattle.tlv.specs.When.{when, le?, lt?, eq?}
+use Rattle.tlv.specs.When.{when, lt?, eq?}
 use Rattle.tlv.specs.Tlv.{lengthAt, onFound}
 use Rattle.tlv.specs.declared.LengthRead.{LengthRead}
 use Rattle.tlv.specs.declared.LengthRead.the-variants as len

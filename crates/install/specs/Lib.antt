@@ -1,4 +1,4 @@
 -- Document 01, 'Reading a command', 'Create'.
 pub mod Parameters
 pub mod Install
-pub mod Encode
+pub mod Grammar

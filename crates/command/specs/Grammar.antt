@@ -1,0 +1,76 @@
+-- Document 01, 'Reading a command', from the writer's side: the string of each command, for every legal value, class, and Le or not.
+-- Reading such a string gives the value back, and whatever is accepted is such a string; an AID counts by its bytes.
+use Prim.Native.Nat.{ℕ, _+_, _≤_}
+use mathlib.Core.Path.{_≡_}
+use mathlib.Core.List.{List, [], _∷_}
+use mathlib.Core.Option.{Option, none, some}
+use mathlib.Core.Bool.{Bool, true}
+use lib.ListN.{length}
+use Rattle.tlv.specs.Encoding.{Bytes}
+use Rattle.fields.specs.Grammar.{partBytes, Stored, enable, disable, setFallBack, confirmation, EncodesStored, Deleted, delete, masterDelete, EncodesDeleted, Asked, asked, EncodesListed}
+use Rattle.install.specs.Grammar.{Created, EncodesInstall}
+use Rattle.command.specs.declared.request.Request.{Request}
+use Rattle.command.specs.declared.request.Request.the-variants as request
+use Rattle.command.specs.declared.Reading.{Reading}
+use Rattle.command.specs.declared.Reading.the-variants as reading
+use Rattle.command.specs.Framing.{classRight, parametersRight}
+use Rattle.command.specs.Frame.{framed}
+use Rattle.command.specs.Reading.{readOf}
+
+-- what a command asks for
+pub data Wanted : Type 0 where
+  create : Created → Wanted
+  storeData : Stored → Wanted
+  deletion : Deleted → Wanted
+  getStatus : Asked → Wanted
+  getData : Wanted
+
+abbrev pub wantedOf : List ℕ → Request → Wanted
+wantedOf s (request.Create part quota) = create (record { aid = partBytes s part; quota = quota })
+wantedOf s (request.Enable part) = storeData (enable (partBytes s part))
+wantedOf s (request.Disable part) = storeData (disable (partBytes s part))
+wantedOf s (request.SetFallBack part) = storeData (setFallBack (partBytes s part))
+wantedOf s (request.Confirm number) = storeData (confirmation number)
+wantedOf s (request.Delete part) = deletion (delete (partBytes s part))
+wantedOf s (request.MasterDelete part) = deletion (masterDelete (partBytes s part))
+wantedOf s (request.GetStatusOfAll life fallBack) = getStatus (asked [] life fallBack)
+wantedOf s (request.GetStatusOfOne part life fallBack) = getStatus (asked (partBytes s part) life fallBack)
+wantedOf s request.GetData = getData
+
+abbrev pub readAs : List ℕ → Reading → Option Wanted
+readAs s (reading.Read r) = some (wantedOf s r)
+readAs s (reading.Refused word) = none
+
+-- a command with a data field that is so encoded
+pub record Framed (instruction : ℕ) (Encoded : List ℕ → Type 0) (s : List ℕ) : Type 0 where
+  pub class : ℕ
+  pub p1 : ℕ
+  pub p2 : ℕ
+  pub field : List ℕ
+  pub withLe : Bool
+  pub rightClass : classRight class ≡ true
+  pub rightParameters : parametersRight instruction p1 p2 ≡ true
+  pub least : 1 ≤ length field
+  pub most : length field ≤ 255
+  pub encoded : Encoded field
+  pub written : s ≡ framed class instruction p1 p2 field withLe
+
+pub record Bare (s : List ℕ) : Type 0 where
+  pub class : ℕ
+  pub rightClass : classRight class ≡ true
+  pub written : s ≡ class ∷ 0xCA ∷ 0xFF ∷ 0x21 ∷ 0x00 ∷ []
+
+abbrev pub Encodes : ℕ → Wanted → List ℕ → Type 0
+Encodes capacity (create v) s = Framed 0xE6 (EncodesInstall capacity (v .aid) (v .quota)) s
+Encodes capacity (storeData v) s = Framed 0xE2 (EncodesStored v) s
+Encodes capacity (deletion v) s = Framed 0xE4 (EncodesDeleted v) s
+Encodes capacity (getStatus v) s = Framed 0xF2 (EncodesListed v) s
+Encodes capacity getData s = Bare s
+
+-- reading an encoded command gives it back
+abbrev pub CommandBack : Type 0
+CommandBack = (s : List ℕ) (capacity : ℕ) (v : Wanted) → Encodes capacity v s → readAs s (readOf s capacity) ≡ some v
+
+-- whatever is accepted is the encoding of what was read
+abbrev pub CommandWritten : Type 0
+CommandWritten = (s : List ℕ) (capacity : ℕ) (v : Wanted) → Bytes s → readAs s (readOf s capacity) ≡ some v → Encodes capacity v s
