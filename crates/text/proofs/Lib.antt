@@ -2,6 +2,7 @@
 pub mod Branches
 pub mod Rest
 pub mod WordLaws
+pub mod WordLists
 pub mod NumberLaws
 pub mod HexLaws
 pub mod PutLaws
