@@ -6,3 +6,4 @@ pub mod WordLists
 pub mod NumberLaws
 pub mod HexLaws
 pub mod PutLaws
+pub mod RoundTrips
