@@ -89,7 +89,7 @@ unfolding drainedTo
 drained-all zero w buf h = h
 drained-all (suc n) w buf h = let k = next-falls-last w buf true refl in drained-all n (nextOf w buf true .window) buf (omega arith)
 
-held-le : (w : Window) (buf : List ℕ) → length (heldOf w buf) ≤ length buf
+pub held-le : (w : Window) (buf : List ℕ) → length (heldOf w buf) ≤ length buf
 held-le w buf = simp (length-drop, length-take) (omega arith)
 
 -- a read goes behind what is kept
