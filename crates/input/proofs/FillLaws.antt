@@ -29,17 +29,10 @@ module _ (w : Window) (buf : List ℕ) (v : Window) (k : List ℕ) (p : v ≡ ke
   pub kept-held : heldOf v k ≡ heldOf w buf ++ []
   kept-held = ap (λ (x : Window). drop (x .at) (take (v .end) k)) p ∙ kept-front ∙ sym (append-nil (heldOf w buf))
 
-  -- after a read that brought nothing, or `count` bytes
+  -- after a read of `count` bytes
   module _ (ys post : List ℕ) where
     front : take (v .end) k ++ (ys ++ post) ≡ heldOf w buf ++ (ys ++ post)
     front = ap (λ (x : List ℕ). x ++ (ys ++ post)) kept-front
-
-    pub still-held : heldOf v (take (v .end) k ++ (ys ++ post)) ≡ heldOf w buf ++ []
-    still-held =
-        ap (λ (x : Window). heldOf x (take (v .end) k ++ (ys ++ post))) p
-        ∙ ap (take (length (heldOf w buf))) front
-        ∙ take-append-seam (heldOf w buf) (ys ++ post)
-        ∙ sym (append-nil (heldOf w buf))
 
     pub more-held : (count : ℕ) {r : Window} → r ≡ grownOf v count (length (take (v .end) k ++ (ys ++ post))) → count ≤ length ys
         → heldOf r (take (v .end) k ++ (ys ++ post)) ≡ heldOf w buf ++ take count ys
