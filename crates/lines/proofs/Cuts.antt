@@ -3,7 +3,7 @@
 -- and of all that follows stays what is not handed out. Each read fits, since the steps before it leave at most 4,096 bytes.
 -- The same law by cases over what a session does gives `any-session`.
 use Prim.Native.Nat.{ℕ, zero, suc, _+_, _-_, _≤_}
-use mathlib.Core.Path.{_≡_, refl, sym, ap, _∙_}
+use mathlib.Core.Path.{_≡_, refl, sym, ap, subst, _∙_}
 use mathlib.Core.List.{List, [], _∷_, _++_, append-nil, append-assoc, flatten}
 use mathlib.Core.Bool.{Bool, true, false}
 use native.Mathlib.Omega.{arith}
@@ -16,6 +16,7 @@ use Rattle.lines.specs.Lines.{Line, Whole, linesOf}
 use Rattle.lines.specs.Window.{nextOf, heldOf, freshWindow}
 use Rattle.lines.specs.Cuts.{handed, drained, drainedTo, readBuffer, readWindow, steps, linesBy, AtMost, one, AnyCut, AnswersAtOnce, Settled, Session, over, step, read, AnySession}
 use Rattle.lines.specs.declared.Window.{Window}
+use Rattle.lines.specs.declared.Step.{Step}
 use Rattle.lines.specs.declared.Found.{Found}
 use Rattle.lines.specs.declared.Found.the-variants as found-as
 use Rattle.lines.proofs.WindowLaws.{take-least, drop-part}
@@ -175,3 +176,6 @@ cut-in-two n buf a b reads (one k m) h =
 -- a line lies inside the buffer
 pub next-inside : (w : Window) (buf : List ℕ) (last : Bool) → Inside (length buf) (nextOf w buf last .found)
 next-inside w buf last = (let l = length-take (w .end) buf in inside-more (length (take (w .end) buf)) (length buf) (nextOf w buf last .found) (omega arith)) (step-right (take (w .end) buf) (w .at) (w .skipping) last .inside)
+
+pub line-inside : (w : Window) (buf : List ℕ) (last : Bool) {r : Step} {a e : ℕ} → r ≡ nextOf w buf last → r .found ≡ found-as.Line a e → (a ≤ e) × (e ≤ length buf)
+line-inside w buf last {r} {a} {e} p q = subst (Inside (length buf)) (ap (λ (x : Step). x .found) (sym p) ∙ q) (next-inside w buf last)
