@@ -6,11 +6,10 @@ use mathlib.Core.Option.{Option, none, some}
 use mathlib.Core.Bool.{Bool}
 use native.Mathlib.Omega.{arith}
 use lib.ListN.{length}
-use Rattle.tlv.specs.When.{when, lt?, eq?}
 use Rattle.tlv.specs.Tlv.{expectAt}
 use Rattle.tlv.specs.declared.Element.the-variants as element
 use Rattle.tlv.specs.Encoding.{window, Bytes, encodeElement}
-use Rattle.tlv.proofs.Branches.{each-lt, each-eq, nlt!, eq!, ne! }
+use Rattle.tlv.proofs.Branches.{each-lt, each-eq, nlt!, eq!, ne!}
 use Rattle.tlv.proofs.Inside.{expect-parts, expect-inside}
 use Rattle.tlv.proofs.Windows.{window-none, window-length}
 use Rattle.tlv.proofs.ReadBack.{element-back}
@@ -20,7 +19,7 @@ use Rattle.fields.specs.declared.Tags.the-variants as tags
 use Rattle.fields.specs.declared.Listing.{Listing}
 use Rattle.fields.specs.declared.Listing.the-variants as listing
 use Rattle.fields.specs.Alone.{aloneAt, partOf}
-use Rattle.fields.specs.GetStatus.{tagsAt, listingAt}
+use Rattle.fields.specs.GetStatus.{rowsOf, tagsAt, listingAt}
 use Rattle.fields.specs.Grammar.{Named, ListedTag, Asked, asked, Sought, all, one, Short, listedOf, partBytes, encodeTags, encodeList, showsLife, showsFallBack, EncodesListed, ListingBack, ListingWritten}
 use Rattle.fields.proofs.Only.{alone-expected}
 use Rattle.fields.proofs.Parts.{alone-back, alone-written, part-bytes, part-named}
@@ -48,18 +47,15 @@ sought-most all = omega arith
 sought-most (one named) = named .most
 
 module _ (s : List ℕ) (life shown : Bool) where
-  -- what the definition gives for a value of 4F from `start` on that is `who`
+  -- the rows for a value of 4F that is `who`
   who-back : (who : List ℕ) → Sought who → (start stop : ℕ) → stop ≡ start + length who → window s start stop ≡ who
-      → listedOf s (when (eq? (stop - start) 0) (listing.All life shown)
-      (when (lt? (stop - start) 5) listing.Wrong (listing.One (partOf start stop) life shown))) ≡ some (asked who life shown)
+      → listedOf s (rowsOf start stop life shown) ≡ some (asked who life shown)
   who-back who all start stop l q =
-      let r : listing.All life shown ≡ when (eq? (stop - start) 0) (listing.All life shown)
-      (when (lt? (stop - start) 5) listing.Wrong (listing.One (partOf start stop) life shown)) = eq! _ (omega arith) refl in
+      let r : listing.All life shown ≡ rowsOf start stop life shown = eq! _ (omega arith) refl in
       rw (← r) refl
   who-back who (one named) start stop l q =
       let k = named .least in
-      let r : listing.One (partOf start stop) life shown ≡ when (eq? (stop - start) 0) (listing.All life shown)
-      (when (lt? (stop - start) 5) listing.Wrong (listing.One (partOf start stop) life shown)) = ne! _ (omega arith) (nlt! _ (omega arith) refl) in
+      let r : listing.One (partOf start stop) life shown ≡ rowsOf start stop life shown = ne! _ (omega arith) (nlt! _ (omega arith) refl) in
       rw (← r) (ap (λ (a : List ℕ). some (asked a life shown)) (part-bytes s start stop (omega arith) ∙ q))
 
 pub listing-back : ListingBack
