@@ -27,7 +27,7 @@ fn read_alone(s: &[u8], at: usize, end: usize, tag: u16, low: usize, high: usize
 }
 
 // A DGI that fills the window: its number, and where its contents start.
-enum Dgi {
+pub enum Dgi {
     Found { dgi: u16, start: usize },
     Wrong,
 }
@@ -124,7 +124,7 @@ pub fn read_store_data(s: &[u8], at: usize, end: usize) -> StoreData
     StoreData::Wrong
 }
 
-enum Verification {
+pub enum Verification {
     Filled,
     Wrong,
 }
@@ -195,7 +195,7 @@ pub fn read_deletion(s: &[u8], at: usize, end: usize) -> Deletion
 }
 
 // Which of the two optional tags a row of the answer shows.
-enum Tags {
+pub enum Tags {
     Shown { life: bool, fall_back: bool },
     Wrong,
 }
