@@ -8,27 +8,27 @@ use Rattle.fields.specs.declared.StoreData.the-variants as store
 use Rattle.fields.specs.declared.Deletion.the-variants as deletion
 use Rattle.fields.specs.declared.Listing.the-variants as listing
 use Rattle.fields.specs.Alone.{aloneAt, partOf}
-use Rattle.fields.specs.StoreData.{dgiAt, confirmationAt, storeDataAt}
+use Rattle.fields.specs.StoreData.{dgiAt, confirmationAt, namedBy, storeDataAt}
 use Rattle.fields.specs.Delete.{verificationAt, deletionAt}
 use Rattle.fields.specs.GetStatus.{noted, listedWithin, listedAt, tagsAt, listingAt}
 
 -- example 2's data field, in the command
 set-fall-back : storeDataAt (0x80 ∷ 0xE2 ∷ 0x88 ∷ 0x00 ∷ 0x0A ∷ 0x3A ∷ 0x05 ∷ 0x07 ∷ 0x4F ∷ 0x05 ∷ 0xA0 ∷ 0 ∷ 0 ∷ 0 ∷ 2 ∷ []) 5 15 ≡ store.SetFallBack (partOf 10 15)
-unfolding storeDataAt confirmationAt dgiAt aloneAt expectAt expectOf headAt afterTag afterLength tagAt lengthAt when le? lt? eq?
+unfolding storeDataAt namedBy confirmationAt dgiAt aloneAt expectAt expectOf headAt afterTag afterLength tagAt lengthAt when le? lt? eq?
 set-fall-back = refl
 
 -- example 4's: inner lengths 06 and 04
 aid-of-four : storeDataAt (0x3A ∷ 0x05 ∷ 0x06 ∷ 0x4F ∷ 0x04 ∷ 0xA0 ∷ 0 ∷ 0 ∷ 0 ∷ []) 0 9 ≡ store.Wrong
-unfolding storeDataAt confirmationAt dgiAt aloneAt expectAt expectOf headAt afterTag afterLength tagAt lengthAt when le? lt? eq?
+unfolding storeDataAt namedBy confirmationAt dgiAt aloneAt expectAt expectOf headAt afterTag afterLength tagAt lengthAt when le? lt? eq?
 aid-of-four = refl
 
 confirm-one : storeDataAt (0x3A ∷ 0x08 ∷ 0x04 ∷ 0x4E ∷ 0x02 ∷ 0x00 ∷ 0x01 ∷ []) 0 7 ≡ store.Confirm 1
-unfolding storeDataAt confirmationAt dgiAt aloneAt expectAt expectOf headAt afterTag afterLength tagAt lengthAt when le? lt? eq?
+unfolding storeDataAt namedBy confirmationAt dgiAt aloneAt expectAt expectOf headAt afterTag afterLength tagAt lengthAt when le? lt? eq?
 confirm-one = refl
 
 -- 3A06 is no DGI of the root domain
 other-dgi : storeDataAt (0x3A ∷ 0x06 ∷ 0x07 ∷ 0x4F ∷ 0x05 ∷ 0xA0 ∷ 0 ∷ 0 ∷ 0 ∷ 2 ∷ []) 0 10 ≡ store.Wrong
-unfolding storeDataAt confirmationAt dgiAt aloneAt expectAt expectOf headAt afterTag afterLength tagAt lengthAt when le? lt? eq?
+unfolding storeDataAt namedBy confirmationAt dgiAt aloneAt expectAt expectOf headAt afterTag afterLength tagAt lengthAt when le? lt? eq?
 other-dgi = refl
 
 delete-two : deletionAt (0x4F ∷ 0x05 ∷ 0xA0 ∷ 0 ∷ 0 ∷ 0 ∷ 2 ∷ []) 0 7 ≡ deletion.Delete (partOf 2 7)

@@ -10,7 +10,7 @@ use Rattle.tlv.specs.Tlv.{byte}
 use Rattle.tlv.specs.declared.Element.the-variants as element
 use Rattle.tlv.specs.declared.Part.{Part}
 use Rattle.tlv.specs.Encoding.{window, Bytes, encodeNumber, encodeTag, encodeLength, encodeElement}
-use Rattle.tlv.proofs.Branches.{each-eq, lt!, eq!, ne!}
+use Rattle.tlv.proofs.Branches.{each-eq, lt!, eq!, ne! }
 use Rattle.tlv.proofs.Windows.{window-starts}
 use Rattle.tlv.proofs.Written.{window-two}
 use Rattle.tlv.proofs.ReadBack.{one}
@@ -95,6 +95,7 @@ module _ (s : List ℕ) (at end : ℕ) (v : Stored) (b : Bytes s) where
 
   module _ (number contents : ℕ) (d : dgi.Found number contents ≡ dgiAt s at end) (start stop : ℕ) where
     aid-written : element.Found start stop ≡ aloneAt s contents end 0x4F 5 16 → Accepted (namedBy number (partOf start stop))
+    unfolding namedBy
     aid-written g =
         let p = dgi-parts s at end number contents d in
         let x = alone-expected s contents end 0x4F 5 16 start stop g in

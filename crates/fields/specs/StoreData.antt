@@ -36,7 +36,7 @@ confirmationAt s at end =
     store.Confirm (numberAt s start)
 
 -- the command that a DGI names, on an AID
-abbrev pub namedBy : ℕ → Part → StoreData
+unfoldable pub namedBy : ℕ → Part → StoreData
 namedBy number aid =
     when (eq? number 0x3A03) (store.Enable aid)
     (when (eq? number 0x3A04) (store.Disable aid)

@@ -1,5 +1,5 @@
 use Rattle.fields.proofs.Only.{alone-expected}
-use Rattle.fields.specs.StoreData.{storeDataAt}
+use Rattle.fields.specs.StoreData.{namedBy, storeDataAt}
 use Rattle.tlv.proofs.Branches.{eq!, ne! }
 use mathlib.Core.Path.{refl, sym, _∙_}
 use native.Mathlib.Omega.{arith}
@@ -17,14 +17,14 @@ enum-told : tie.Need-enum-told
 enum-told c = search needs
 
 returns : tie.Need-returns
-unfolding storeDataAt
+unfolding storeDataAt namedBy
 returns c = rw (← c .before .before .read-dgi .ensures) (rw (c .enum-told .given .1) refl)
 
 read-confirmation-requires : tie.Need-read-confirmation-requires
 read-confirmation-requires c κs = search needs
 
 returns-2 : tie.Need-returns-2
-unfolding storeDataAt
+unfolding storeDataAt namedBy
 returns-2 c = rw (← c .before .before .before .before .before .read-dgi .ensures) (rw (c .before .before .before .dgi .given .1) (eq! _ (omega arith) (c .read-confirmation .ensures)))
 
 read-alone-requires : tie.Need-read-alone-requires
@@ -37,7 +37,7 @@ enum-told-2 : tie.Need-enum-told-2
 enum-told-2 c = search needs
 
 returns-3 : tie.Need-returns-3
-unfolding storeDataAt
+unfolding storeDataAt namedBy
 returns-3 c = rw (← c .before .before .before .before .before .before .before .read-dgi .ensures) (rw (c .before .before .before .before .before .dgi .given .1) (ne! _ (omega arith) (rw (← c .before .before .read-alone .ensures) (rw (c .enum-told2 .given .1) refl))))
 
 sub-len : tie.Need-sub-len
@@ -47,19 +47,19 @@ sub-len c =
     omega arith
 
 returns-4 : tie.Need-returns-4
-unfolding storeDataAt
+unfolding storeDataAt namedBy
 returns-4 c = rw (← c .before .before .before .before .before .before .before .before .before .read-dgi .ensures) (rw (c .before .before .before .before .before .before .before .dgi .given .1) (ne! _ (omega arith) (rw (← c .before .before .before .before .read-alone .ensures) (rw (c .before .before .start .given .1) (eq! _ (omega arith) refl)))))
 
 returns-5 : tie.Need-returns-5
-unfolding storeDataAt
+unfolding storeDataAt namedBy
 returns-5 c = rw (← c .before .before .before .before .before .before .before .before .before .before .read-dgi .ensures) (rw (c .before .before .before .before .before .before .before .before .dgi .given .1) (ne! _ (omega arith) (rw (← c .before .before .before .before .before .read-alone .ensures) (rw (c .before .before .before .start .given .1) (ne! _ (omega arith) (eq! _ (omega arith) refl))))))
 
 returns-6 : tie.Need-returns-6
-unfolding storeDataAt
+unfolding storeDataAt namedBy
 returns-6 c = rw (← c .before .before .before .before .before .before .before .before .before .before .before .read-dgi .ensures) (rw (c .before .before .before .before .before .before .before .before .before .dgi .given .1) (ne! _ (omega arith) (rw (← c .before .before .before .before .before .before .read-alone .ensures) (rw (c .before .before .before .before .start .given .1) (ne! _ (omega arith) (ne! _ (omega arith) (eq! _ (omega arith) refl)))))))
 
 returns-7 : tie.Need-returns-7
-unfolding storeDataAt
+unfolding storeDataAt namedBy
 returns-7 c = rw (← c .before .before .before .before .before .before .before .before .before .before .before .read-dgi .ensures) (rw (c .before .before .before .before .before .before .before .before .before .dgi .given .1) (ne! _ (omega arith) (rw (← c .before .before .before .before .before .before .read-alone .ensures) (rw (c .before .before .before .before .start .given .1) (ne! _ (omega arith) (ne! _ (omega arith) (ne! _ (omega arith) refl)))))))
 
 pub read-store-data-spec : {M : Type 1} → statement M
