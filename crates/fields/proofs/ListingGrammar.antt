@@ -138,7 +138,7 @@ module _ (s : List ℕ) (at end : ℕ) (w : Asked) (b : Bytes s) where
       same-value Encoded (asked [] life shown) w
       (who-written start stop q [] life shown all (ap (λ (n : ℕ). window s n stop) m ∙ window-none s stop) g))
       (λ _. each-lt Accepted (λ _. no-value (Encoded w) w) (λ k.
-      let named : Named (partBytes s (partOf start stop)) = subst Named (sym p) (part-named s start stop (i .ordered) (omega arith) k (x .most)) in
+      let named : Named (partBytes s (partOf start stop)) = subst Named (sym p) (part-named s start stop (i .ordered) (omega arith) (omega arith) (x .most)) in
       same-value Encoded (asked (partBytes s (partOf start stop)) life shown) w
       (who-written start stop q (partBytes s (partOf start stop)) life shown (one named) (sym p) g)))
 
