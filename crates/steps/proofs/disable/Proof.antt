@@ -1,93 +1,120 @@
+-- `steps::disable`: each exit gives the tests of the rows before it.
+use mathlib.Core.Path.{ap, sym, _∙_}
+use Prim.Native.Nat.{ℕ}
+use mathlib.Core.Bool.{not, _&&_}
+use lib.Dec.{eqb}
+use borrow.Author.Tests.{not-true, not-false}
+use Rattle.status.specs.Rows.{wordOf}
+use Rattle.isdp.specs.LifeCycle.{enabled}
+use Rattle.isdp.specs.Policy.{forbidsDisabling}
+use Rattle.isdp.specs.declared.Isdp.{Isdp}
+use Rattle.places.specs.Places.{at}
+use Rattle.places.proofs.Seeks.{held-none, held-some}
+use Rattle.card.proofs.Records.{full}
 use borrow.Author.Needs.{needs}
 use Rattle.steps.proofs.disable.Statement.{statement}
 use Rattle.steps.proofs.disable.Tie as tie
-use Rattle.steps.proofs.disable.Reads as reads
-use Rattle.steps.proofs.disable.Lts as lts
-use Rattle.card.proofs.Card.opened.Reads as opened-reads
-use Rattle.card.proofs.Card.place_of.Reads as place-of-reads
-use Rattle.card.proofs.Card.profile.Reads as profile-reads
-use Rattle.card.proofs.Card.refused.Reads as refused-reads
-use Rattle.card.proofs.Card.step_to.Reads as step-to-reads
-use Rattle.card.proofs.Phase.is_quiet.Reads as is-quiet-reads
-use Rattle.card.proofs.Step.answer.Reads as answer-reads
-use Rattle.isdp.proofs.Aid.none.Reads as none-reads
-use Rattle.isdp.proofs.forbids_disabling.Reads as forbids-disabling-reads
 
--- src/lib.rt:61:9
 is-quiet-requires : tie.Need-is-quiet-requires
 is-quiet-requires c κs = search needs
 
--- src/lib.rt:62:9
 refused-requires : tie.Need-refused-requires
 refused-requires c κs = search needs
 
--- src/lib.rt:62:9
 returns : tie.Need-returns
-returns c = ?
+unfolding wordOf
+returns c = rw (sym (c .before .before .is-quiet .ensures) ∙ not-true _ (c .before .if1 .taken)) (c .refused .ensures)
 
--- src/lib.rt:64:24
 place-of-requires : tie.Need-place-of-requires
 place-of-requires c κs = search needs
 
--- src/lib.rt:64:19
 enum-known-t : tie.Need-enum-known-t
 enum-known-t c = search needs
 
--- src/lib.rt:65:29
 enum-told : tie.Need-enum-told
 enum-told c = search needs
 
--- src/lib.rt:65:9
 refused-requires-2 : tie.Need-refused-requires-2
 refused-requires-2 c κs = search needs
 
--- src/lib.rt:65:9
 returns-2 : tie.Need-returns-2
-returns-2 c = ?
+unfolding wordOf
+returns-2 c = let po = c .before .before .before in
+    let e = po .before in
+    let s = e .before .before .before in
+    let card = s .args .card in
+    let aid = s .args .aid .now in
+    let n = full card _ (s .good .0) in
+    let ok = sym (e .before .is-quiet .ensures) ∙ not-false _ (e .if1 .left) in
+    rw (ok, held-none (card .places) aid n (sym (po .place-of .ensures) ∙ c .before .enum-told .given .1)) (c .refused2 .ensures)
 
--- src/lib.rt:67:9
 profile-requires : tie.Need-profile-requires
 profile-requires c κs = search needs
 
--- src/lib.rt:70:9
 refused-requires-3 : tie.Need-refused-requires-3
 refused-requires-3 c κs = search needs
 
--- src/lib.rt:70:9
 returns-3 : tie.Need-returns-3
-returns-3 c = ?
+unfolding wordOf
+returns-3 c = let pr = c .before .before .before .before in
+    let k = pr .before in
+    let po = k .before .before .before in
+    let e = po .before in
+    let s = e .before .before .before in
+    let card = s .args .card in
+    let aid = s .args .aid .now in
+    let n = full card _ (s .good .0) in
+    let ok = sym (e .before .is-quiet .ensures) ∙ not-false _ (e .if1 .left) in
+    let h = held-some (card .places) aid _ n (sym (po .place-of .ensures) ∙ k .before .t .given .1) in
+    rw (ok, h .1, ap (λ (i : ℕ). eqb (at (card .places) i .life) enabled && not (eqb i (card .fallback))) (h .0) ∙ ap (λ (p : Isdp). eqb (p .life) enabled && not (eqb (k .before .t .given .0 .0) (card .fallback))) (sym (pr .profile .ensures)) ∙ not-true _ (c .before .if2 .taken)) (c .refused3 .ensures)
 
--- src/lib.rt:72:8
 forbids-disabling-requires : tie.Need-forbids-disabling-requires
 forbids-disabling-requires c κs = search needs
 
--- src/lib.rt:73:9
 refused-requires-4 : tie.Need-refused-requires-4
 refused-requires-4 c κs = search needs
 
--- src/lib.rt:73:9
 returns-4 : tie.Need-returns-4
-returns-4 c = ?
+unfolding wordOf
+returns-4 c = let pr = c .before .before .before .before .before .before in
+    let k = pr .before in
+    let po = k .before .before .before in
+    let e = po .before in
+    let s = e .before .before .before in
+    let card = s .args .card in
+    let aid = s .args .aid .now in
+    let n = full card _ (s .good .0) in
+    let ok = sym (e .before .is-quiet .ensures) ∙ not-false _ (e .if1 .left) in
+    let h = held-some (card .places) aid _ n (sym (po .place-of .ensures) ∙ k .before .t .given .1) in
+    let q = pr .profile .ensures ∙ ap (λ (i : ℕ). at (card .places) i) (sym (h .0)) in
+    rw (ok, h .1, ap (λ (i : ℕ). eqb (at (card .places) i .life) enabled && not (eqb i (card .fallback))) (h .0) ∙ ap (λ (p : Isdp). eqb (p .life) enabled && not (eqb (k .before .t .given .0 .0) (card .fallback))) (sym (pr .profile .ensures)) ∙ not-false _ (c .before .before .before .if2 .left), ap (λ (p : Isdp). forbidsDisabling (p .policy)) (sym q) ∙ sym (c .before .before .forbids-disabling .ensures) ∙ c .before .if3 .taken) (c .refused4 .ensures)
 
--- src/lib.rt:75:18
 opened-requires : tie.Need-opened-requires
 opened-requires c κs = search needs
 
--- src/lib.rt:75:46
 none-requires : tie.Need-none-requires
 none-requires c κs = search needs
 
--- src/lib.rt:75:5
 step-to-requires : tie.Need-step-to-requires
 step-to-requires c κs = search needs
 
--- src/lib.rt:75:5
 answer-requires : tie.Need-answer-requires
 answer-requires c κs = search needs
 
--- src/lib.rt:57:1
 returns-5 : tie.Need-returns-5
-returns-5 c = ?
+unfolding wordOf
+returns-5 c = let pr = c .before .before .before .before .before .before .before .before .before in
+    let k = pr .before in
+    let po = k .before .before .before in
+    let e = po .before in
+    let s = e .before .before .before in
+    let card = s .args .card in
+    let aid = s .args .aid .now in
+    let n = full card _ (s .good .0) in
+    let ok = sym (e .before .is-quiet .ensures) ∙ not-false _ (e .if1 .left) in
+    let h = held-some (card .places) aid _ n (sym (po .place-of .ensures) ∙ k .before .t .given .1) in
+    let q = pr .profile .ensures ∙ ap (λ (i : ℕ). at (card .places) i) (sym (h .0)) in
+    rw (ok, h .1, ap (λ (i : ℕ). eqb (at (card .places) i .life) enabled && not (eqb i (card .fallback))) (h .0) ∙ ap (λ (p : Isdp). eqb (p .life) enabled && not (eqb (k .before .t .given .0 .0) (card .fallback))) (sym (pr .profile .ensures)) ∙ not-false _ (c .before .before .before .before .before .before .if2 .left), ap (λ (p : Isdp). forbidsDisabling (p .policy)) (sym q) ∙ sym (c .before .before .before .before .before .forbids-disabling .ensures) ∙ c .before .before .before .before .if3 .left) (rw (c .answer .ensures, c .before .step-to .ensures, c .before .before .before .opened .ensures))
 
 pub disable-spec : {M : Type 1} → statement M
 disable-spec =

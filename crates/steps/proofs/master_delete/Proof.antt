@@ -1,93 +1,112 @@
+-- `steps::master_delete`: each exit gives the tests of the rows before it.
+use mathlib.Core.Path.{ap, sym, _∙_}
+use Prim.Native.Nat.{ℕ}
+use borrow.Author.Tests.{eq-eqb, ne-eqb, not-true, not-false}
+use Rattle.status.specs.Rows.{wordOf}
+use Rattle.places.proofs.Seeks.{held-none, held-some}
+use Rattle.card.specs.Cards.{mayBeDeleted}
+use Rattle.card.proofs.Records.{full}
 use borrow.Author.Needs.{needs}
 use Rattle.steps.proofs.master_delete.Statement.{statement}
 use Rattle.steps.proofs.master_delete.Tie as tie
-use Rattle.steps.proofs.master_delete.Reads as reads
-use Rattle.steps.proofs.master_delete.Lts as lts
-use Rattle.card.proofs.Card.may_be_deleted.Reads as may-be-deleted-reads
-use Rattle.card.proofs.Card.place_of.Reads as place-of-reads
-use Rattle.card.proofs.Card.refused.Reads as refused-reads
-use Rattle.card.proofs.Card.step_to.Reads as step-to-reads
-use Rattle.card.proofs.Card.with_place.Reads as with-place-reads
-use Rattle.card.proofs.Phase.is_quiet.Reads as is-quiet-reads
-use Rattle.card.proofs.Step.answer.Reads as answer-reads
-use Rattle.isdp.proofs.Aid.none.Reads as Aid-none-reads
-use Rattle.isdp.proofs.Isdp.none.Reads as Isdp-none-reads
 
--- src/lib.rt:104:9
 is-quiet-requires : tie.Need-is-quiet-requires
 is-quiet-requires c κs = search needs
 
--- src/lib.rt:105:9
 refused-requires : tie.Need-refused-requires
 refused-requires c κs = search needs
 
--- src/lib.rt:105:9
 returns : tie.Need-returns
-returns c = ?
+unfolding wordOf
+returns c = rw (sym (c .before .before .is-quiet .ensures) ∙ not-true _ (c .before .if1 .taken)) (c .refused .ensures)
 
--- src/lib.rt:107:24
 place-of-requires : tie.Need-place-of-requires
 place-of-requires c κs = search needs
 
--- src/lib.rt:107:19
 enum-known-t : tie.Need-enum-known-t
 enum-known-t c = search needs
 
--- src/lib.rt:108:29
 enum-told : tie.Need-enum-told
 enum-told c = search needs
 
--- src/lib.rt:108:9
 refused-requires-2 : tie.Need-refused-requires-2
 refused-requires-2 c κs = search needs
 
--- src/lib.rt:108:9
 returns-2 : tie.Need-returns-2
-returns-2 c = ?
+unfolding wordOf
+returns-2 c = let po = c .before .before .before in
+    let e = po .before in
+    let s = e .before .before .before in
+    let card = s .args .card in
+    let aid = s .args .aid .now in
+    let n = full card _ (s .good .0) in
+    let ok = sym (e .before .is-quiet .ensures) ∙ not-false _ (e .if1 .left) in
+    rw (ok, held-none (card .places) aid n (sym (po .place-of .ensures) ∙ c .before .enum-told .given .1)) (c .refused2 .ensures)
 
--- src/lib.rt:110:9
 may-be-deleted-requires : tie.Need-may-be-deleted-requires
 may-be-deleted-requires c κs = search needs
 
--- src/lib.rt:111:9
 refused-requires-3 : tie.Need-refused-requires-3
 refused-requires-3 c κs = search needs
 
--- src/lib.rt:111:9
 returns-3 : tie.Need-returns-3
-returns-3 c = ?
+unfolding wordOf
+returns-3 c = let k = c .before .before .before in
+    let po = k .before .before .before in
+    let e = po .before in
+    let s = e .before .before .before in
+    let card = s .args .card in
+    let aid = s .args .aid .now in
+    let n = full card _ (s .good .0) in
+    let ok = sym (e .before .is-quiet .ensures) ∙ not-false _ (e .if1 .left) in
+    let h = held-some (card .places) aid _ n (sym (po .place-of .ensures) ∙ k .before .t .given .1) in
+    rw (ok, h .1, ap (λ (i : ℕ). mayBeDeleted card i) (h .0) ∙ sym (c .before .before .may-be-deleted .ensures) ∙ not-true _ (c .before .if2 .taken)) (c .refused3 .ensures)
 
--- src/lib.rt:114:9
 refused-requires-4 : tie.Need-refused-requires-4
 refused-requires-4 c κs = search needs
 
--- src/lib.rt:114:9
 returns-4 : tie.Need-returns-4
-returns-4 c = ?
+unfolding wordOf
+returns-4 c = let m = c .before .before .before in
+    let k = m .before in
+    let po = k .before .before .before in
+    let e = po .before in
+    let s = e .before .before .before in
+    let card = s .args .card in
+    let aid = s .args .aid .now in
+    let n = full card _ (s .good .0) in
+    let ok = sym (e .before .is-quiet .ensures) ∙ not-false _ (e .if1 .left) in
+    let h = held-some (card .places) aid _ n (sym (po .place-of .ensures) ∙ k .before .t .given .1) in
+    rw (ok, h .1, ap (λ (i : ℕ). mayBeDeleted card i) (h .0) ∙ sym (m .may-be-deleted .ensures) ∙ not-false _ (c .before .before .if2 .left), ne-eqb (s .args .verdict) 1 (c .before .if3 .taken)) (c .refused4 .ensures)
 
--- src/lib.rt:116:36
 none-requires : tie.Need-none-requires
 none-requires c κs = search needs
 
--- src/lib.rt:116:9
 with-place-requires : tie.Need-with-place-requires
 with-place-requires c κs = search needs
 
--- src/lib.rt:117:25
 none-requires-2 : tie.Need-none-requires-2
 none-requires-2 c κs = search needs
 
--- src/lib.rt:117:5
 step-to-requires : tie.Need-step-to-requires
 step-to-requires c κs = search needs
 
--- src/lib.rt:117:5
 answer-requires : tie.Need-answer-requires
 answer-requires c κs = search needs
 
--- src/lib.rt:100:1
 returns-5 : tie.Need-returns-5
-returns-5 c = ?
+unfolding wordOf
+returns-5 c = let m = c .before .before .before .before .before .before .before in
+    let k = m .before in
+    let po = k .before .before .before in
+    let e = po .before in
+    let s = e .before .before .before in
+    let card = s .args .card in
+    let aid = s .args .aid .now in
+    let n = full card _ (s .good .0) in
+    let ok = sym (e .before .is-quiet .ensures) ∙ not-false _ (e .if1 .left) in
+    let h = held-some (card .places) aid _ n (sym (po .place-of .ensures) ∙ k .before .t .given .1) in
+    rw (ok, h .1, ap (λ (i : ℕ). mayBeDeleted card i) (h .0) ∙ sym (m .may-be-deleted .ensures) ∙ not-false _ (c .before .before .before .before .before .before .if2 .left), eq-eqb (s .args .verdict) 1 (c .before .before .before .before .before .if3 .left)) (rw (c .answer .ensures, c .before .step-to .ensures, c .before .before .before .with-place .ensures, c .before .before .before .before .none .ensures, h .0))
 
 pub master-delete-spec : {M : Type 1} → statement M
 master-delete-spec =
