@@ -41,6 +41,10 @@ unfoldable pub statusRow : Isdp → ℕ → Bool → Bool → List ℕ
 statusRow p mark life fallback =
     0xE3 ∷ length (statusBody p mark life fallback) ∷ statusBody p mark life fallback
 
+-- a row is 27 bytes at the most: E3 and its length, 4F with 16 bytes, 9F70, 53
+abbrev pub mostRow : ℕ
+mostRow = 27
+
 -- a place that is not held has no row
 unfoldable pub rowOf : Isdp → ℕ → Bool → Bool → List ℕ
 rowOf p mark life fallback = cond (held p) (statusRow p mark life fallback) []

@@ -7,12 +7,13 @@ use places::PLACES;
 use text::put_bytes;
 ghost use mathlib.Core.Path.{_≡_};
 ghost use mathlib.Core.Bool.{cond};
-ghost use Prim.Native.Nat.{_+_, min};
-ghost use lib.ListN.{take};
+ghost use Prim.Native.Nat.{_+_, _*_, _≤_, min};
+ghost use lib.ListN.{length, take};
+ghost use Rattle.isdp.specs.Sizes.{mostPlaces};
 ghost use Rattle.isdp.specs.Place.{held};
 ghost use Rattle.places.specs.Places.{countOf};
 ghost use Rattle.text.specs.Put.{Wrote};
-ghost use Rattle.responses.specs.Responses.{aidElement, lifeElement, markElement, markOf, listed, statusRow, rowOf, statusResponse, oneStatus, dataResponse, deletedResponse, fourBytes};
+ghost use Rattle.responses.specs.Responses.{mostRow, aidElement, lifeElement, markElement, markOf, listed, statusRow, rowOf, statusResponse, oneStatus, dataResponse, deletedResponse, fourBytes};
 
 // The number of ISD-Ps, in the one byte that GET DATA has for it.
 pub fn count_held(places: [Isdp; PLACES]) -> u8
@@ -110,7 +111,7 @@ fn write_row(p: Isdp, mark: u8, life: bool, fallback: bool, buf: &mut [u8], at: 
 
 // A place that is not held has no row.
 fn write_place(p: Isdp, mark: u8, life: bool, fallback: bool, buf: &mut [u8], at: usize) -> usize
-    ensures { λ r. ⌜ Wrote (now (buf .entry)) at (rowOf p mark life fallback) r (now (buf .exit)) ⌝ }
+    ensures { λ r. ⌜ Wrote (now (buf .entry)) at (rowOf p mark life fallback) r (now (buf .exit)) × (length (rowOf p mark life fallback) ≤ mostRow) ⌝ }
 {
     if p.len == 0 {
         return at;
@@ -120,7 +121,7 @@ fn write_place(p: Isdp, mark: u8, life: bool, fallback: bool, buf: &mut [u8], at
 
 // GET STATUS of all.
 pub fn write_status(card: Card, life: bool, fallback: bool, buf: &mut [u8], at: usize) -> usize
-    ensures { λ r. ⌜ Wrote (now (buf .entry)) at (statusResponse card life fallback) r (now (buf .exit)) ⌝ }
+    ensures { λ r. ⌜ Wrote (now (buf .entry)) at (statusResponse card life fallback) r (now (buf .exit)) × (length (statusResponse card life fallback) ≤ mostRow * mostPlaces) ⌝ }
 {
     let places = card.places;
     let holder = card.fallback;
@@ -144,7 +145,7 @@ pub fn write_one_status(
     buf: &mut [u8],
     at: usize,
 ) -> usize
-    ensures { λ r. ⌜ Wrote (now (buf .entry)) at (oneStatus card place life fallback) r (now (buf .exit)) ⌝ }
+    ensures { λ r. ⌜ Wrote (now (buf .entry)) at (oneStatus card place life fallback) r (now (buf .exit)) × (length (oneStatus card place life fallback) ≤ mostRow) ⌝ }
 {
     let p = card.profile(place);
     let mark = mark_of(card.fallback, place);

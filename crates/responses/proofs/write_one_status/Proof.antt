@@ -18,7 +18,9 @@ same-length : tie.Need-same-length
 same-length c = search needs
 
 returns : tie.Need-returns
-returns c = wrote-as _ (one-row _ _ _ _ _ _ (c .before .before .before .before .before .profile .ensures) (c .before .before .before .before .mark-of .ensures)) (c .before .before .write-place .ensures)
+returns c = let e = one-row _ _ _ _ _ _ (c .before .before .before .before .before .profile .ensures) (c .before .before .before .before .mark-of .ensures) in
+    let w = c .before .before .write-place .ensures in
+    (wrote-as _ e (w .0), rw (← e) (w .1))
 
 pub write-one-status-spec : {M : Type 1} → statement M
 write-one-status-spec =
