@@ -14,7 +14,7 @@ use Rattle.command.specs.Framing.{shapeRight, isFilled, dataEnd}
 use Rattle.command.specs.Frame.{le, framed, dataField, hasLe}
 
 -- a place past the header, counted from there
-five : (n : ℕ) → 5 + n ≡ suc (suc (suc (suc (suc n))))
+pub five : (n : ℕ) → 5 + n ≡ suc (suc (suc (suc (suc n))))
 five n = omega arith
 
 byte-past : (a b c d n : ℕ) (rest : List ℕ) (i : ℕ) → getD (a ∷ b ∷ c ∷ d ∷ n ∷ rest) (5 + i) 0 ≡ getD rest i 0

@@ -4,3 +4,4 @@ pub mod Answers
 pub mod Within
 pub mod Examples
 pub mod Fields
+pub mod ReadBack
