@@ -5,3 +5,4 @@ pub mod Within
 pub mod Examples
 pub mod Fields
 pub mod ReadBack
+pub mod Written
