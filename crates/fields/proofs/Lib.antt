@@ -1,8 +1,10 @@
 -- The laws of the data fields.
 pub mod Left
 pub mod Only
+pub mod Cases
 pub mod Parts
 pub mod StoreDataGrammar
 pub mod DeletionGrammar
 pub mod ListedTags
 pub mod ListingGrammar
+pub mod Examples

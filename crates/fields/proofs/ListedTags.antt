@@ -7,7 +7,6 @@ use mathlib.Core.Bool.{Bool, true, false}
 use native.Mathlib.Omega.{arith}
 use lib.ListN.{length}
 use Rattle.tlv.specs.Tlv.{tagAt}
-use Rattle.tlv.specs.declared.TagRead.{TagRead}
 use Rattle.tlv.specs.declared.TagRead.the-variants as tag
 use Rattle.tlv.specs.Encoding.{window, Bytes, encodeTag}
 use Rattle.tlv.proofs.Branches.{each-le, each-eq, le!, nle!, eq!, ne! }
@@ -19,6 +18,7 @@ use Rattle.fields.specs.declared.Tags.{Tags}
 use Rattle.fields.specs.declared.Tags.the-variants as tags
 use Rattle.fields.specs.GetStatus.{noted, onTag, onShown, listedWithin, listedAt}
 use Rattle.fields.specs.Grammar.{ListedTag, aid, lifeCycle, fallBack, tagNumber, encodeTags, listsLife, listsFallBack}
+use Rattle.fields.proofs.Cases.{each-tag}
 
 -- the flags after a list, from those seen so far
 abbrev pub seesLife : Bool → List ListedTag → Bool
@@ -131,26 +131,27 @@ module _ (s : List ℕ) (end : ℕ) (b : Bytes s) (life shown : Bool) where
 
   module _ (n at : ℕ) (l f : Bool)
       (onward : (next : ℕ) (l′ f′ : Bool) → at < next → next ≤ end → tags.Shown life shown ≡ listedWithin n s next end l′ f′ → TagsWritten s next end l′ f′ life shown) where
-    tag-first : (r : TagRead) → r ≡ tagAt s at end
-        → tags.Shown life shown ≡ onTag r tags.Wrong (λ t next. onShown (noted t l f) tags.Wrong (λ l′ f′. listedWithin n s next end l′ f′))
+    tag-first : tags.Shown life shown ≡ onTag (tagAt s at end) tags.Wrong (λ t next. onShown (noted t l f) tags.Wrong (λ l′ f′. listedWithin n s next end l′ f′))
         → TagsWritten s at end l f life shown
     unfolding noted
-    tag-first tag.Wrong g = λ q. let z : _≡_ {A = ℕ} 0 1 = cc in absurd (omega arith)
-    tag-first (tag.Tag t c next) g =
-        let P : Tags → Type 0 = λ z. tags.Shown life shown ≡ onShown z tags.Wrong (λ l′ f′. listedWithin n s next end l′ f′) → TagsWritten s at end l f life shown in
+    tag-first =
+        let Q : Tags → Type 0 = λ z. tags.Shown life shown ≡ z → TagsWritten s at end l f life shown in
+        let none : Q tags.Wrong = λ q. let z : _≡_ {A = ℕ} 0 1 = cc in absurd (omega arith) in
+        each-tag Q (tagAt s at end) none λ t c next g.
+        let P : Tags → Type 0 = λ z. Q (onShown z tags.Wrong (λ l′ f′. listedWithin n s next end l′ f′)) in
         let i = tag-inside s at end t c next g in
         let by : (u : ListedTag) → t ≡ tagNumber u → tag.Tag (tagNumber u) c next ≡ tagAt s at end = λ u h. ap (λ (m : ℕ). tag.Tag m c next) (sym h) ∙ g in
         each-eq P (λ h q. goes-on at next l f c aid (by aid h) (onward next l f (i .past) (i .within) q))
         (λ _. each-eq P (λ h q. goes-on at next l f c lifeCycle (by lifeCycle h) (onward next true f (i .past) (i .within) q))
         (λ _. each-eq P (λ h q. goes-on at next l f c fallBack (by fallBack h) (onward next l true (i .past) (i .within) q))
-        (λ _ q. let z : _≡_ {A = ℕ} 0 1 = cc in absurd (omega arith))))
+        (λ _. none)))
 
   within-written : (n at : ℕ) (l f : Bool) → at ≤ end → end - at ≤ n → tags.Shown life shown ≡ listedWithin n s at end l f → TagsWritten s at end l f life shown
   unfolding listedWithin
   within-written zero at l f o h = ends at l f (omega arith)
   within-written (suc n) at l f o h =
       let P : Tags → Type 0 = λ z. tags.Shown life shown ≡ z → TagsWritten s at end l f life shown in
-      each-le P (λ k. ends at l f (omega arith)) (λ k. tag-first n at l f (λ next l′ f′ i j. within-written n next l′ f′ j (omega arith)) (tagAt s at end) refl)
+      each-le P (λ k. ends at l f (omega arith)) (λ k. tag-first n at l f (λ next l′ f′ i j. within-written n next l′ f′ j (omega arith)))
 
 pub record ListedWritten (s : List ℕ) (at end : ℕ) (life shown : Bool) : Type 0 where
   pub list : List ListedTag

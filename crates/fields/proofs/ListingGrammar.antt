@@ -6,15 +6,12 @@ use mathlib.Core.Option.{Option, none, some}
 use mathlib.Core.Bool.{Bool}
 use native.Mathlib.Omega.{arith}
 use lib.ListN.{length}
-use Rattle.tlv.specs.When.{when, lt?, eq?}
-use Rattle.tlv.specs.Tlv.{expectAt, onFound}
-use Rattle.tlv.specs.declared.Element.{Element}
+use Rattle.tlv.specs.Tlv.{expectAt}
 use Rattle.tlv.specs.declared.Element.the-variants as element
 use Rattle.tlv.specs.Encoding.{window, Bytes, encodeElement}
 use Rattle.tlv.proofs.Branches.{each-lt, each-eq, nlt!, eq!, ne! }
 use Rattle.tlv.proofs.Inside.{expect-parts, expect-inside}
-use Rattle.tlv.proofs.Windows.{window-none, window-length, window-cut}
-use Rattle.tlv.proofs.Written.{element-written}
+use Rattle.tlv.proofs.Windows.{window-none, window-length}
 use Rattle.tlv.proofs.ReadBack.{element-back}
 use Rattle.tlv.proofs.ReadBack as legal
 use Rattle.fields.specs.declared.Tags.{Tags}
@@ -22,11 +19,14 @@ use Rattle.fields.specs.declared.Tags.the-variants as tags
 use Rattle.fields.specs.declared.Listing.{Listing}
 use Rattle.fields.specs.declared.Listing.the-variants as listing
 use Rattle.fields.specs.Alone.{aloneAt, partOf}
-use Rattle.fields.specs.GetStatus.{onShown, listedAt, tagsAt, listingAt}
+use Rattle.fields.specs.GetStatus.{rowsOf, tagsAt, listingAt}
 use Rattle.fields.specs.Grammar.{Named, ListedTag, Asked, asked, Sought, all, one, Short, listedOf, partBytes, encodeTags, encodeList, showsLife, showsFallBack, EncodesListed, ListingBack, ListingWritten}
 use Rattle.fields.proofs.Only.{alone-expected}
 use Rattle.fields.proofs.Parts.{alone-back, alone-written, part-bytes, part-named}
 use Rattle.fields.proofs.ListedTags.{listed-back, listed-written}
+use Rattle.fields.proofs.Cases.{each-shown, same-value, no-value}
+use Rattle.tlv.proofs.Branches.{each-found}
+use Rattle.tlv.proofs.Written.{elements-written}
 
 -- ---- an encoded field is read back
 
@@ -47,18 +47,15 @@ sought-most all = omega arith
 sought-most (one named) = named .most
 
 module _ (s : List ℕ) (life shown : Bool) where
-  -- what the definition gives for a value of 4F from `start` on that is `who`
+  -- the rows for a value of 4F that is `who`
   who-back : (who : List ℕ) → Sought who → (start stop : ℕ) → stop ≡ start + length who → window s start stop ≡ who
-      → listedOf s (when (eq? (stop - start) 0) (listing.All life shown)
-      (when (lt? (stop - start) 5) listing.Wrong (listing.One (partOf start stop) life shown))) ≡ some (asked who life shown)
+      → listedOf s (rowsOf start stop life shown) ≡ some (asked who life shown)
   who-back who all start stop l q =
-      let r : listing.All life shown ≡ when (eq? (stop - start) 0) (listing.All life shown)
-      (when (lt? (stop - start) 5) listing.Wrong (listing.One (partOf start stop) life shown)) = eq! _ (omega arith) refl in
+      let r : listing.All life shown ≡ rowsOf start stop life shown = eq! _ (omega arith) refl in
       rw (← r) refl
   who-back who (one named) start stop l q =
       let k = named .least in
-      let r : listing.One (partOf start stop) life shown ≡ when (eq? (stop - start) 0) (listing.All life shown)
-      (when (lt? (stop - start) 5) listing.Wrong (listing.One (partOf start stop) life shown)) = ne! _ (omega arith) (nlt! _ (omega arith) refl) in
+      let r : listing.One (partOf start stop) life shown ≡ rowsOf start stop life shown = ne! _ (omega arith) (nlt! _ (omega arith) refl) in
       rw (← r) (ap (λ (a : List ℕ). some (asked a life shown)) (part-bytes s start stop (omega arith) ∙ q))
 
 pub listing-back : ListingBack
@@ -78,47 +75,37 @@ pub record ListWritten (s : List ℕ) (at end : ℕ) (life shown : Bool) : Type 
   pub listsToo : shown ≡ showsFallBack tags
   pub bytes : window s at end ≡ encodeList tags
 
-module _ (s : List ℕ) (at end : ℕ) (life shown : Bool) (b : Bytes s) where
-  list-written : (r : Element) → r ≡ aloneAt s at end 0x5C 0 255
-      → tags.Shown life shown ≡ onFound r tags.Wrong (λ start stop. listedAt s start stop) → ListWritten s at end life shown
-  list-written element.Wrong g q = let z : _≡_ {A = ℕ} 0 1 = cc in absurd (omega arith)
-  list-written (element.Found start stop) g q =
-      let x = alone-expected s at end 0x5C 0 255 start stop g in
-      let i = x .inside in let m = x .most in
-      let w = listed-written s start stop life shown b (i .ordered) q in
-      let n : length (encodeTags (w .list)) ≡ stop - start = ap length (sym (w .bytes)) ∙ window-length s start stop (omega arith) in
-      let k : length (encodeTags (w .list)) ≤ 255 = omega arith in
-      record {
-        tags = some (w .list);
-        short = k;
-        lists = w .lists;
-        listsToo = w .listsToo;
-        bytes = alone-written s at end 0x5C 0 255 start stop b g ∙ ap (encodeElement 0x5C) (w .bytes);
-      }
-
-  tags-written : tags.Shown life shown ≡ tagsAt s at end → ListWritten s at end life shown
-  unfolding tagsAt
-  tags-written =
-      let P : Tags → Type 0 = λ z. tags.Shown life shown ≡ z → ListWritten s at end life shown in
-      each-eq P (λ h q. record { tags = none; short = tt; lists = cc; listsToo = cc; bytes = ap (λ (n : ℕ). window s n end) h ∙ window-none s end })
-      (λ _. list-written (aloneAt s at end 0x5C 0 255) refl)
+tags-written : (s : List ℕ) (at end : ℕ) (life shown : Bool) → Bytes s → tags.Shown life shown ≡ tagsAt s at end → ListWritten s at end life shown
+unfolding tagsAt
+tags-written s at end life shown b =
+    let P : Tags → Type 0 = λ z. tags.Shown life shown ≡ z → ListWritten s at end life shown in
+    let none′ : P tags.Wrong = λ q. let z : _≡_ {A = ℕ} 0 1 = cc in absurd (omega arith) in
+    each-eq P
+    (λ h q. record { tags = none; short = tt; lists = cc; listsToo = cc; bytes = ap (λ (n : ℕ). window s n end) h ∙ window-none s end })
+    (λ _. each-found P (aloneAt s at end 0x5C 0 255) none′ λ start stop g q.
+    let x = alone-expected s at end 0x5C 0 255 start stop g in
+    let i = x .inside in let m = x .most in
+    let w = listed-written s start stop life shown b (i .ordered) q in
+    let n : length (encodeTags (w .list)) ≡ stop - start = ap length (sym (w .bytes)) ∙ window-length s start stop (omega arith) in
+    let k : length (encodeTags (w .list)) ≤ 255 = omega arith in
+    record {
+      tags = some (w .list);
+      short = k;
+      lists = w .lists;
+      listsToo = w .listsToo;
+      bytes = alone-written s at end 0x5C 0 255 start stop b g ∙ ap (encodeElement 0x5C) (w .bytes);
+    })
 
 module _ (s : List ℕ) (at end : ℕ) (w : Asked) (b : Bytes s) where
-  abbrev Result : Asked → Type 0
-  Result v = (at ≤ end) × ((end ≤ length s) × EncodesListed v (window s at end))
+  abbrev Encoded : Asked → Type 0
+  Encoded v = (at ≤ end) × ((end ≤ length s) × EncodesListed v (window s at end))
 
   abbrev Accepted : Listing → Type 0
-  Accepted z = listedOf s z ≡ some w → Result w
-
-  same-value : (v : Asked) → Result v → some v ≡ some w → Result w
-  same-value v r q = let e : v ≡ w = cc in subst Result e r
-
-  refused : Accepted listing.Wrong
-  refused q = let z : _≡_ {A = ℕ} 0 1 = cc in absurd (omega arith)
+  Accepted z = listedOf s z ≡ some w → Encoded w
 
   module _ (start stop : ℕ) (q : element.Found start stop ≡ expectAt s at end 0x4F 0 16) where
     who-written : (who : List ℕ) (life shown : Bool) → Sought who → window s start stop ≡ who → tags.Shown life shown ≡ tagsAt s stop end
-        → Result (asked who life shown)
+        → Encoded (asked who life shown)
     who-written who life shown sought e t =
         let i = expect-inside s at end 0x4F 0 16 start stop q in
         let l = tags-written s stop end life shown b t in (
@@ -131,37 +118,29 @@ module _ (s : List ℕ) (at end : ℕ) (w : Asked) (b : Bytes s) where
               short = l .short;
               lifeAsked = l .lists;
               fallBackAsked = l .listsToo;
-              written = window-cut s at stop end (omega arith) (i .within) (i .held)
-                  ∙ ap (λ (a : List ℕ). a ++ window s stop end) (element-written s at end 0x4F 0 16 start stop b q ∙ ap (encodeElement 0x4F) e)
+              written = elements-written s at end 0x4F 0 16 start stop b q
+                  ∙ ap (λ (a : List ℕ). encodeElement 0x4F a ++ window s stop end) e
                   ∙ ap (λ (a : List ℕ). encodeElement 0x4F who ++ a) (l .bytes);
             },
           ),
         )
 
-    shown-written : (r : Tags) → r ≡ tagsAt s stop end
-        → Accepted (onShown r listing.Wrong (λ life shown. when (eq? (stop - start) 0) (listing.All life shown)
-        (when (lt? (stop - start) 5) listing.Wrong (listing.One (partOf start stop) life shown))))
-    shown-written tags.Wrong g = refused
-    shown-written (tags.Shown life shown) g =
-        let x = expect-parts s at end 0x4F 0 16 start stop q in
-        let i = x .inside in
-        let p : partBytes s (partOf start stop) ≡ window s start stop = part-bytes s start stop (i .ordered) in
-        each-eq Accepted
-        (λ h.
-        let m : start ≡ stop = omega arith in
-        same-value (asked [] life shown) (who-written [] life shown all (ap (λ (n : ℕ). window s n stop) m ∙ window-none s stop) g))
-        (λ _. each-lt Accepted (λ _. refused) (λ k.
-        let named : Named (partBytes s (partOf start stop)) = subst Named (sym p) (part-named s start stop (i .ordered) (omega arith) k (x .most)) in
-        same-value (asked (partBytes s (partOf start stop)) life shown)
-        (who-written (partBytes s (partOf start stop)) life shown (one named) (sym p) g)))
-
-  aid-written : (r : Element) → r ≡ expectAt s at end 0x4F 0 16
-      → Accepted (onFound r listing.Wrong (λ start stop. onShown (tagsAt s stop end) listing.Wrong (λ life shown.
-      when (eq? (stop - start) 0) (listing.All life shown)
-      (when (lt? (stop - start) 5) listing.Wrong (listing.One (partOf start stop) life shown)))))
-  aid-written element.Wrong g = refused
-  aid-written (element.Found start stop) g = shown-written start stop g (tagsAt s stop end) refl
+  accepted : Accepted (listingAt s at end)
+  unfolding listingAt
+  accepted = each-found Accepted (expectAt s at end 0x4F 0 16) (no-value (Encoded w) w) λ start stop q.
+      each-shown Accepted (tagsAt s stop end) (no-value (Encoded w) w) λ life shown g.
+      let x = expect-parts s at end 0x4F 0 16 start stop q in
+      let i = x .inside in
+      let p : partBytes s (partOf start stop) ≡ window s start stop = part-bytes s start stop (i .ordered) in
+      each-eq Accepted
+      (λ h.
+      let m : start ≡ stop = omega arith in
+      same-value Encoded (asked [] life shown) w
+      (who-written start stop q [] life shown all (ap (λ (n : ℕ). window s n stop) m ∙ window-none s stop) g))
+      (λ _. each-lt Accepted (λ _. no-value (Encoded w) w) (λ k.
+      let named : Named (partBytes s (partOf start stop)) = subst Named (sym p) (part-named s start stop (i .ordered) (omega arith) k (x .most)) in
+      same-value Encoded (asked (partBytes s (partOf start stop)) life shown) w
+      (who-written start stop q (partBytes s (partOf start stop)) life shown (one named) (sym p) g)))
 
 pub listing-written : ListingWritten
-unfolding listingAt
-listing-written s at end w b q = aid-written s at end w b (expectAt s at end 0x4F 0 16) refl q
+listing-written s at end w b q = accepted s at end w b q

@@ -6,9 +6,7 @@ use mathlib.Core.List.{List, [], _∷_}
 use mathlib.Core.Option.{some}
 use native.Mathlib.Omega.{arith}
 use lib.ListN.{length}
-use Rattle.tlv.specs.When.{when, eq?}
-use Rattle.tlv.specs.Tlv.{byte, onFound}
-use Rattle.tlv.specs.declared.Element.{Element}
+use Rattle.tlv.specs.Tlv.{byte}
 use Rattle.tlv.specs.declared.Element.the-variants as element
 use Rattle.tlv.specs.declared.Part.{Part}
 use Rattle.tlv.specs.Encoding.{window, Bytes, encodeNumber, encodeTag, encodeLength, encodeElement}
@@ -16,15 +14,16 @@ use Rattle.tlv.proofs.Branches.{each-eq, lt!, eq!, ne! }
 use Rattle.tlv.proofs.Windows.{window-starts}
 use Rattle.tlv.proofs.Written.{window-two}
 use Rattle.tlv.proofs.ReadBack.{one}
-use Rattle.fields.specs.declared.Dgi.{Dgi}
 use Rattle.fields.specs.declared.Dgi.the-variants as dgi
 use Rattle.fields.specs.declared.StoreData.{StoreData}
 use Rattle.fields.specs.declared.StoreData.the-variants as store
 use Rattle.fields.specs.Alone.{aloneAt, partOf}
-use Rattle.fields.specs.StoreData.{numberAt, dgiAt, onDgi, confirmationAt, namedBy, storeDataAt}
+use Rattle.fields.specs.StoreData.{numberAt, dgiAt, confirmationAt, namedBy, storeDataAt}
 use Rattle.fields.specs.Grammar.{Named, Stored, enable, disable, setFallBack, confirmation, storedOf, partBytes, encodeDgi, EncodesStored, StoreDataBack, StoreDataWritten}
 use Rattle.fields.proofs.Only.{alone-expected, alone-parts}
 use Rattle.fields.proofs.Parts.{alone-back, alone-written, dgi-back, dgi-parts, dgi-written, part-bytes, part-named}
+use Rattle.fields.proofs.Cases.{each-dgi, same-value, no-value}
+use Rattle.tlv.proofs.Branches.{each-found}
 
 -- ---- an encoded field is read back
 
@@ -88,24 +87,16 @@ store-data-back s at end (confirmation number) ordered held (legal, q) = rw (←
 -- ---- what is accepted is so encoded
 
 module _ (s : List ℕ) (at end : ℕ) (v : Stored) (b : Bytes s) where
-  abbrev Result : Stored → Type 0
-  Result w = (at ≤ end) × ((end ≤ length s) × EncodesStored w (window s at end))
+  abbrev Encoded : Stored → Type 0
+  Encoded w = (at ≤ end) × ((end ≤ length s) × EncodesStored w (window s at end))
 
   abbrev Accepted : StoreData → Type 0
-  Accepted z = storedOf s z ≡ some v → Result v
+  Accepted z = storedOf s z ≡ some v → Encoded v
 
-  same-value : (w : Stored) → Result w → some w ≡ some v → Result v
-  same-value w r q = let e : w ≡ v = cc in subst Result e r
-
-  refused : Accepted store.Wrong
-  refused q = let z : _≡_ {A = ℕ} 0 1 = cc in absurd (omega arith)
-
-  module _ (number contents : ℕ) (d : dgi.Found number contents ≡ dgiAt s at end) where
-    aid-written : (r : Element) → r ≡ aloneAt s contents end 0x4F 5 16
-        → Accepted (onFound r store.Wrong (λ start stop. namedBy number (partOf start stop)))
+  module _ (number contents : ℕ) (d : dgi.Found number contents ≡ dgiAt s at end) (start stop : ℕ) where
+    aid-written : element.Found start stop ≡ aloneAt s contents end 0x4F 5 16 → Accepted (namedBy number (partOf start stop))
     unfolding namedBy
-    aid-written element.Wrong g = refused
-    aid-written (element.Found start stop) g =
+    aid-written g =
         let p = dgi-parts s at end number contents d in
         let x = alone-expected s contents end 0x4F 5 16 start stop g in
         let k : start ≤ stop = x .inside .ordered in
@@ -120,15 +111,13 @@ module _ (s : List ℕ) (at end : ℕ) (v : Stored) (b : Bytes s) where
         λ n h. subst (λ (m : ℕ). window s at end ≡ encodeDgi m (encodeElement 0x4F aid)) h w in
         let lies : at ≤ end = omega arith in
         let held : end ≤ length s = omega arith in
-        each-eq Accepted (λ h. same-value (enable aid) (lies, (held, (named, by 0x3A03 h))))
-        (λ _. each-eq Accepted (λ h. same-value (disable aid) (lies, (held, (named, by 0x3A04 h))))
-        (λ _. each-eq Accepted (λ h. same-value (setFallBack aid) (lies, (held, (named, by 0x3A05 h))))
-        (λ _. refused)))
+        each-eq Accepted (λ h. same-value Encoded (enable aid) v (lies, (held, (named, by 0x3A03 h))))
+        (λ _. each-eq Accepted (λ h. same-value Encoded (disable aid) v (lies, (held, (named, by 0x3A04 h))))
+        (λ _. each-eq Accepted (λ h. same-value Encoded (setFallBack aid) v (lies, (held, (named, by 0x3A05 h))))
+        (λ _. no-value (Encoded v) v)))
 
-    number-written : number ≡ 0x3A08 → (r : Element) → r ≡ aloneAt s contents end 0x4E 2 2
-        → Accepted (onFound r store.Wrong (λ start stop. store.Confirm (numberAt s start)))
-    number-written h element.Wrong g = refused
-    number-written h (element.Found start stop) g =
+    number-written : number ≡ 0x3A08 → element.Found start stop ≡ aloneAt s contents end 0x4E 2 2 → Accepted (store.Confirm (numberAt s start))
+    number-written h g =
         let p = dgi-parts s at end number contents d in
         let x = alone-expected s contents end 0x4E 2 2 start stop g in
         let f : stop ≡ end = alone-parts s contents end 0x4E 2 2 start stop g .fills in
@@ -145,17 +134,14 @@ module _ (s : List ℕ) (at end : ℕ) (v : Stored) (b : Bytes s) where
         dgi-written s at end number contents b d
         ∙ ap (encodeDgi number) (alone-written s contents end 0x4E 2 2 start stop b g ∙ ap (encodeElement 0x4E) c)
         ∙ ap (λ (m : ℕ). encodeDgi m (encodeElement 0x4E (encodeNumber n))) h in
-        same-value (confirmation n) (omega arith, (omega arith, (omega arith, w)))
+        same-value Encoded (confirmation n) v (omega arith, (omega arith, (omega arith, w)))
 
-  contents-written : (r : Dgi) → r ≡ dgiAt s at end
-      → Accepted (onDgi r store.Wrong (λ number contents. when (eq? number 0x3A08) (confirmationAt s contents end)
-      (onFound (aloneAt s contents end 0x4F 5 16) store.Wrong (λ start stop. namedBy number (partOf start stop)))))
-  unfolding confirmationAt
-  contents-written dgi.Wrong g = refused
-  contents-written (dgi.Found number contents) g =
-      each-eq Accepted (λ h. number-written number contents g h (aloneAt s contents end 0x4E 2 2) refl)
-      (λ _. aid-written number contents g (aloneAt s contents end 0x4F 5 16) refl)
+  accepted : Accepted (storeDataAt s at end)
+  unfolding storeDataAt confirmationAt
+  accepted = each-dgi Accepted (dgiAt s at end) (no-value (Encoded v) v) λ number contents d.
+      each-eq Accepted
+      (λ h. each-found Accepted (aloneAt s contents end 0x4E 2 2) (no-value (Encoded v) v) λ start stop g. number-written number contents d start stop h g)
+      (λ _. each-found Accepted (aloneAt s contents end 0x4F 5 16) (no-value (Encoded v) v) λ start stop g. aid-written number contents d start stop g)
 
 pub store-data-written : StoreDataWritten
-unfolding storeDataAt
-store-data-written s at end v b q = contents-written s at end v b (dgiAt s at end) refl q
+store-data-written s at end v b q = accepted s at end v b q

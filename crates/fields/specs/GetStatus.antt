@@ -47,10 +47,15 @@ tagsAt s at end =
     (onFound (aloneAt s at end 0x5C 0 255) tags.Wrong λ start stop.
     listedAt s start stop)
 
+-- all rows where 4F is empty, else the row of its AID
+abbrev pub rowsOf : ℕ → ℕ → Bool → Bool → Listing
+rowsOf start stop life fallBack =
+    when (eq? (stop - start) 0) (listing.All life fallBack)
+    (when (lt? (stop - start) 5) listing.Wrong
+    (listing.One (partOf start stop) life fallBack))
+
 unfoldable pub listingAt : List ℕ → ℕ → ℕ → Listing
 listingAt s at end =
     onFound (expectAt s at end 0x4F 0 16) listing.Wrong λ start stop.
     onShown (tagsAt s stop end) listing.Wrong λ life fallBack.
-    when (eq? (stop - start) 0) (listing.All life fallBack)
-    (when (lt? (stop - start) 5) listing.Wrong
-    (listing.One (partOf start stop) life fallBack))
+    rowsOf start stop life fallBack

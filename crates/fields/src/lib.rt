@@ -14,7 +14,7 @@ ghost use Rattle.fields.specs.Delete.{verificationAt, deletionAt};
 ghost use Rattle.fields.specs.GetStatus.{noted, listedAt, tagsAt, listingAt};
 
 // The element that the table has there, where it fills the window.
-pub fn read_alone(s: &[u8], at: usize, end: usize, tag: u16, low: usize, high: usize) -> Element
+fn read_alone(s: &[u8], at: usize, end: usize, tag: u16, low: usize, high: usize) -> Element
     ensures { λ r. ⌜ r ≡ aloneAt (now (s .entry)) at end tag low high ⌝ }
 {
     let Element::Found { start, stop } = expect(s, at, end, tag, low, high) else {
@@ -42,7 +42,7 @@ fn read_number(s: &[u8], at: usize) -> u16
     high * 256 + low
 }
 
-pub fn read_dgi(s: &[u8], at: usize, end: usize) -> Dgi
+fn read_dgi(s: &[u8], at: usize, end: usize) -> Dgi
     ensures { λ r. ⌜ r ≡ dgiAt (now (s .entry)) at end ⌝ }
 {
     if s.len() < end {

@@ -5,6 +5,9 @@ use mathlib.Core.Path.{_≡_, refl}
 use mathlib.Core.Bool.{Bool, true, false}
 use borrow.Author.Tests.{le-ltb, lt-ltb, le-leb, lt-leb, eq-eqb, ne-eqb, leb-true, leb-false, ltb-true, ltb-false, eqb-true, eqb-false}
 use Rattle.tlv.specs.When.{when, le?, lt?, eq?}
+use Rattle.tlv.specs.Tlv.{onFound}
+use Rattle.tlv.specs.declared.Element.{Element}
+use Rattle.tlv.specs.declared.Element.the-variants as element
 
 module _ {ℓ} {X : Type ℓ} where
   pub yes! : {c : Bool} {x z : X} (y : X) → c ≡ true → z ≡ x → z ≡ when c x y
@@ -55,3 +58,9 @@ module _ {ℓ} {X : Type ℓ} where
   pub each-eq : (P : X → Type 0) {a b : ℕ} {x y : X} → (a ≡ b → P x) → ((a ≡ b → ⊥) → P y) → P (when (eq? a b) x y)
   unfolding eq?
   each-eq P {a} {b} p q = each P (eq? a b) (λ e. p (eqb-true a b e)) (λ e. q (eqb-false a b e))
+
+  -- the same for what comes of an element
+  pub each-found : (P : X → Type 0) (r : Element) {w : X} {f : ℕ → ℕ → X} → P w → ((start stop : ℕ) → element.Found start stop ≡ r → P (f start stop))
+      → P (onFound r w f)
+  each-found P element.Wrong p q = p
+  each-found P (element.Found start stop) p q = q start stop refl

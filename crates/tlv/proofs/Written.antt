@@ -13,7 +13,7 @@ use Rattle.tlv.specs.declared.Element.the-variants as element
 use Rattle.tlv.specs.Tlv.{byte, tagAt, lengthAt, expectAt}
 use Rattle.tlv.specs.Encoding.{window, Bytes, encodeTag, encodeLength, encodeElement}
 use Rattle.tlv.proofs.Branches.{each-le, each-lt, each-eq, lt!, nlt! }
-use Rattle.tlv.proofs.Inside.{expect-parts, head-parts, tag-inside, length-inside}
+use Rattle.tlv.proofs.Inside.{expect-parts, expect-inside, head-parts, tag-inside, length-inside}
 use Rattle.tlv.proofs.Windows.{window-none, window-first, window-cut, window-length}
 
 module _ (s : List ℕ) (at : ℕ) where
@@ -73,3 +73,11 @@ element-written s at end t low high start stop b q =
     ∙ ap (λ (l : List ℕ). l ++ window s (h .next) stop) tagged
     ∙ ap (λ (l : List ℕ). encodeTag t ++ l) (window-cut s (h .next) start stop (omega arith) (omega arith) (omega arith)
     ∙ ap (λ (l : List ℕ). l ++ window s start stop) (counted ∙ ap encodeLength n))
+
+-- an element found, and the window after it
+pub elements-written : (s : List ℕ) (at end t low high start stop : ℕ) → Bytes s → element.Found start stop ≡ expectAt s at end t low high
+    → window s at end ≡ encodeElement t (window s start stop) ++ window s stop end
+elements-written s at end t low high start stop b q =
+    let i = expect-inside s at end t low high start stop q in
+    window-cut s at stop end (omega arith) (omega arith) (omega arith)
+    ∙ ap (λ (l : List ℕ). l ++ window s stop end) (element-written s at end t low high start stop b q)
