@@ -11,7 +11,7 @@ use lib.Dec.{eqb}
 use borrow.Author.Tests.{eq-eqb, ne-eqb, eqb-true, eqb-false, not-true}
 use Rattle.tlv.specs.Tlv.{byte}
 use Rattle.command.specs.Framing.{shapeRight, isFilled, dataEnd}
-use Rattle.command.specs.Frame.{le, framed, dataField, hasLe}
+use Rattle.command.specs.Frame.{leOf, framed, dataField, hasLe}
 
 -- a place past the header, counted from there
 pub five : (n : ℕ) → 5 + n ≡ suc (suc (suc (suc (suc n))))
@@ -21,7 +21,7 @@ byte-past : (a b c d n : ℕ) (rest : List ℕ) (i : ℕ) → getD (a ∷ b ∷ 
 byte-past a b c d n rest i = rw (five i) refl
 
 module _ (class instruction p1 p2 : ℕ) (field : List ℕ) where
-  pub framed-length : (b : Bool) → length (framed class instruction p1 p2 field b) ≡ 5 + (length field + length (le b))
+  pub framed-length : (b : Bool) → length (framed class instruction p1 p2 field b) ≡ 5 + (length field + length (leOf b))
   framed-length b = simp length-append (omega arith)
 
   filled : (b : Bool) → 1 ≤ length field → isFilled (framed class instruction p1 p2 field b) ≡ true
@@ -52,7 +52,7 @@ filled-of s n h = rw (ne-eqb (byte s 1) 0xCA n) at h
 
 -- what is left after n bytes
 tail-case : (n : ℕ) (rest : List ℕ) (b : Bool) → eqb (5 + length rest) (5 + n) ≡ b
-    → (b || (eqb (5 + length rest) (5 + n + 1) && eqb (getD rest n 0) 0)) ≡ true → (length (take n rest) ≡ n) × (drop n rest ≡ le (not b))
+    → (b || (eqb (5 + length rest) (5 + n + 1) && eqb (getD rest n 0) 0)) ≡ true → (length (take n rest) ≡ n) × (drop n rest ≡ leOf (not b))
 tail-case n rest true e h =
     let q : 5 + length rest ≡ 5 + n = eqb-true _ _ e in
     (length-take-le n rest (omega arith), drop-of-length-le rest {i = n} (omega arith))

@@ -1,31 +1,31 @@
 -- An encoded command is read back. Its framing passes the first five rows, its data field stands from the sixth byte on, and there the
 -- field's own theorem reads it back.
-use Prim.Native.Nat.{ℕ, suc, _+_, _≤_, _<_}
+use Prim.Native.Nat.{ℕ, _+_, _≤_}
 use mathlib.Core.Path.{_≡_, refl, sym, ap, subst, _∙_}
-use mathlib.Core.List.{List, [], _∷_, _++_}
-use mathlib.Core.Option.{Option, none, some}
-use mathlib.Core.Bool.{Bool, true, false, not, _||_}
+use mathlib.Core.List.{List, [], _∷_}
+use mathlib.Core.Option.{some}
+use mathlib.Core.Bool.{Bool, true, false}
 use native.Mathlib.Omega.{arith}
 use lib.ListN.{length}
 use lib.Seq.{take-append-seam}
 use borrow.Author.Tests.{le-ltb}
 use Rattle.tlv.specs.Tlv.{byte}
 use Rattle.tlv.specs.Encoding.{window}
-use Rattle.fields.specs.Grammar.{Stored, Deleted, Asked, EncodesStored, EncodesDeleted, EncodesListed}
+use Rattle.fields.specs.Grammar.{EncodesStored, EncodesDeleted, EncodesListed}
 use Rattle.fields.specs.StoreData.{storeDataAt}
 use Rattle.fields.specs.Delete.{deletionAt}
 use Rattle.fields.specs.GetStatus.{listingAt}
 use Rattle.fields.proofs.StoreDataGrammar.{store-data-back}
 use Rattle.fields.proofs.DeletionGrammar.{deletion-back}
 use Rattle.fields.proofs.ListingGrammar.{listing-back}
-use Rattle.install.specs.Grammar.{Created, EncodesInstall}
+use Rattle.install.specs.Grammar.{EncodesInstall}
 use Rattle.install.specs.Install.{installOf}
 use Rattle.install.proofs.ReadBack.{install-back}
 use Rattle.command.specs.Framing.{lengthWrong, classRight, classWrong, instructionWrong, parametersRight, parametersWrong, shapeRight, shapeWrong, dataEnd}
-use Rattle.command.specs.Frame.{le, framed}
-use Rattle.command.specs.Requests.{fieldOf, dataWrong, isWrong}
-use Rattle.command.specs.Reading.{readOf, accepted}
-use Rattle.command.specs.Grammar.{Wanted, create, storeData, deletion, getStatus, getData, readAs, Framed, Bare, Encodes, CommandBack}
+use Rattle.command.specs.Frame.{leOf, framed}
+use Rattle.command.specs.Requests.{fieldOf, dataWrong}
+use Rattle.command.specs.Reading.{readOf}
+use Rattle.command.specs.Grammar.{Wanted, create, storeData, deletion, getStatus, getData, readAs, Framed, Bare, CommandBack}
 use Rattle.command.proofs.Frames.{five, framed-length, framed-shape}
 use Rattle.command.proofs.Answers.{Passes, passes-done}
 use Rattle.command.proofs.Fields.{fieldAs, accepted-as, right-as, field-create, field-deletion, field-store-data, field-listing, field-get-data, create-as, store-data-as, deletion-as, listing-as}
@@ -34,14 +34,14 @@ passes-read : (s : List ℕ) (capacity : ℕ) (v : Wanted) → Passes s capacity
 unfolding readOf
 passes-read s capacity v p q = rw (passes-done s capacity p) (accepted-as s (fieldOf s capacity) ∙ q)
 
-le-short : (b : Bool) → length (le b) ≤ 1
+le-short : (b : Bool) → length (leOf b) ≤ 1
 le-short false = omega arith
 le-short true = omega arith
 
 module _ (class instruction p1 p2 : ℕ) (field : List ℕ) (b : Bool) where
   pub field-window : window (framed class instruction p1 p2 field b) 5 (5 + length field) ≡ field
   unfolding window
-  field-window = rw (five (length field)) (take-append-seam field (le b))
+  field-window = rw (five (length field)) (take-append-seam field (leOf b))
 
   module _ (least : 1 ≤ length field) (most : length field ≤ 255) where
     framed-held : 5 + length field ≤ length (framed class instruction p1 p2 field b)

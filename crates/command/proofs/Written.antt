@@ -1,21 +1,17 @@
 -- Whatever command is accepted is the encoding of what was read. It passed all six rows: so its class and parameters are right and it is
 -- framed, and its data field is the encoding that the field's own theorem gives; with no data field it is GET DATA's five bytes.
-use Prim.Native.Nat.{ℕ, suc, _+_, _-_, _≤_, _<_}
+use Prim.Native.Nat.{ℕ}
 use mathlib.Core.Path.{_≡_, refl, sym, ap, subst, _∙_}
-use mathlib.Core.List.{List, [], _∷_, _++_}
-use mathlib.Core.Option.{Option, none, some}
-use mathlib.Core.Bool.{Bool, true, false, not, _&&_, _||_, false≢true}
+use mathlib.Core.List.{List, [], _∷_}
+use mathlib.Core.Option.{none, some}
+use mathlib.Core.Bool.{Bool, true, false, _&&_, _||_}
 use native.Mathlib.Omega.{arith}
-use lib.ListN.{length, take, drop}
-use lib.Dec.{eqb, leb}
-use lib.Seq.{length-slice}
-use borrow.Author.Tests.{eqb-true, eqb-false, ne-eqb, eq-eqb, not-false}
-use Rattle.tlv.specs.When.{when, eq?}
+use lib.ListN.{length}
+use lib.Dec.{eqb}
+use borrow.Author.Tests.{eqb-true, ne-eqb, eq-eqb, not-false}
 use Rattle.tlv.specs.Tlv.{byte}
 use Rattle.tlv.specs.Encoding.{window, Bytes}
 use Rattle.tlv.proofs.Branches.{each-eq}
-use Rattle.tlv.proofs.Windows.{window-length}
-use Rattle.fields.specs.Grammar.{EncodesStored, EncodesDeleted, EncodesListed}
 use Rattle.fields.specs.StoreData.{storeDataAt}
 use Rattle.fields.specs.Delete.{deletionAt}
 use Rattle.fields.specs.GetStatus.{listingAt}
@@ -34,7 +30,7 @@ use Rattle.command.specs.Framing.{classRight, classWrong, instructionWro
 use Rattle.command.specs.Frame.{framed, dataField, hasLe}
 use Rattle.command.specs.Requests.{fieldOf}
 use Rattle.command.specs.Reading.{readOf}
-use Rattle.command.specs.Grammar.{Wanted, create, storeData, deletion, getStatus, getData, wantedOf, readAs, Framed, Bare, Encodes, CommandWritten}
+use Rattle.command.specs.Grammar.{Wanted, getData, wantedOf, readAs, Framed, Bare, Encodes, CommandWritten}
 use Rattle.command.proofs.Frames.{and-l, and-r, five, framed-whole, field-length}
 use Rattle.command.proofs.Answers.{Passes, read-passes, read-done}
 use Rattle.command.proofs.Fields.{fieldAs, as-create, as-store-data, as-deletion, as-listing}
@@ -72,10 +68,17 @@ module _ (s : List ℕ) (capacity : ℕ) (p : Passes s capacity) where
       let other : byte s 1 ≡ 0xCA → ⊥ = λ h. n (sym i ∙ h) in
       let l = field-length s other shape-right in let m = b 4 in
       let f : Framed (byte s 1) Encoded s = record {
-        class = byte s 0; p1 = byte s 2; p2 = byte s 3; field = dataField s; withLe = hasLe s;
-        rightClass = class-right; rightParameters = parameters-right; least = omega arith; most = omega arith;
+        class = byte s 0;
+        p1 = byte s 2;
+        p2 = byte s 3;
+        field = dataField s;
+        withLe = hasLe s;
+        rightClass = class-right;
+        rightParameters = parameters-right;
+        least = omega arith;
+        most = omega arith;
         encoded = subst Encoded (window-field s) e;
-        written = framed-whole s other shape-right
+        written = framed-whole s other shape-right;
       } in
       subst (λ (k : ℕ). Framed k Encoded s) i f
 

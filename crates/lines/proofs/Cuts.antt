@@ -1,8 +1,9 @@
 -- The lines of an input are the same however it was cut into reads, and they are those that its bytes say (`any-cut`). A step's law
 -- (`Hands`) is carried to the window, then over all steps before a read, then over the reads: what is still to come of the window
 -- and of all that follows stays what is not handed out. Each read fits, since the steps before it leave at most 4,096 bytes.
+-- The same law by cases over what a session does gives `any-session`.
 use Prim.Native.Nat.{ℕ, zero, suc, _+_, _-_, _≤_}
-use mathlib.Core.Path.{_≡_, refl, sym, ap, _∙_}
+use mathlib.Core.Path.{_≡_, refl, sym, ap, subst, _∙_}
 use mathlib.Core.List.{List, [], _∷_, _++_, append-nil, append-assoc, flatten}
 use mathlib.Core.Bool.{Bool, true, false}
 use native.Mathlib.Omega.{arith}
@@ -13,8 +14,9 @@ use Rattle.text.specs.Put.{put, after}
 use Rattle.text.proofs.PutLaws.{put-put, put-front, length-put, after-fits}
 use Rattle.lines.specs.Lines.{Line, Whole, linesOf}
 use Rattle.lines.specs.Window.{nextOf, heldOf, freshWindow}
-use Rattle.lines.specs.Cuts.{handed, drained, drainedTo, readBuffer, readWindow, steps, linesBy, AtMost, one, AnyCut, AnswersAtOnce}
+use Rattle.lines.specs.Cuts.{handed, drained, drainedTo, readBuffer, readWindow, steps, linesBy, AtMost, one, AnyCut, AnswersAtOnce, Settled, Session, over, step, read, AnySession}
 use Rattle.lines.specs.declared.Window.{Window}
+use Rattle.lines.specs.declared.Step.{Step}
 use Rattle.lines.specs.declared.Found.{Found}
 use Rattle.lines.specs.declared.Found.the-variants as found-as
 use Rattle.lines.proofs.WindowLaws.{take-least, drop-part}
@@ -88,7 +90,7 @@ unfolding drainedTo
 drained-all zero w buf h = h
 drained-all (suc n) w buf h = let k = next-falls-last w buf true refl in drained-all n (nextOf w buf true .window) buf (omega arith)
 
-held-le : (w : Window) (buf : List ℕ) → length (heldOf w buf) ≤ length buf
+pub held-le : (w : Window) (buf : List ℕ) → length (heldOf w buf) ≤ length buf
 held-le w buf = simp (length-drop, length-take) (omega arith)
 
 -- a read goes behind what is kept
@@ -135,6 +137,32 @@ any-cut n buf reads a h = cuts n freshWindow buf reads a h
 pub answers-at-once : AnswersAtOnce
 answers-at-once w buf last = rw (step-held w buf last) (step-right (take (w .end) buf) (w .at) (w .skipping) last .settled)
 
+-- a session hands out what is ahead of its window
+settled-end : (last : Bool) (x : Found) (t : List ℕ) → x ≡ found-as.End → Settled last x t → t ≡ []
+settled-end last (found-as.Line a e) t h s = let q : _≡_ {A = ℕ} 0 1 = cc in absurd (omega arith)
+settled-end last found-as.TooLong t h s = let q : _≡_ {A = ℕ} 0 1 = cc in absurd (omega arith)
+settled-end last found-as.More t h s = let q : _≡_ {A = ℕ} 0 1 = cc in absurd (omega arith)
+settled-end last found-as.End t h s = s .1
+
+sessions : {w : Window} {buf input : List ℕ} {ls : List Line} → Session w buf input ls → ls ≡ ahead w buf input
+sessions (over {w} {buf} h) =
+    let v : Window = nextOf w buf true .window in
+    let t : heldOf v buf ≡ [] = settled-end true (nextOf w buf true .found) (heldOf v buf) h (answers-at-once w buf true) in
+    let z : length (heldOf v buf) ≤ 0 = rw t (omega arith) in
+    sym
+    (next-hands w buf true [] (λ e. refl)
+    ∙ ap (λ (x : Found). handed buf x ++ ahead v buf []) h
+    ∙ none-left (v .skipping) (heldOf v buf) z)
+sessions (step {w} {buf} {input} last g p) = ap (λ (x : List Line). handed buf (nextOf w buf last .found) ++ x) (sessions p) ∙ sym (next-hands w buf last input g)
+sessions (read {w} {v} {buf} {after} {input} bytes h k p) =
+    sessions p
+    ∙ ap (λ (x : List ℕ). toCome (v .skipping) (x ++ input)) h
+    ∙ ap (λ (x : Bool). toCome x (heldOf w buf ++ bytes ++ input)) k
+    ∙ ap (toCome (w .skipping)) (append-assoc (heldOf w buf) bytes input)
+
+pub any-session : AnySession
+any-session buf input lines p = sessions p
+
 -- so one read of two parts is as good as a read of each
 pub cut-in-two : (n : ℕ) (buf a b : List ℕ) (reads : List (List ℕ)) → AtMost n ((a ++ b) ∷ reads) → n + 4096 ≤ length buf
     → linesBy freshWindow buf (a ∷ b ∷ reads) ≡ linesBy freshWindow buf ((a ++ b) ∷ reads)
@@ -148,3 +176,6 @@ cut-in-two n buf a b reads (one k m) h =
 -- a line lies inside the buffer
 pub next-inside : (w : Window) (buf : List ℕ) (last : Bool) → Inside (length buf) (nextOf w buf last .found)
 next-inside w buf last = (let l = length-take (w .end) buf in inside-more (length (take (w .end) buf)) (length buf) (nextOf w buf last .found) (omega arith)) (step-right (take (w .end) buf) (w .at) (w .skipping) last .inside)
+
+pub line-inside : (w : Window) (buf : List ℕ) (last : Bool) {r : Step} {a e : ℕ} → r ≡ nextOf w buf last → r .found ≡ found-as.Line a e → (a ≤ e) × (e ≤ length buf)
+line-inside w buf last {r} {a} {e} p q = subst (Inside (length buf)) (ap (λ (x : Step). x .found) (sym p) ∙ q) (next-inside w buf last)

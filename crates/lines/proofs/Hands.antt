@@ -10,6 +10,7 @@ use lib.ListN.{length, take, drop, length-take, length-drop, drop-of-length-le}
 use lib.Seq.{drop-drop, take-all, drop-length}
 use Rattle.text.specs.When.{when}
 use Rattle.text.specs.Words.{before, part}
+use Rattle.text.proofs.WordLists.{before-le}
 use Rattle.text.proofs.Branches.{by-test, by-lt, by-le, lt!, nlt! }
 use Rattle.lines.specs.Lines.{Line, TooLong, lineOf, linesOf}
 use Rattle.lines.specs.Window.{windowOf, gives, found, idle, tailFrom, stopFrom, lineFrom, stepOf}
@@ -17,7 +18,7 @@ use Rattle.lines.specs.Cuts.{handed, Settled}
 use Rattle.lines.specs.declared.Found.{Found}
 use Rattle.lines.specs.declared.Found.the-variants as found-as
 use Rattle.lines.specs.declared.Step.{Step}
-use Rattle.lines.proofs.LineLaws.{before-le, lines-last, last-some, lines-in, lines-over, lines-none, past-on, past-in}
+use Rattle.lines.proofs.LineLaws.{lines-last, last-some, lines-in, lines-over, lines-none, past-on, past-in}
 
 -- the lines still to come of a text; where a line is passed over, those after its end
 abbrev pub toCome : Bool → List ℕ → List Line

@@ -8,39 +8,25 @@ use native.Mathlib.Nat.{zero-add}
 use lib.ListN.{length, take, drop, length-append, drop-of-length-le}
 use lib.Seq.{take-append-le, take-append-add, drop-append-le, drop-append-add}
 use Rattle.text.specs.Words.{before}
-use Rattle.text.proofs.Branches.{on-eq, on-lt, by-eq, eq!, ne!, lt! }
+use Rattle.text.proofs.WordLists.{before-found, before-other, before-le}
+use Rattle.text.proofs.Branches.{on-eq, on-lt, eq!, ne!, lt! }
 use Rattle.lines.specs.Lines.{Line, TooLong, lineOf, lastOf, linesOn, linesOf}
 
 module _ (b : ℕ) where
-  hit : (c : ℕ) (cs : List ℕ) → c ≡ b → before b (c ∷ cs) ≡ 0
-  unfolding before
-  hit c cs e = sym (eq! _ e refl)
-
-  miss : (c : ℕ) (cs : List ℕ) → (c ≡ b → ⊥) → before b (c ∷ cs) ≡ suc (before b cs)
-  unfolding before
-  miss c cs e = sym (ne! _ e refl)
-
-  pub before-le : (t : List ℕ) → before b t ≤ length t
-  unfolding before
-  before-le [] = omega arith
-  before-le (c ∷ cs) =
-      let h = before-le cs in
-      by-eq (λ (n : ℕ). n ≤ suc (length cs)) c b (λ e. omega arith) (λ e. omega arith)
-
   -- what follows does not matter where b was found; where not, the search goes on in it
   pub before-in : (t f : List ℕ) → before b t < length t → before b (t ++ f) ≡ before b t
   before-in [] f h = absurd (omega arith)
   before-in (c ∷ cs) f h =
       on-eq c b
-      (λ e. hit c (cs ++ f) e ∙ sym (hit c cs e))
-      (λ e. let m = miss c cs e in miss c (cs ++ f) e ∙ ap suc (before-in cs f (omega arith)) ∙ sym m)
+      (λ e. before-found b c (cs ++ f) e ∙ sym (before-found b c cs e))
+      (λ e. let m = before-other b c cs e in before-other b c (cs ++ f) e ∙ ap suc (before-in cs f (omega arith)) ∙ sym m)
 
   pub before-on : (t f : List ℕ) → before b t ≡ length t → before b (t ++ f) ≡ length t + before b f
   before-on [] f h = sym (zero-add (before b f))
   before-on (c ∷ cs) f h =
       on-eq c b
-      (λ e. let m = hit c cs e in absurd (omega arith))
-      (λ e. let m = miss c cs e in let k = before-on cs f (omega arith) in miss c (cs ++ f) e ∙ omega arith)
+      (λ e. let m = before-found b c cs e in absurd (omega arith))
+      (λ e. let m = before-other b c cs e in let k = before-on cs f (omega arith) in before-other b c (cs ++ f) e ∙ omega arith)
 
 -- a text with LF: its first line, and the lines after it
 lines-on-cut : (line t : List ℕ) → before 10 t < length t → linesOn line t ≡ lineOf (line ++ take (before 10 t) t) ∷ linesOf (drop (suc (before 10 t)) t)
@@ -48,8 +34,8 @@ unfolding linesOn linesOf
 lines-on-cut line [] h = absurd (omega arith)
 lines-on-cut line (c ∷ cs) h =
     on-eq c 10
-    (λ e. sym (eq! _ e (rw (hit 10 c cs e, append-nil line) refl)))
-    (λ e. sym (ne! _ e (let m = miss 10 c cs e in rw (m, ← append-assoc line (c ∷ []) (take (before 10 cs) cs)) (sym (lines-on-cut (line ++ (c ∷ [])) cs (omega arith))))))
+    (λ e. sym (eq! _ e (rw (before-found 10 c cs e, append-nil line) refl)))
+    (λ e. sym (ne! _ e (let m = before-other 10 c cs e in rw (m, ← append-assoc line (c ∷ []) (take (before 10 cs) cs)) (sym (lines-on-cut (line ++ (c ∷ [])) cs (omega arith))))))
 
 pub lines-cut : (t : List ℕ) → before 10 t < length t → linesOf t ≡ lineOf (take (before 10 t) t) ∷ linesOf (drop (suc (before 10 t)) t)
 unfolding linesOf
@@ -61,8 +47,8 @@ unfolding linesOn
 lines-on-last line [] h = ap lastOf (sym (append-nil line))
 lines-on-last line (c ∷ cs) h =
     on-eq c 10
-    (λ e. let m = hit 10 c cs e in absurd (omega arith))
-    (λ e. sym (ne! _ e (let m = miss 10 c cs e in sym (lines-on-last (line ++ (c ∷ [])) cs (omega arith) ∙ ap lastOf (append-assoc line (c ∷ []) cs)))))
+    (λ e. let m = before-found 10 c cs e in absurd (omega arith))
+    (λ e. sym (ne! _ e (let m = before-other 10 c cs e in sym (lines-on-last (line ++ (c ∷ [])) cs (omega arith) ∙ ap lastOf (append-assoc line (c ∷ []) cs)))))
 
 pub lines-last : (t : List ℕ) → before 10 t ≡ length t → linesOf t ≡ lastOf t
 unfolding linesOf

@@ -59,6 +59,19 @@ abbrev pub AnyCut : Type 0
 AnyCut =
     (n : ℕ) (buf : List ℕ) (reads : List (List ℕ)) → AtMost n reads → n + 4096 ≤ length buf → linesBy freshWindow buf reads ≡ linesOf (flatten reads)
 
+-- a session with a window, over the input that comes: each step hands out what it found, at the last only where nothing comes any
+-- more; each read leaves what was held with some bytes of the input behind it, and anything in the rest of the buffer
+pub data Session : Window → List ℕ → List ℕ → List Line → Type 0 where
+  over : {w : Window} {buf : List ℕ} → nextOf w buf true .found ≡ found.End → Session w buf [] []
+  step : {w : Window} {buf input : List ℕ} {lines : List Line} (last : Bool) → (last ≡ true → input ≡ [])
+      → Session (nextOf w buf last .window) buf input lines → Session w buf input (handed buf (nextOf w buf last .found) ++ lines)
+  read : {w v : Window} {buf after input : List ℕ} {lines : List Line} (bytes : List ℕ) → heldOf v after ≡ heldOf w buf ++ bytes → v .skipping ≡ w .skipping
+      → Session v after input lines → Session w buf (bytes ++ input) lines
+
+-- whatever steps and reads a session takes, what it hands out are the lines of its input
+abbrev pub AnySession : Type 0
+AnySession = (buf input : List ℕ) (lines : List Line) → Session freshWindow buf input lines → lines ≡ linesOf input
+
 -- a step waits only where no line end has arrived and more may come, and ends only where nothing is left and nothing comes
 abbrev pub Settled : Bool → Found → List ℕ → Type 0
 Settled last (found.Line from to) held = Unit {0}

@@ -2,6 +2,8 @@
 pub mod Branches
 pub mod Rest
 pub mod WordLaws
+pub mod WordLists
 pub mod NumberLaws
 pub mod HexLaws
 pub mod PutLaws
+pub mod RoundTrips

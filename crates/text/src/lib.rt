@@ -13,6 +13,7 @@ pub use hex::read_hex;
 pub use numbers::Number;
 pub use numbers::decimal;
 pub use words::Word;
+pub use words::count_words;
 pub use words::next_field;
 pub use words::next_word;
 pub use words::past;

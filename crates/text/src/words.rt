@@ -1,8 +1,8 @@
 // Words of a line, parted by spaces, and fields of a word, parted by one byte.
 ghost use mathlib.Core.Path.{_≡_};
 ghost use Prim.Native.Nat.{_+_};
-ghost use lib.ListN.{drop};
-ghost use Rattle.text.specs.Words.{before, leading, wordAt, fieldAt, sameOf};
+ghost use lib.ListN.{length, drop};
+ghost use Rattle.text.specs.Words.{before, leading, wordAt, fieldAt, wordsOf, sameOf};
 
 // The first place from `at` on that holds b, or the end.
 pub fn until(s: &[u8], at: usize, b: u8) -> usize
@@ -59,6 +59,22 @@ pub fn next_field(s: &[u8], at: usize, by: u8) -> Word
     }
     let to = until(s, at, by);
     Word::Span { from: at, to }
+}
+
+// How many words a line has.
+pub fn count_words(s: &[u8]) -> usize
+    ensures { λ r. ⌜ r ≡ length (wordsOf (now (s .entry))) ⌝ }
+{
+    let mut count = 0;
+    let mut at = 0;
+    while count < s.len() {
+        let Word::Span { from: _, to } = next_word(s, at) else {
+            return count;
+        };
+        at = to;
+        count += 1;
+    }
+    count
 }
 
 // Are the two byte strings the same?

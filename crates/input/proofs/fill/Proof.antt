@@ -1,0 +1,89 @@
+use mir.Syntax.{w64}
+use mir.Val.{toZ, ofZ}
+use native.Mathlib.Omega.{arith}
+use Prim.Native.Nat.{_<_}
+use mathlib.Core.Path.{refl, ap, _∙_}
+use mathlib.Core.List.{[]}
+use lib.ListN.{length, take}
+use lib.Seq.{length-take-le}
+use Rattle.lines.specs.declared.Window.{Window}
+use Rattle.input.proofs.FillLaws.{kept-held, more-held, kept-skipping}
+use Rattle.input.proofs.ArrivalLaws.{brings-of}
+use borrow.Author.Needs.{needs}
+use Rattle.input.proofs.fill.Statement.{statement}
+use Rattle.input.proofs.fill.Tie as tie
+
+keep-requires : tie.Need-keep-requires
+keep-requires c κs = search needs
+
+same-length : tie.Need-same-length
+same-length c = search needs
+
+returns : tie.Need-returns
+returns c =
+    let a = c .before .before .before .before .before .before .args in
+    let k = c .before .before .before .keep in
+    record {
+      bytes = [];
+      held = kept-held (a .window) (a .buf .now) (k .result) (k .last .1 .0) (k .ensures .0) (k .ensures .1);
+      skipping = kept-skipping (a .window) (a .buf .now) (k .result) (k .last .1 .0) (k .ensures .0) (k .ensures .1);
+      brings = refl;
+      size = search needs;
+    }
+
+sub-part : tie.Need-sub-part
+sub-part c = search needs
+
+part-part-start : tie.Need-part-part-start
+part-part-start c = search needs
+
+part-part-end : tie.Need-part-part-end
+part-part-end c = search needs
+
+read-requires : tie.Need-read-requires
+read-requires c κs = search needs
+
+arrival-of-requires : tie.Need-arrival-of-requires
+arrival-of-requires c κs = search needs
+
+count-requires : tie.Need-count-requires
+count-requires c κs = search needs
+
+grown-requires : tie.Need-grown-requires
+grown-requires c κs = search needs
+
+same-length-2 : tie.Need-same-length-2
+same-length-2 c = search needs
+
+returns-2 : tie.Need-returns-2
+returns-2 c =
+    let a = c .before .before .before .before .before .before .before .before .before .before .before .before .before .before .before .before .before .args in
+    let k = c .before .before .before .before .before .before .before .before .before .before .before .before .before .before .keep in
+    let n = c .before .before .before .count in
+    let ys = c .before .before .before .before .before .before .before .before .read .last .1 .0 in
+    let l = length-take-le (n .result) ys (n .ensures .0 .0) in
+    let h : 0 < length ys = omega arith in
+    record {
+      bytes = take (n .result) ys;
+      held = more-held (a .window) (a .buf .now) (k .result) (k .last .1 .0) (k .ensures .0) (k .ensures .1) ys _ (n .result) (c .grown .ensures) (n .ensures .0 .0);
+      skipping = ap (λ (x : Window). x .skipping) (c .grown .ensures) ∙ kept-skipping (a .window) (a .buf .now) (k .result) (k .last .1 .0) (k .ensures .0) (k .ensures .1);
+      brings = rw (c .before .before .before .before .before .arrival-of .ensures) (brings-of (toZ w64 (ofZ w64 (c .before .before .before .before .before .before .before .before .read .result))) (length ys) (take (n .result) ys) (l ∙ n .ensures .1) h);
+      size = search needs;
+    }
+
+pub fill-spec : {M : Type 1} → statement M
+fill-spec =
+    tie.close
+    (tie.spec
+    keep-requires
+    same-length
+    returns
+    sub-part
+    part-part-start
+    part-part-end
+    read-requires
+    arrival-of-requires
+    count-requires
+    grown-requires
+    same-length-2
+    returns-2)

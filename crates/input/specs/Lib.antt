@@ -1,0 +1,2 @@
+-- What a read leaves in a window of lines.
+pub mod Filled
