@@ -1,7 +1,7 @@
 // Reads lines of one hex word, each a command (`-` is the empty one), and writes how it is read with a capacity of 1000: the request, or
 // the word of its refusal. Empty lines and lines that begin with `#` are passed over.
 use command::Reading;
-use command::request::Request;
+use command::Request;
 use libc::STDIN_FILENO;
 use libc::STDOUT_FILENO;
 use text::HexRead;
