@@ -2,11 +2,11 @@
 -- exactly where none does. By cases on the six conditions, and on what the data field's reader gave.
 use Prim.Native.Nat.{ℕ}
 use mathlib.Core.Path.{_≡_, refl, sym, ap, _∙_}
-use mathlib.Core.List.{List, [], _∷_}
+use mathlib.Core.List.{List, [], _∷_, _++_}
 use mathlib.Core.Bool.{Bool, true, false, cond, false≢true}
 use native.Mathlib.Omega.{arith}
 use Rattle.status.specs.StatusWords.{isDone}
-use Rattle.status.specs.Rows.{row, wordOf}
+use Rattle.status.specs.Rows.{Row, row, wordOf}
 use Rattle.status.specs.declared.Status.{Status}
 use Rattle.status.specs.declared.Status.the-variants as status
 use Rattle.command.specs.declared.request.Request.{Request}
@@ -52,7 +52,26 @@ found-case : (f : Field) → isWrong f ≡ false → (r : Request) × (reading.R
 found-case field.Wrong h = absurd (false≢true (sym h))
 found-case (field.Found r) h = (r, refl)
 
+-- rows after a row that refuses are not asked
+word-case : (b : Bool) (w : Status) (rs more : List Row) → isDone (cond b w (wordOf rs)) ≡ false
+    → (isDone (wordOf rs) ≡ false → wordOf (rs ++ more) ≡ wordOf rs) → cond b w (wordOf (rs ++ more)) ≡ cond b w (wordOf rs)
+word-case true w rs more h f = refl
+word-case false w rs more h f = f h
+
+word-stops : (rs more : List Row) → isDone (wordOf rs) ≡ false → wordOf (rs ++ more) ≡ wordOf rs
+unfolding wordOf
+word-stops [] more h = absurd (false≢true (sym h))
+word-stops (r ∷ rs) more h = word-case (r .when) (r .word) rs more h (word-stops rs more)
+
 module _ (s : List ℕ) (capacity : ℕ) where
+  -- for a table that goes on after these rows: it stops at them, or goes past them
+  pub rows-stop : (more : List Row) → isDone (wordOf (readingRows s capacity)) ≡ false → wordOf (readingRows s capacity ++ more) ≡ wordOf (readingRows s capacity)
+  rows-stop more h = word-stops (readingRows s capacity) more h
+
+  pub rows-pass : (more : List Row) → Passes s capacity → wordOf (readingRows s capacity ++ more) ≡ wordOf more
+  unfolding wordOf
+  rows-pass more p = rw (p .lengthRight, p .classRight, p .instructionRight, p .parametersRight, p .shapeRight, p .dataRight) refl
+
   pub done-passes : isDone (wordOf (readingRows s capacity)) ≡ true → Passes s capacity
   done-passes h =
       let p = done-rows (lengthWrong s) (classWrong s) (instructionWrong s) (parametersWrong s) (shapeWrong s) (dataWrong s capacity) h in

@@ -2,7 +2,7 @@
 use Prim.Native.Nat.{ℕ}
 use mathlib.Core.Path.{_≡_, refl}
 use mathlib.Core.List.{List, [], _∷_, _++_, map}
-use mathlib.Core.Bool.{true, false}
+use mathlib.Core.Bool.{true}
 use Rattle.status.specs.Rows.{wordOf}
 use Rattle.status.specs.declared.Status.the-variants as status
 use Rattle.tlv.specs.When.{when, le?, lt?, eq?}

@@ -1,10 +1,10 @@
 -- What a data field asks for, beside what its reader answers: the five fields that an instruction selects, and each field's answer as the
 -- request that is made of it, both ways. By cases on the answers.
-use Prim.Native.Nat.{ℕ, _+_}
-use mathlib.Core.Path.{_≡_, refl, sym, ap, _∙_}
-use mathlib.Core.List.{List, []}
+use Prim.Native.Nat.{ℕ}
+use mathlib.Core.Path.{_≡_, refl}
+use mathlib.Core.List.{List}
 use mathlib.Core.Option.{Option, none, some}
-use mathlib.Core.Bool.{Bool, true, false}
+use mathlib.Core.Bool.{false}
 use native.Mathlib.Omega.{arith}
 use Rattle.tlv.specs.Tlv.{byte}
 use Rattle.tlv.proofs.Branches.{eq!, ne! }
@@ -24,7 +24,7 @@ use Rattle.command.specs.declared.request.Field.the-variants as field
 use Rattle.command.specs.Framing.{dataEnd}
 use Rattle.command.specs.Requests.{onInstallation, onStoreData, onDeletion, onListing, createOf, storeDataOf, deletionOf, listingOf, fieldOf, isWrong}
 use Rattle.command.specs.Reading.{accepted}
-use Rattle.command.specs.Grammar.{Wanted, create, storeData, deletion, getStatus, getData, wantedOf, readAs}
+use Rattle.command.specs.Grammar.{Wanted, create, storeData, deletion, getStatus, wantedOf, readAs}
 
 abbrev pub fieldAs : List ℕ → Field → Option Wanted
 fieldAs s field.Wrong = none

@@ -4,3 +4,5 @@ pub mod Answers
 pub mod Within
 pub mod Examples
 pub mod Fields
+pub mod ReadBack
+pub mod Written

@@ -8,13 +8,13 @@ use Rattle.tlv.specs.Tlv.{byte}
 use Rattle.command.specs.Framing.{dataEnd}
 
 -- nothing, or Le 00
-abbrev pub le : Bool → List ℕ
-le false = []
-le true = 0x00 ∷ []
+abbrev pub leOf : Bool → List ℕ
+leOf false = []
+leOf true = 0x00 ∷ []
 
 -- header, Lc, Lc bytes, then nothing or Le 00
 abbrev pub framed : ℕ → ℕ → ℕ → ℕ → List ℕ → Bool → List ℕ
-framed class instruction p1 p2 field withLe = class ∷ instruction ∷ p1 ∷ p2 ∷ length field ∷ (field ++ le withLe)
+framed class instruction p1 p2 field withLe = class ∷ instruction ∷ p1 ∷ p2 ∷ length field ∷ (field ++ leOf withLe)
 
 -- the Lc bytes after Lc, and whether a byte stands after them
 abbrev pub dataField : List ℕ → List ℕ

@@ -1,14 +1,14 @@
 // Reading a command: from a byte string of any length to a request, or to the word of its refusal.
-pub mod framing; // framing.rt: what the table asks of a command before its data field is read
-pub mod request; // request.rt: the requests, and the data field's answer made one of them
+mod framing;
+mod request;
 
 use framing::class_wrong;
 use framing::instruction_wrong;
 use framing::length_wrong;
 use framing::parameters_wrong;
 use framing::shape_wrong;
-use request::Field;
-use request::Request;
+pub use request::Field;
+pub use request::Request;
 use request::read_field;
 use status::Status;
 ghost use mathlib.Core.Path.{_≡_};

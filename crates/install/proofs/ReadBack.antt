@@ -2,7 +2,7 @@
 -- which its reader finds there; the tests on their numbers of bytes are what the encoding promises.
 use Prim.Native.Nat.{ℕ, zero, suc, _+_, _-_, _≤_}
 use mathlib.Core.Path.{_≡_, refl, sym, ap, _∙_}
-use mathlib.Core.List.{List, [], _∷_, _++_, append-assoc}
+use mathlib.Core.List.{List, [], _∷_, _++_, append-assoc, append-nil}
 use mathlib.Core.Option.{none}
 use native.Mathlib.Omega.{arith}
 use lib.ListN.{length, length-append}
@@ -19,10 +19,6 @@ use Rattle.install.specs.Parameters.{protocolsWithin, protocolsAt, numbe
 use Rattle.install.specs.Install.{prefixedOf, prefixedAt, namesAt, rightsAt, installOf}
 use Rattle.install.specs.Grammar.{Free, encodePrefixed, encodeProtocols, encodeParameters, encodeNames, encodeRights, encodeInstall, highFirst, Sized, OrTwoMore, AllPairs, LegalParameters, InstallBack}
 use Rattle.install.proofs.Numbers.{number-first}
-
-append-nil : (l : List ℕ) → l ++ [] ≡ l
-append-nil [] = refl
-append-nil (x ∷ l) = ap (λ (z : List ℕ). x ∷ z) (append-nil l)
 
 -- nothing is left of a window whose bytes are none
 nothing-left : (s : List ℕ) (at end : ℕ) → at ≤ end → end ≤ length s → window s at end ≡ [] → at ≡ end

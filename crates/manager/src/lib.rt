@@ -1,1 +1,196 @@
-// being built
+// The manager of the root domain: every command and every further call, answered whole.
+// Each call asks first whether the card is sound; `known_..` is the same for a card known to be, for runs of many calls.
+use card::Answer;
+use card::Card;
+use command::Reading;
+use command::Request;
+use command::read;
+use isdp::Aid;
+use places::Found;
+use responses::write_data;
+use responses::write_deleted;
+use responses::write_one_status;
+use responses::write_status;
+use status::Status;
+use text::writing::put_byte;
+use tlv::Part;
+ghost use mathlib.Core.Path.{_≡_};
+ghost use mathlib.Core.List.{_∷_, []};
+ghost use mathlib.Core.Bool.{cond};
+ghost use Prim.Native.Nat.{_≤_};
+ghost use lib.ListN.{length};
+ghost use lib.Dec.{eqb};
+ghost use Rattle.text.specs.Put.{put};
+ghost use Rattle.card.specs.Answers.{handed, known};
+ghost use Rattle.card.specs.Fresh.{freshOutcome};
+ghost use Rattle.steps.specs.Asked.{Act.status, Asked.on, Asked.confirm, Asked.statusOfAll, Asked.getData};
+ghost use Rattle.steps.specs.Steps.{askedWork, Handed};
+ghost use Rattle.manager.specs.Calls.{Call.Command, Call.Keyed, Call.Stored, Call.Finished, Call.Tick, Call.Lost, partOf, requestAsks};
+ghost use Rattle.manager.specs.Table.{leastBuffer};
+ghost use Rattle.manager.specs.Manager.{work, step};
+
+// A lent response buffer has at least so many bytes.
+const BUFFER: usize = 256;
+
+// The bytes of the command that a part names.
+fn part_of(bytes: &[u8], part: Part) -> &[u8]
+    ensures { λ r. ⌜ now r ≡ partOf (now (bytes .entry)) part ⌝ }
+{
+    let size = bytes.len();
+    let start = part.start;
+    if start > size {
+        return &bytes[size..];
+    }
+    let left = size - start;
+    let len = part.len;
+    if len > left {
+        return &bytes[start..];
+    }
+    let end = start + len;
+    &bytes[start..end]
+}
+
+// The response 00 of an accepted creation or deletion.
+fn acknowledged(answer: Answer, buf: &mut [u8]) -> Answer
+    ensures { λ r. ⌜ (r ≡ answer) × (now (buf .exit) ≡ put (now (buf .entry)) 0 (cond (eqb (answer .length) 1) (0 ∷ []) [])) ⌝ }
+{
+    if answer.length == 1 {
+        put_byte(buf, 0, 0);
+    }
+    answer
+}
+
+fn confirm(card: Card, number: u16, buf: &mut [u8]) -> Answer
+    requires { ⌜ leastBuffer ≤ length (now buf) ⌝ }
+    ensures { λ r. ⌜ Handed (now (buf .entry)) (known card (askedWork card (confirm number))) r (now (buf .exit)) ⌝ }
+{
+    let phase = card.phase;
+    if phase.is_quiet() {
+        return card.refused(Status::StateWrong);
+    }
+    if !phase.is_outstanding(number) {
+        return card.refused(Status::NotHeld);
+    }
+    let step = card.confirmed();
+    let deleted = step.deleted;
+    let n = write_deleted(deleted, buf, 0);
+    step.answer(n)
+}
+
+fn status_of_all(card: Card, life: bool, fallback: bool, buf: &mut [u8]) -> Answer
+    requires { ⌜ leastBuffer ≤ length (now buf) ⌝ }
+    ensures { λ r. ⌜ Handed (now (buf .entry)) (known card (askedWork card (statusOfAll life fallback))) r (now (buf .exit)) ⌝ }
+{
+    let n = write_status(card, life, fallback, buf, 0);
+    card.step_to(card, Aid::none()).answer(n)
+}
+
+fn status_of_one(card: Card, aid: &[u8], life: bool, fallback: bool, buf: &mut [u8]) -> Answer
+    requires { ⌜ leastBuffer ≤ length (now buf) ⌝ }
+    ensures { λ r. ⌜ Handed (now (buf .entry)) (known card (askedWork card (on (now (aid .entry)) (status life fallback)))) r (now (buf .exit)) ⌝ }
+{
+    let Found::At(t) = card.place_of(aid) else {
+        return card.refused(Status::NotHeld);
+    };
+    let n = write_one_status(card, t, life, fallback, buf, 0);
+    card.step_to(card, Aid::none()).answer(n)
+}
+
+fn get_data(card: Card, buf: &mut [u8]) -> Answer
+    requires { ⌜ leastBuffer ≤ length (now buf) ⌝ }
+    ensures { λ r. ⌜ Handed (now (buf .entry)) (known card (askedWork card getData)) r (now (buf .exit)) ⌝ }
+{
+    let n = write_data(card, buf, 0);
+    card.step_to(card, Aid::none()).answer(n)
+}
+
+// What a request asks, done on a card known to be sound.
+fn serve(card: Card, verdict: u8, request: Request, bytes: &[u8], buf: &mut [u8]) -> Answer
+    requires { ⌜ leastBuffer ≤ length (now buf) ⌝ }
+    ensures { λ r. ⌜ Handed (now (buf .entry)) (known card (askedWork card (requestAsks verdict (now (bytes .entry)) request))) r (now (buf .exit)) ⌝ }
+{
+    match request {
+        Request::Create { aid, quota } => {
+            acknowledged(steps::create(card, part_of(bytes, aid), quota), buf)
+        }
+        Request::Enable(aid) => steps::enable(card, part_of(bytes, aid)),
+        Request::Disable(aid) => steps::disable(card, part_of(bytes, aid)),
+        Request::SetFallBack(aid) => steps::set_fall_back(card, part_of(bytes, aid)),
+        Request::Delete(aid) => acknowledged(steps::delete(card, part_of(bytes, aid)), buf),
+        Request::MasterDelete(aid) => {
+            acknowledged(
+                steps::master_delete(card, part_of(bytes, aid), verdict),
+                buf,
+            )
+        }
+        Request::Confirm(number) => confirm(card, number, buf),
+        Request::GetStatusOfAll { life, fall_back } => status_of_all(card, life, fall_back, buf),
+        Request::GetStatusOfOne {
+            aid,
+            life,
+            fall_back,
+        } => status_of_one(card, part_of(bytes, aid), life, fall_back, buf),
+        Request::GetData => get_data(card, buf),
+    }
+}
+
+// A command, on a card known to be sound.
+pub fn known_command(card: Card, verdict: u8, bytes: &[u8], buf: &mut [u8]) -> Answer
+    ensures { λ r. ⌜ Handed (now (buf .entry)) (known card (work card (Command verdict (now (bytes .entry)) (length (now (buf .entry)))))) r (now (buf .exit)) ⌝ }
+{
+    if buf.len() < BUFFER {
+        return card.refused(Status::BufferShort);
+    }
+    let reading = read(bytes, card.capacity);
+    match reading {
+        Reading::Refused(word) => card.refused(word),
+        Reading::Read(request) => serve(card, verdict, request, bytes, buf),
+    }
+}
+
+// A command, with the token verdict that came with it and the buffer lent for its response.
+pub fn command(card: Card, verdict: u8, bytes: &[u8], buf: &mut [u8]) -> Answer
+    ensures { λ r. ⌜ Handed (now (buf .entry)) (step card (Command verdict (now (bytes .entry)) (length (now (buf .entry))))) r (now (buf .exit)) ⌝ }
+{
+    if !card.is_sound() {
+        return card.unsound();
+    }
+    known_command(card, verdict, bytes, buf)
+}
+
+// A fresh card.
+pub fn fresh(eid: &[u8], aid: &[u8], capacity: u32, quota: u32, used: u32, volatile: u32) -> Answer
+    ensures { λ r. ⌜ r ≡ handed (freshOutcome (now (eid .entry)) (now (aid .entry)) capacity quota used volatile) ⌝ }
+{
+    Card::fresh(eid, aid, capacity, quota, used, volatile)
+}
+
+pub fn keyed(card: Card, aid: &[u8]) -> Answer
+    ensures { λ r. ⌜ r ≡ handed (step card (Keyed (now (aid .entry)))) ⌝ }
+{
+    calls::keyed(card, aid)
+}
+
+pub fn stored(card: Card, aid: &[u8], n: u32) -> Answer
+    ensures { λ r. ⌜ r ≡ handed (step card (Stored (now (aid .entry)) n)) ⌝ }
+{
+    calls::stored(card, aid, n)
+}
+
+pub fn finished(card: Card, aid: &[u8], policy: u8) -> Answer
+    ensures { λ r. ⌜ r ≡ handed (step card (Finished (now (aid .entry)) policy)) ⌝ }
+{
+    calls::finished(card, aid, policy)
+}
+
+pub fn tick(card: Card) -> Answer
+    ensures { λ r. ⌜ r ≡ handed (step card Tick) ⌝ }
+{
+    calls::tick(card)
+}
+
+pub fn lost(card: Card) -> Answer
+    ensures { λ r. ⌜ r ≡ handed (step card Lost) ⌝ }
+{
+    calls::lost(card)
+}

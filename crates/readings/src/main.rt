@@ -1,7 +1,7 @@
 // Reads lines of one hex word, each a command (`-` is the empty one), and writes how it is read with a capacity of 1000: the request, or
 // the word of its refusal. Empty lines and lines that begin with `#` are passed over.
 use command::Reading;
-use command::request::Request;
+use command::Request;
 use libc::STDIN_FILENO;
 use libc::STDOUT_FILENO;
 use text::HexRead;
@@ -13,24 +13,21 @@ use text::put_hex_16;
 use text::read_hex;
 use text::until;
 use tlv::Part;
+ghost use Rattle.command.specs.Places.{Placed, RequestIn};
 
 const CAPACITY: u32 = 1000;
 
-// The bytes of a part that lies in the command, which each part of an accepted request does.
-fn put_part(out: &mut [u8], at: usize, bytes: &[u8], part: Part) -> usize {
+fn put_part(out: &mut [u8], at: usize, bytes: &[u8], part: Part) -> usize
+    requires { ⌜ Placed (now bytes) part ⌝ }
+{
     let start = part.start;
-    let len = part.len;
-    if bytes.len() < start {
-        return at;
-    }
-    let rest = &bytes[start..];
-    if rest.len() < len {
-        return at;
-    }
-    put_hex(out, at, &rest[..len])
+    let stop = start + part.len;
+    put_hex(out, at, &bytes[start..stop])
 }
 
-fn put_named(out: &mut [u8], name: &[u8], bytes: &[u8], aid: Part) -> usize {
+fn put_named(out: &mut [u8], name: &[u8], bytes: &[u8], aid: Part) -> usize
+    requires { ⌜ Placed (now bytes) aid ⌝ }
+{
     let at = put_bytes(out, 0, name);
     put_part(out, at, bytes, aid)
 }
@@ -48,7 +45,9 @@ fn put_tags(out: &mut [u8], at: usize, life: bool, fall_back: bool) -> usize {
     put_bytes(out, at, b" 4F")
 }
 
-fn put_request(out: &mut [u8], bytes: &[u8], request: Request) -> usize {
+fn put_request(out: &mut [u8], bytes: &[u8], request: Request) -> usize
+    requires { ⌜ RequestIn (now bytes) 1000 request ⌝ }
+{
     match request {
         Request::Create { aid, quota } => {
             let at = put_named(out, b"create ", bytes, aid);

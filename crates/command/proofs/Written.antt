@@ -1,0 +1,149 @@
+-- Whatever command is accepted is the encoding of what was read. It passed all six rows: so its class and parameters are right and it is
+-- framed, and its data field is the encoding that the field's own theorem gives; with no data field it is GET DATA's five bytes.
+use Prim.Native.Nat.{ℕ}
+use mathlib.Core.Path.{_≡_, refl, sym, ap, subst, _∙_}
+use mathlib.Core.List.{List, [], _∷_}
+use mathlib.Core.Option.{none, some}
+use mathlib.Core.Bool.{Bool, true, false, _&&_, _||_}
+use native.Mathlib.Omega.{arith}
+use lib.ListN.{length}
+use lib.Dec.{eqb}
+use borrow.Author.Tests.{eqb-true, ne-eqb, eq-eqb, not-false}
+use Rattle.tlv.specs.Tlv.{byte}
+use Rattle.tlv.specs.Encoding.{window, Bytes}
+use Rattle.tlv.proofs.Branches.{each-eq}
+use Rattle.fields.specs.StoreData.{storeDataAt}
+use Rattle.fields.specs.Delete.{deletionAt}
+use Rattle.fields.specs.GetStatus.{listingAt}
+use Rattle.fields.proofs.StoreDataGrammar.{store-data-written}
+use Rattle.fields.proofs.DeletionGrammar.{deletion-written}
+use Rattle.fields.proofs.ListingGrammar.{listing-written}
+use Rattle.install.specs.Install.{installOf}
+use Rattle.install.proofs.Written.{install-written}
+use Rattle.command.specs.declared.request.Request.{Request}
+use Rattle.command.specs.declared.request.Request.the-variants as request
+use Rattle.command.specs.declared.request.Field.{Field}
+use Rattle.command.specs.declared.request.Field.the-variants as field
+use Rattle.command.specs.declared.Reading.{Reading}
+use Rattle.command.specs.declared.Reading.the-variants as reading
+use Rattle.command.specs.Framing.{classRight, classWrong, instructionWrong, parametersRight, parametersWrong, shapeRight, shapeWrong, isBare, dataEnd}
+use Rattle.command.specs.Frame.{framed, dataField, hasLe}
+use Rattle.command.specs.Requests.{fieldOf}
+use Rattle.command.specs.Reading.{readOf}
+use Rattle.command.specs.Grammar.{Wanted, getData, wantedOf, readAs, Framed, Bare, Encodes, CommandWritten}
+use Rattle.command.proofs.Frames.{and-l, and-r, five, framed-whole, field-length}
+use Rattle.command.proofs.Answers.{Passes, read-passes, read-done}
+use Rattle.command.proofs.Fields.{fieldAs, as-create, as-store-data, as-deletion, as-listing}
+
+read-as : (s : List ℕ) (r : Reading) (v : Wanted) → readAs s r ≡ some v → (q : Request) × ((reading.Read q ≡ r) × (some (wantedOf s q) ≡ some v))
+read-as s (reading.Read q) v e = (q, (refl, e))
+read-as s (reading.Refused w) v e = let z : _≡_ {A = ℕ} 0 1 = cc in absurd (omega arith)
+
+-- the window of the data field is what framing takes for it
+window-field : (s : List ℕ) → window s 5 (dataEnd s) ≡ dataField s
+unfolding window
+window-field [] = refl
+window-field (a ∷ []) = refl
+window-field (a ∷ b ∷ []) = refl
+window-field (a ∷ b ∷ c ∷ []) = refl
+window-field (a ∷ b ∷ c ∷ d ∷ []) = refl
+window-field (a ∷ b ∷ c ∷ d ∷ n ∷ rest) = rw (five n) refl
+
+module _ (s : List ℕ) (capacity : ℕ) (p : Passes s capacity) where
+  class-right : classRight (byte s 0) ≡ true
+  unfolding classWrong
+  class-right = not-false _ (p .classRight)
+
+  parameters-right : parametersRight (byte s 1) (byte s 2) (byte s 3) ≡ true
+  unfolding parametersWrong
+  parameters-right = not-false _ (p .parametersRight)
+
+  shape-right : shapeRight s ≡ true
+  unfolding shapeWrong
+  shape-right = not-false _ (p .shapeRight)
+
+  framed-written : (instruction : ℕ) (Encoded : List ℕ → Type 0) → Bytes s → byte s 1 ≡ instruction → (instruction ≡ 0xCA → ⊥)
+      → Encoded (window s 5 (dataEnd s)) → Framed instruction Encoded s
+  framed-written instruction Encoded b i n e =
+      let other : byte s 1 ≡ 0xCA → ⊥ = λ h. n (sym i ∙ h) in
+      let l = field-length s other shape-right in let m = b 4 in
+      let f : Framed (byte s 1) Encoded s = record {
+        class = byte s 0;
+        p1 = byte s 2;
+        p2 = byte s 3;
+        field = dataField s;
+        withLe = hasLe s;
+        rightClass = class-right;
+        rightParameters = parameters-right;
+        least = omega arith;
+        most = omega arith;
+        encoded = subst Encoded (window-field s) e;
+        written = framed-whole s other shape-right;
+      } in
+      subst (λ (k : ℕ). Framed k Encoded s) i f
+
+  -- an instruction that is none of the other four is GET DATA's
+  instruction-last : (byte s 1 ≡ 0xE6 → ⊥) → (byte s 1 ≡ 0xE4 → ⊥) → (byte s 1 ≡ 0xE2 → ⊥) → (byte s 1 ≡ 0xF2 → ⊥) → byte s 1 ≡ 0xCA
+  unfolding instructionWrong
+  instruction-last x y z w =
+      let known : (eqb (byte s 1) 0xE6 || (eqb (byte s 1) 0xE4 || (eqb (byte s 1) 0xE2 || (eqb (byte s 1) 0xF2 || eqb (byte s 1) 0xCA)))) ≡ true =
+      not-false _ (p .instructionRight) in
+      eqb-true _ _ (rw (ne-eqb (byte s 1) 0xE6 x, ne-eqb (byte s 1) 0xE4 y, ne-eqb (byte s 1) 0xE2 z, ne-eqb (byte s 1) 0xF2 w) at known)
+
+or-none : (a : Bool) → (a || false) ≡ true → a ≡ true
+or-none true h = refl
+or-none false h = h
+
+bare-of : (s : List ℕ) → byte s 1 ≡ 0xCA → shapeRight s ≡ true → isBare s ≡ true
+unfolding shapeRight
+bare-of s i h = or-none (isBare s) (rw (eq-eqb (byte s 1) 0xCA i) at h)
+
+parameters-of : (i p1 p2 : ℕ) → i ≡ 0xCA → parametersRight i p1 p2 ≡ true → (eqb p1 0xFF && eqb p2 0x21) ≡ true
+unfolding parametersRight
+parameters-of i p1 p2 e h = rw e at h
+
+five-bytes : (s : List ℕ) → length s ≡ 5 → s ≡ byte s 0 ∷ byte s 1 ∷ byte s 2 ∷ byte s 3 ∷ byte s 4 ∷ []
+five-bytes [] h = absurd (omega arith)
+five-bytes (a ∷ []) h = absurd (omega arith)
+five-bytes (a ∷ b ∷ []) h = absurd (omega arith)
+five-bytes (a ∷ b ∷ c ∷ []) h = absurd (omega arith)
+five-bytes (a ∷ b ∷ c ∷ d ∷ []) h = absurd (omega arith)
+five-bytes (a ∷ b ∷ c ∷ d ∷ e ∷ []) h = refl
+five-bytes (a ∷ b ∷ c ∷ d ∷ e ∷ f ∷ s) h = absurd (omega arith)
+
+bare-written : (s : List ℕ) (capacity : ℕ) → Passes s capacity → byte s 1 ≡ 0xCA → Bare s
+bare-written s capacity p i =
+    let bare = bare-of s i (shape-right s capacity p) in
+    let l = eqb-true (length s) 5 (and-l (eqb (length s) 5) _ bare) in
+    let z = eqb-true (byte s 4) 0 (and-r (eqb (length s) 5) _ bare) in
+    let m = parameters-of (byte s 1) (byte s 2) (byte s 3) i (parameters-right s capacity p) in
+    let x = eqb-true (byte s 2) 0xFF (and-l (eqb (byte s 2) 0xFF) _ m) in
+    let y = eqb-true (byte s 3) 0x21 (and-r (eqb (byte s 2) 0xFF) _ m) in
+    let e = five-bytes s l in
+    record { class = byte s 0; rightClass = class-right s capacity p; written = cc }
+
+pub command-written : CommandWritten
+unfolding fieldOf
+command-written s capacity v b q =
+    let r = read-as s (readOf s capacity) v q in
+    let p = read-passes s capacity (r .0) (r .1 .0) in
+    let f : fieldAs s (fieldOf s capacity) ≡ some v = ap (fieldAs s) (sym (read-done s capacity (r .0) (r .1 .0) .1)) ∙ r .1 .1 in
+    let P : Field → Type 0 = λ z. fieldAs s z ≡ some v → Encodes capacity v s in
+    each-eq P
+    (λ i h. let u = as-create s (installOf s 5 (dataEnd s) capacity) v h in
+    subst (λ (w : Wanted). Encodes capacity w s) (u .1 .1)
+    (framed-written s capacity p 0xE6 _ b i (omega arith) (install-written s 5 (dataEnd s) capacity (u .0) b (u .1 .0) .1 .1)))
+    (λ x. each-eq P
+    (λ i h. let u = as-deletion s (deletionAt s 5 (dataEnd s)) v h in
+    subst (λ (w : Wanted). Encodes capacity w s) (u .1 .1)
+    (framed-written s capacity p 0xE4 _ b i (omega arith) (deletion-written s 5 (dataEnd s) (u .0) b (u .1 .0) .1 .1)))
+    (λ y. each-eq P
+    (λ i h. let u = as-store-data s (storeDataAt s 5 (dataEnd s)) v h in
+    subst (λ (w : Wanted). Encodes capacity w s) (u .1 .1)
+    (framed-written s capacity p 0xE2 _ b i (omega arith) (store-data-written s 5 (dataEnd s) (u .0) b (u .1 .0) .1 .1)))
+    (λ z. each-eq P
+    (λ i h. let u = as-listing s (listingAt s 5 (dataEnd s)) v h in
+    subst (λ (w : Wanted). Encodes capacity w s) (u .1 .1)
+    (framed-written s capacity p 0xF2 _ b i (omega arith) (listing-written s 5 (dataEnd s) (u .0) b (u .1 .0) .1 .1)))
+    (λ w h. let g : getData ≡ v = cc in
+    subst (λ (w : Wanted). Encodes capacity w s) g (bare-written s capacity p (instruction-last s capacity p x y z w)))))) f
