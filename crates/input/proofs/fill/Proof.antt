@@ -1,3 +1,5 @@
+-- `fill` meets its contract. `keep` put what was held to the front; the read went behind it, and the window has grown by as many
+-- bytes as were read.
 use mir.Syntax.{w64}
 use mir.Val.{toZ, ofZ}
 use native.Mathlib.Omega.{arith}

@@ -1,3 +1,4 @@
+-- `hex::read_hex` meets its contract: each exit is one of the three answers, with what it leaves.
 use native.Mathlib.Omega.{arith}
 use lib.ListN.{length}
 use mathlib.Core.Path.{sym, _∙_}

@@ -1,3 +1,4 @@
+-- `writing::put_hex_8` meets its contract: two digits written one after the other are one text.
 use Rattle.text.specs.Hex.{hexText}
 use Rattle.text.proofs.PutLaws.{wrote-then}
 use borrow.Author.Needs.{needs}
