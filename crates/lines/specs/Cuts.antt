@@ -72,11 +72,12 @@ pub data Session : Window → List ℕ → List ℕ → List Line → Type 0 whe
 abbrev pub AnySession : Type 0
 AnySession = (buf input : List ℕ) (lines : List Line) → Session freshWindow buf input lines → lines ≡ linesOf input
 
--- a step waits only where no line end has arrived and more may come, and ends only where nothing is left and nothing comes
+-- a step waits only where no line end has arrived, more may come and there is room for it; it ends only where nothing is left and
+-- nothing comes
 abbrev pub Settled : Bool → Found → List ℕ → Type 0
 Settled last (found.Line from to) held = Unit {0}
 Settled last found.TooLong held = Unit {0}
-Settled last found.More held = (last ≡ false) × (before 10 held ≡ length held)
+Settled last found.More held = (last ≡ false) × ((before 10 held ≡ length held) × (length held ≤ 4096))
 Settled last found.End held = (last ≡ true) × (held ≡ [])
 
 abbrev pub AnswersAtOnce : Type 0
