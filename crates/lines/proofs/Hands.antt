@@ -78,7 +78,7 @@ idle-right s at skipping last p =
           ∙ ap (λ (x : List ℕ). toCome skipping (x ++ f)) (sym (drop-length s))
           ∙ ap (λ (x : List Line). x ++ toCome skipping (drop (length s) s ++ f)) (by-test (λ (x : Found). [] ≡ handed s x) last (λ e. refl) (λ e. refl));
       inside = by-test (Inside (length s)) last (λ e. tt) (λ e. tt);
-      settled = by-test (λ (x : Found). Settled last x (drop (length s) s)) last (λ e. (e, drop-length s)) (λ e. (e, none-before s));
+      settled = by-test (λ (x : Found). Settled last x (drop (length s) s)) last (λ e. (e, drop-length s)) (λ e. (e, (none-before s, omega arith)));
       ends = refl;
       falls = omega arith;
       falls-last = λ e. omega arith;
@@ -136,7 +136,7 @@ module _ (s : List ℕ) (from : ℕ) (last : Bool) where
         record {
           hands = λ f g. refl;
           inside = tt;
-          settled = (e, none);
+          settled = (e, (none, omega arith));
           ends = refl;
           falls = omega arith;
           falls-last = λ x. let z : _≡_ {A = ℕ} 0 1 = cc in absurd (omega arith);

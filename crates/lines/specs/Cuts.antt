@@ -7,7 +7,7 @@ use mathlib.Core.Bool.{Bool, true, false}
 use lib.ListN.{length}
 use Rattle.text.specs.Words.{part, before}
 use Rattle.text.specs.Put.{put}
-use Rattle.lines.specs.Lines.{Line, linesOf}
+use Rattle.lines.specs.Lines.{Line, longest, lineEnd, linesOf}
 use Rattle.lines.specs.Lines as line
 use Rattle.lines.specs.Window.{nextOf, freshWindow, heldOf, keptOf, grownOf}
 use Rattle.lines.specs.declared.Window.{Window}
@@ -54,10 +54,10 @@ pub data AtMost (n : ℕ) : List (List ℕ) → Type 0 where
   one : {bytes : List ℕ} {reads : List (List ℕ)} → length bytes ≤ n → AtMost n reads → AtMost n (bytes ∷ reads)
 
 -- however an input is cut into reads, the lines that come out are those that its bytes say. The buffer has room for a read beside
--- the 4,096 bytes that may be kept
+-- the bytes of a line that may be kept
 abbrev pub AnyCut : Type 0
 AnyCut =
-    (n : ℕ) (buf : List ℕ) (reads : List (List ℕ)) → AtMost n reads → n + 4096 ≤ length buf → linesBy freshWindow buf reads ≡ linesOf (flatten reads)
+    (n : ℕ) (buf : List ℕ) (reads : List (List ℕ)) → AtMost n reads → n + longest ≤ length buf → linesBy freshWindow buf reads ≡ linesOf (flatten reads)
 
 -- a session with a window, over the input that comes: each step hands out what it found, at the last only where nothing comes any
 -- more; each read leaves what was held with some bytes of the input behind it, and anything in the rest of the buffer
@@ -72,11 +72,12 @@ pub data Session : Window → List ℕ → List ℕ → List Line → Type 0 whe
 abbrev pub AnySession : Type 0
 AnySession = (buf input : List ℕ) (lines : List Line) → Session freshWindow buf input lines → lines ≡ linesOf input
 
--- a step waits only where no line end has arrived and more may come, and ends only where nothing is left and nothing comes
+-- a step waits only where no line end has arrived, more may come and there is room for it; it ends only where nothing is left and
+-- nothing comes
 abbrev pub Settled : Bool → Found → List ℕ → Type 0
 Settled last (found.Line from to) held = Unit {0}
 Settled last found.TooLong held = Unit {0}
-Settled last found.More held = (last ≡ false) × (before 10 held ≡ length held)
+Settled last found.More held = (last ≡ false) × ((before lineEnd held ≡ length held) × (length held ≤ longest))
 Settled last found.End held = (last ≡ true) × (held ≡ [])
 
 abbrev pub AnswersAtOnce : Type 0

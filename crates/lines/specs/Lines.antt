@@ -5,12 +5,19 @@ use mathlib.Core.List.{List, [], _∷_, _++_}
 use lib.ListN.{length}
 use Rattle.text.specs.When.{when, lt?, eq?}
 
+-- the most bytes of a line, without its end
+abbrev pub longest : ℕ
+longest = 4096
+
+abbrev pub lineEnd : ℕ
+lineEnd = 10
+
 pub data Line : Type 0 where
   Whole : List ℕ → Line
   TooLong : Line
 
 unfoldable pub lineOf : List ℕ → Line
-lineOf line = when (lt? 4096 (length line)) TooLong (Whole line)
+lineOf line = when (lt? longest (length line)) TooLong (Whole line)
 
 -- what stands after the last LF; no bytes are no line
 unfoldable pub lastOf : List ℕ → List Line
@@ -20,7 +27,7 @@ lastOf (c ∷ cs) = lineOf (c ∷ cs) ∷ []
 -- the lines of a text, where `line` was read of the one that it begins in
 unfoldable pub linesOn : List ℕ → List ℕ → List Line
 linesOn line [] = lastOf line
-linesOn line (c ∷ cs) = when (eq? c 10) (lineOf line ∷ linesOn [] cs) (linesOn (line ++ (c ∷ [])) cs)
+linesOn line (c ∷ cs) = when (eq? c lineEnd) (lineOf line ∷ linesOn [] cs) (linesOn (line ++ (c ∷ [])) cs)
 
 unfoldable pub linesOf : List ℕ → List Line
 linesOf text = linesOn [] text

@@ -7,6 +7,7 @@ use lib.ListN.{length, take, drop}
 use Rattle.text.specs.When.{when, le?, lt?}
 use Rattle.text.specs.Words.{before}
 use Rattle.text.specs.Put.{after}
+use Rattle.lines.specs.Lines.{longest, lineEnd}
 use Rattle.lines.specs.declared.Window.{Window}
 use Rattle.lines.specs.declared.Found.{Found}
 use Rattle.lines.specs.declared.Found.the-variants.{Line, TooLong, More, End}
@@ -22,7 +23,7 @@ abbrev pub gives : Window → Found → Step
 gives window found = record { window = window; found = found }
 
 unfoldable pub found : ℕ → ℕ → Found
-found from to = when (lt? 4096 (to - from)) TooLong (Line from to)
+found from to = when (lt? longest (to - from)) TooLong (Line from to)
 
 -- all was handed out
 unfoldable pub idle : ℕ → Bool → Bool → Step
@@ -33,12 +34,12 @@ unfoldable pub tailFrom : List ℕ → ℕ → Bool → Step
 tailFrom s from last =
     when (le? (length s) from) (idle (length s) false last)
     (when last (gives (windowOf (length s) (length s) false) (found from (length s)))
-    (when (lt? 4096 (length s - from)) (gives (windowOf (length s) (length s) true) TooLong)
+    (when (lt? longest (length s - from)) (gives (windowOf (length s) (length s) true) TooLong)
     (gives (windowOf from (length s) false) More)))
 
 -- the place of the first LF from a place on, or the end
 unfoldable pub stopFrom : List ℕ → ℕ → ℕ
-stopFrom s from = from + before 10 (drop from s)
+stopFrom s from = from + before lineEnd (drop from s)
 
 unfoldable pub lineFrom : List ℕ → ℕ → Bool → Step
 lineFrom s from last =

@@ -8,7 +8,8 @@ ghost use Rattle.text.specs.Put.{put};
 ghost use Rattle.lines.specs.Window.{freshWindow, found, idle, tailFrom, lineFrom, stepOf, nextOf, heldOf, keptOf, grownOf};
 ghost use Rattle.text.specs.Words.{part};
 
-pub const LINE: usize = 4096;
+// The most bytes of a line, without its end.
+pub const LONGEST: usize = 4096;
 
 // Where a reader stands: the bytes from `at` up to `end` are not handed out yet. Those up to the next line end belong to a line
 // that was told as too long where `skipping` is set.
@@ -53,7 +54,7 @@ fn found_at(from: usize, to: usize) -> Found
     requires { ⌜ from ≤ to ⌝ }
     ensures { λ r. ⌜ r ≡ found from to ⌝ }
 {
-    if LINE < to - from {
+    if LONGEST < to - from {
         return Found::TooLong;
     }
     Found::Line { from, to }
@@ -98,7 +99,7 @@ fn unended(s: &[u8], from: usize, last: bool) -> Step
             found: found_at(from, end),
         };
     }
-    if LINE < end - from {
+    if LONGEST < end - from {
         return Step {
             window: Window {
                 at: end,

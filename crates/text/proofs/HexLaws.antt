@@ -10,9 +10,10 @@ use Rattle.text.specs.When.{when, lt?}
 use Rattle.text.specs.Words.{sameOf}
 use Rattle.text.specs.Hex.{nibbleOf, pairsOf, isHex, byteOf, spelled, hexByteOf, hexReadOf, hexLeft, hexText, hexWord}
 use Rattle.text.specs.declared.hex.Byte.the-variants as byte
+use Rattle.text.specs.declared.hex.HexRead.{HexRead}
 use Rattle.text.specs.declared.hex.HexRead.the-variants.{Bytes, NoRoom, Wrong}
 use Rattle.text.specs.Put.{put}
-use Rattle.text.proofs.Branches.{yes!, no!, lt!, nlt! }
+use Rattle.text.proofs.Branches.{by-test, by-lt, yes!, no!, lt!, nlt! }
 use Rattle.text.proofs.PutLaws.{put-none, put-cons}
 use Rattle.text.proofs.Rest.{rest, rest-one, rest-two, rest-end}
 
@@ -117,3 +118,15 @@ pub word-some : (s : List ℕ) → (length s ≡ 0 → ⊥) → hexText s ≡ he
 unfolding hexWord
 word-some [] h = absurd (h refl)
 word-some (b ∷ bs) h = refl
+
+-- what was read fits
+pub hex-within : (s : List ℕ) (room n : ℕ) → Bytes n ≡ hexReadOf s room → n ≤ room
+unfolding hexReadOf
+hex-within s room n h =
+    by-test (λ (x : HexRead). Bytes n ≡ x → n ≤ room) (isHex s)
+    (λ e.
+    by-lt (λ (x : HexRead). Bytes n ≡ x → n ≤ room) room (length (spelled s))
+    (λ k q. let z : _≡_ {A = ℕ} 0 1 = cc in absurd (omega arith))
+    (λ k q. let z : n ≡ length (spelled s) = cc in omega arith))
+    (λ e q. let z : _≡_ {A = ℕ} 0 1 = cc in absurd (omega arith))
+    h

@@ -8,7 +8,7 @@ use lib.ListN.{length, getD}
 use Rattle.text.specs.Numbers.{digitsOn, decimalOf, digitsText}
 use Rattle.text.specs.declared.numbers.Number.{Number}
 use Rattle.text.specs.declared.numbers.Number.the-variants.{Value, Wrong}
-use Rattle.text.proofs.Branches.{lt!, nlt! }
+use Rattle.text.proofs.Branches.{by-lt, lt!, nlt! }
 use Rattle.text.proofs.Rest.{rest, rest-one, rest-end}
 
 pub decimal-none : (most : ℕ) (s : List ℕ) → length s ≡ 0 → Wrong ≡ decimalOf most s
@@ -59,3 +59,24 @@ pub text-more : (k n : ℕ) → 10 ≤ n → (k ≡ 0 → ⊥) → digitsText (k
 unfolding digitsText
 text-more zero n h f = absurd (f refl)
 text-more (suc k) n h f = let e : suc k - 1 ≡ k = omega arith in rw e (nlt! _ h refl)
+
+-- what was read is at most what is allowed
+digits-within : (most v n : ℕ) (s : List ℕ) → v ≤ most → Value n ≡ digitsOn most v s → n ≤ most
+unfolding digitsOn
+digits-within most v n [] h q = let z : n ≡ v = cc in omega arith
+digits-within most v n (c ∷ cs) h q =
+    by-lt (λ (x : Number). Value n ≡ x → n ≤ most) c 48
+    (λ k p. let z : _≡_ {A = ℕ} 0 1 = cc in absurd (omega arith))
+    (λ k.
+    by-lt (λ (x : Number). Value n ≡ x → n ≤ most) 57 c
+    (λ l p. let z : _≡_ {A = ℕ} 0 1 = cc in absurd (omega arith))
+    (λ l.
+    by-lt (λ (x : Number). Value n ≡ x → n ≤ most) most (v * 10 + (c - 48))
+    (λ m p. let z : _≡_ {A = ℕ} 0 1 = cc in absurd (omega arith))
+    (λ m p. digits-within most (v * 10 + (c - 48)) n cs m p)))
+    q
+
+pub decimal-within : (most n : ℕ) (s : List ℕ) → Value n ≡ decimalOf most s → n ≤ most
+unfolding decimalOf
+decimal-within most n [] q = let z : _≡_ {A = ℕ} 0 1 = cc in absurd (omega arith)
+decimal-within most n (c ∷ cs) q = digits-within most 0 n (c ∷ cs) (omega arith) q

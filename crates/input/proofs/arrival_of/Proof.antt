@@ -1,3 +1,4 @@
+-- `arrival_of` meets its contract: the machine's test against 0 is the integer's sign.
 use Rattle.input.proofs.ArrivalLaws.{told-failed, told-end, told-bytes}
 use Rattle.input.proofs.arrival_of.Statement.{statement}
 use Rattle.input.proofs.arrival_of.Tie as tie

@@ -1,3 +1,5 @@
+-- `fill` meets its contract. `keep` put what was held to the front; the read went behind it, and the window has grown by as many
+-- bytes as were read.
 use mir.Syntax.{w64}
 use mir.Val.{toZ, ofZ}
 use native.Mathlib.Omega.{arith}
@@ -60,14 +62,17 @@ returns-2 c =
     let a = c .before .before .before .before .before .before .before .before .before .before .before .before .before .before .before .before .before .args in
     let k = c .before .before .before .before .before .before .before .before .before .before .before .before .before .before .keep in
     let n = c .before .before .before .count in
-    let ys = c .before .before .before .before .before .before .before .before .read .last .1 .0 in
+    let got = c .before .before .before .before .before .before .before .before .read in
+    let ys = got .last .1 .0 in
     let l = length-take-le (n .result) ys (n .ensures .0 .0) in
     let h : 0 < length ys = omega arith in
     record {
       bytes = take (n .result) ys;
       held = more-held (a .window) (a .buf .now) (k .result) (k .last .1 .0) (k .ensures .0) (k .ensures .1) ys _ (n .result) (c .grown .ensures) (n .ensures .0 .0);
       skipping = ap (λ (x : Window). x .skipping) (c .grown .ensures) ∙ kept-skipping (a .window) (a .buf .now) (k .result) (k .last .1 .0) (k .ensures .0) (k .ensures .1);
-      brings = rw (c .before .before .before .before .before .arrival-of .ensures) (brings-of (toZ w64 (ofZ w64 (c .before .before .before .before .before .before .before .before .read .result))) (length ys) (take (n .result) ys) (l ∙ n .ensures .1) h);
+      brings =
+          rw (c .before .before .before .before .before .arrival-of .ensures)
+          (brings-of (toZ w64 (ofZ w64 (got .result))) (length ys) (take (n .result) ys) (l ∙ n .ensures .1) h);
       size = search needs;
     }
 

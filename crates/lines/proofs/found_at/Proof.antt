@@ -1,3 +1,4 @@
+-- `found_at` meets its contract. Each exit names the test that leads to it.
 use native.Mathlib.Omega.{arith}
 use mathlib.Core.Path.{refl}
 use Rattle.lines.specs.Window.{found}

@@ -1,3 +1,4 @@
+-- `grown` meets its contract: without room the window stays as it is.
 use native.Mathlib.Omega.{arith}
 use Rattle.text.specs.Put.{after}
 use Rattle.lines.proofs.WindowLaws.{window-end}

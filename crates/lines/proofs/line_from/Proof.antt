@@ -1,3 +1,4 @@
+-- `line_from` meets its contract, by what `until`, `found_at` and `unended` ensure.
 use native.Mathlib.Omega.{arith}
 use mathlib.Core.Path.{ap}
 use Rattle.lines.specs.Window.{lineFrom, stopFrom, gives}

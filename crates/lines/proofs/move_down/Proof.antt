@@ -1,3 +1,4 @@
+-- `move_down` meets its contract. The loop keeps: the bytes moved so far stand in front, and the rest is as it was.
 use borrow.Author.Needs.{needs}
 use native.Mathlib.Omega.{arith}
 use mathlib.Core.Path.{_≡_, refl, sym}

@@ -1,3 +1,4 @@
+-- `next` meets its contract: the first bytes up to a clamped end are those up to the end.
 use Prim.Native.Nat.{ℕ}
 use mathlib.Core.List.{List}
 use Rattle.lines.specs.Window.{stepOf}

@@ -1,3 +1,4 @@
+-- `none_left` meets its contract. Each exit names the test that leads to it.
 use mathlib.Core.Path.{refl}
 use Rattle.text.specs.When.{when}
 use Rattle.lines.specs.Window.{idle}

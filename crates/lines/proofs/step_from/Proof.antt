@@ -1,3 +1,4 @@
+-- `step_from` meets its contract, by what `until`, `none_left` and `line_from` ensure.
 use native.Mathlib.Omega.{arith}
 use Rattle.lines.specs.Window.{stepOf, stopFrom}
 use Rattle.text.proofs.Branches.{yes!, no!, le!, nle! }

@@ -1,3 +1,4 @@
+-- `unended` meets its contract. Each exit names the tests that lead to it.
 use native.Mathlib.Omega.{arith}
 use mathlib.Core.Path.{refl, ap}
 use Rattle.lines.specs.Window.{tailFrom, gives}

@@ -1,3 +1,4 @@
+-- `hex::byte_of` meets its contract: both digits are below 16, so the byte fits.
 use mathlib.Core.Path.{refl}
 use Rattle.text.specs.Hex.{byteOf}
 use borrow.Author.Needs.{needs}

@@ -1,3 +1,4 @@
+-- `hex::hex_byte` meets its contract. A text of two bytes is its two elements; then each exit names its tests.
 use native.Mathlib.Omega.{arith}
 use mathlib.Core.Path.{refl, ap}
 use Rattle.text.specs.declared.hex.Byte.the-variants.{Value}

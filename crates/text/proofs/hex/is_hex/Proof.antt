@@ -1,3 +1,4 @@
+-- `hex::is_hex` meets its contract, by what `same` and `pairs` ensure.
 use mathlib.Core.Path.{refl, sym, _∙_}
 use Rattle.text.proofs.Branches.{yes!, no! }
 use Rattle.text.proofs.HexLaws.{hex-none, hex-some}

@@ -1,3 +1,4 @@
+-- `hex::nibble` meets its contract. Each exit names the tests that lead to it.
 use native.Mathlib.Omega.{arith}
 use Rattle.text.proofs.Branches.{le!, nle!, lt!, nlt! }
 use mathlib.Core.Path.{refl}

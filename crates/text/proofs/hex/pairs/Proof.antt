@@ -1,3 +1,4 @@
+-- `hex::pairs` meets its contract. The loop keeps: what is left is pairs exactly where the whole is.
 use native.Mathlib.Omega.{arith}
 use borrow.Author.Needs.{needs}
 use mathlib.Core.Path.{_≡_, ap}

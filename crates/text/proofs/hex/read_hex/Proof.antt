@@ -1,3 +1,4 @@
+-- `hex::read_hex` meets its contract: each exit is one of the three answers, with what it leaves.
 use native.Mathlib.Omega.{arith}
 use lib.ListN.{length}
 use mathlib.Core.Path.{sym, _∙_}
@@ -11,7 +12,11 @@ is-hex-requires : tie.Need-is-hex-requires
 is-hex-requires c κs = search needs
 
 returns : tie.Need-returns
-returns c = let e = hex-full _ (length (c .before .before .before .before .before .args .out .now)) (sym (c .before .before .is-hex .ensures) ∙ c .before .if1 .taken) (omega arith) in (e .0, put-kept _ _ (e .1))
+returns c =
+    let at = c .before .before in
+    let room = length (at .before .before .before .args .out .now) in
+    let e = hex-full _ room (sym (at .is-hex .ensures) ∙ c .before .if1 .taken) (omega arith) in
+    (e .0, put-kept _ _ (e .1))
 
 spell-requires : tie.Need-spell-requires
 spell-requires c κs = search needs
@@ -20,10 +25,17 @@ same-length : tie.Need-same-length
 same-length c = search needs
 
 returns-2 : tie.Need-returns-2
-returns-2 c = let e = hex-fits _ (length (c .before .before .before .before .before .before .before .before .before .args .out .now)) (sym (c .before .before .before .before .before .before .is-hex .ensures) ∙ c .before .before .before .before .before .if1 .taken) (omega arith) in (e .0, put-as _ _ (e .1) (c .before .before .spell .ensures))
+returns-2 c =
+    let test = c .before .before .before .before .before in
+    let at = test .before in
+    let room = length (at .before .before .before .args .out .now) in
+    let e = hex-fits _ room (sym (at .is-hex .ensures) ∙ test .if1 .taken) (omega arith) in
+    (e .0, put-as _ _ (e .1) (c .before .before .spell .ensures))
 
 returns-3 : tie.Need-returns-3
-returns-3 c = let e = hex-wrong _ _ (sym (c .before .is-hex .ensures) ∙ c .if1 .left) in (e .0, put-kept _ _ (e .1))
+returns-3 c =
+    let e = hex-wrong _ _ (sym (c .before .is-hex .ensures) ∙ c .if1 .left) in
+    (e .0, put-kept _ _ (e .1))
 
 pub read-hex-spec : {M : Type 1} → statement M
 read-hex-spec =

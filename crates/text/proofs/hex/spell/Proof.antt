@@ -1,3 +1,4 @@
+-- `hex::spell` meets its contract. The loop keeps: writing what is left, from here on, leaves what writing all leaves.
 use borrow.Author.Needs.{needs}
 use native.Mathlib.Omega.{arith}
 use mathlib.Core.Path.{_≡_, refl}

@@ -1,3 +1,4 @@
+-- `numbers::decimal` meets its contract. The loop keeps: the digits left, after the value so far, spell what the whole spells.
 use native.Mathlib.Omega.{arith}
 use borrow.Author.Needs.{needs}
 use mathlib.Core.Path.{_≡_, sym, ap, _∙_}

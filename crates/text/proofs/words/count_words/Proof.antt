@@ -1,3 +1,5 @@
+-- `words::count_words` meets its contract. The loop keeps: the words counted and those left are all. Each word has a byte,
+-- so the count stays at or before the place, and at the end of the loop nothing is left.
 use borrow.Author.Needs.{needs}
 use native.Mathlib.Omega.{arith}
 use mathlib.Core.Path.{_≡_, sym, ap, _∙_}

@@ -1,3 +1,4 @@
+-- `words::next_field` meets its contract, by what `until` ensures.
 use native.Mathlib.Omega.{arith}
 use mathlib.Core.Path.{refl, ap}
 use Rattle.text.specs.Words.{fieldAt}

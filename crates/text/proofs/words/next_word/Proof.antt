@@ -1,3 +1,4 @@
+-- `words::next_word` meets its contract, by what `past` and `until` ensure.
 use native.Mathlib.Omega.{arith}
 use mathlib.Core.Path.{refl, ap}
 use Rattle.text.proofs.Branches.{le!, nle! }

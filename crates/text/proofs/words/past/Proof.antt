@@ -1,3 +1,4 @@
+-- `words::past` meets its contract. The loop keeps: the place and the count still ahead of it make the answer.
 use borrow.Author.Needs.{needs}
 use native.Mathlib.Omega.{arith}
 use mathlib.Core.Path.{_≡_}

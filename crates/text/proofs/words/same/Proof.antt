@@ -1,3 +1,4 @@
+-- `words::same` meets its contract. The loop keeps: what is left is the same exactly where the whole is.
 use Rattle.text.specs.Words.{sameOf}
 use Rattle.text.proofs.WordLaws.{same-length, same-hit, same-miss, same-end}
 use mathlib.Core.Path.{_≡_, sym, _∙_}

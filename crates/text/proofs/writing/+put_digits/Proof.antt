@@ -1,3 +1,5 @@
+-- `writing::put_digits` meets its contract. It calls itself with one digit less allowed, which is the measure; the text before the
+-- last digit and the last digit are one text.
 use borrow.Author.Needs.{needs}
 use native.Mathlib.Omega.{arith}
 use Rattle.text.proofs.PutLaws.{wrote-as, wrote-then}

@@ -1,3 +1,4 @@
+-- `writing::glyph` meets its contract. Each exit names the test that leads to it.
 use native.Mathlib.Omega.{arith}
 use mathlib.Core.Path.{refl}
 use Rattle.text.proofs.Branches.{lt!, nlt! }

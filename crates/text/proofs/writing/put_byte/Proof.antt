@@ -1,3 +1,4 @@
+-- `writing::put_byte` meets its contract: a store, or nothing past the end.
 use native.Mathlib.Omega.{arith}
 use Rattle.text.proofs.PutLaws.{wrote-store, wrote-past}
 use borrow.Author.Needs.{needs}

@@ -1,3 +1,4 @@
+-- `writing::put_hex` meets its contract. The loop keeps: writing what is left, from here on, leaves what writing all leaves.
 use borrow.Author.Needs.{needs}
 use native.Mathlib.Omega.{arith}
 use Prim.Native.Nat.{_-_, _≤_}

@@ -1,3 +1,4 @@
+-- `writing::put_hex_16` meets its contract: two bytes written one after the other are one text.
 use Rattle.text.specs.Hex.{hexText}
 use Rattle.text.proofs.PutLaws.{wrote-then}
 use borrow.Author.Needs.{needs}

@@ -1,3 +1,4 @@
+-- `writing::put_hex_8` meets its contract: two digits written one after the other are one text.
 use Rattle.text.specs.Hex.{hexText}
 use Rattle.text.proofs.PutLaws.{wrote-then}
 use borrow.Author.Needs.{needs}
@@ -21,7 +22,12 @@ same-length c = search needs
 
 returns : tie.Need-returns
 unfolding hexText
-returns c = rw (← c .before .before .before .glyph2 .ensures, ← c .before .before .before .before .before .before .before .before .glyph .ensures) (wrote-then (c .before .before .before .before .before .before .before .put-byte .ensures) (c .before .before .put-byte2 .ensures))
+returns c =
+    let low = c .before .before .before in
+    let first = low .before .before .before .before in
+    let high = first .before in
+    rw (← low .glyph2 .ensures, ← high .glyph .ensures)
+    (wrote-then (first .put-byte .ensures) (c .before .before .put-byte2 .ensures))
 
 pub put-hex-8-spec : {M : Type 1} → statement M
 put-hex-8-spec =
