@@ -12,7 +12,7 @@ use responses::write_deleted;
 use responses::write_one_status;
 use responses::write_status;
 use status::Status;
-use text::writing::put_byte;
+use text::put_byte;
 use tlv::Part;
 ghost use mathlib.Core.Path.{_≡_};
 ghost use mathlib.Core.List.{_∷_, []};
