@@ -65,18 +65,18 @@ module _ (c : Card) (i v : ℕ) (s : Sound c) (e : at (c .places) i .life ≡ v)
       placed-ok (c .capacity) (finish p b) refl
       (record { wide = k .wide; there = k .there; five = k .five; sixteen = k .sixteen; some = k .some; most = k .most; fits = k .fits; rule = l; ended = k .ended })
 
-keyed-at : (c : Card) (i : ℕ) → Sound c → at (c .places) i .life ≡ selectable → Sound (withPlaces c (set (c .places) i (withLife (at (c .places) i) personalized)))
+pub keyed-at : (c : Card) (i : ℕ) → Sound c → at (c .places) i .life ≡ selectable → Sound (withPlaces c (set (c .places) i (withLife (at (c .places) i) personalized)))
 keyed-at c i s e =
     let d : isFinished (at (c .places) i .life) ≡ false = rw e in
     rewrites c i (withLife (at (c .places) i) personalized) s (there c i selectable s e refl) d refl (lively c i selectable s e refl personalized refl) refl refl refl
 
-stored-at : (c : Card) (i u : ℕ) → Sound c → at (c .places) i .life ≡ personalized → leb u (at (c .places) i .quota) ≡ true → Sound (withPlaces c (set (c .places) i (withUsed (at (c .places) i) u)))
+pub stored-at : (c : Card) (i u : ℕ) → Sound c → at (c .places) i .life ≡ personalized → leb u (at (c .places) i .quota) ≡ true → Sound (withPlaces c (set (c .places) i (withUsed (at (c .places) i) u)))
 stored-at c i u s e l =
     let d : isFinished (at (c .places) i .life) ≡ false = rw e in
     let w : isEnabled (withUsed (at (c .places) i) u) ≡ false = rw e in
     rewrites c i (withUsed (at (c .places) i) u) s (there c i personalized s e refl) d w (fuller c i personalized s e refl u refl l) refl refl refl
 
-finished-at : (c : Card) (i b : ℕ) → Sound c → at (c .places) i .life ≡ personalized → policyOk b ≡ true → Sound (withPlaces c (set (c .places) i (finish (at (c .places) i) b)))
+pub finished-at : (c : Card) (i b : ℕ) → Sound c → at (c .places) i .life ≡ personalized → policyOk b ≡ true → Sound (withPlaces c (set (c .places) i (finish (at (c .places) i) b)))
 finished-at c i b s e l =
     let d : isFinished (at (c .places) i .life) ≡ false = rw e in
     rewrites c i (finish (at (c .places) i) b) s (there c i personalized s e refl) d refl (finisher c i personalized s e refl b l) refl refl refl

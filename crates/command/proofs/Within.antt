@@ -47,7 +47,7 @@ module _ {ℓ} {X : Type ℓ} (P : X → Type 0) where
   each-shown tags.Wrong p q = p
   each-shown (tags.Shown l m) p q = q l m
 
-abbrev FieldIn : List ℕ → ℕ → Field → Type 0
+abbrev pub FieldIn : List ℕ → ℕ → Field → Type 0
 FieldIn s capacity field.Wrong = Unit
 FieldIn s capacity (field.Found r) = RequestIn s capacity r
 
@@ -92,7 +92,7 @@ module _ (s : List ℕ) (capacity end : ℕ) where
   create-in = create-of (installOf s 5 end capacity) (install-inside s 5 end capacity)
 
 module _ (s : List ℕ) (capacity : ℕ) where
-  field-in : FieldIn s capacity (fieldOf s capacity)
+  pub field-in : FieldIn s capacity (fieldOf s capacity)
   unfolding fieldOf
   field-in =
       each-eq (FieldIn s capacity) (λ _. create-in s capacity (dataEnd s))

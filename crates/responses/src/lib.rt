@@ -181,7 +181,7 @@ pub fn write_data(card: Card, buf: &mut [u8], at: usize) -> usize
 
 // Confirmation: the AID deleted, where there is one.
 pub fn write_deleted(aid: Aid, buf: &mut [u8], at: usize) -> usize
-    ensures { λ r. ⌜ Wrote (now (buf .entry)) at (deletedResponse aid) r (now (buf .exit)) ⌝ }
+    ensures { λ r. ⌜ Wrote (now (buf .entry)) at (deletedResponse aid) r (now (buf .exit)) × (length (deletedResponse aid) ≤ 20) ⌝ }
 {
     if aid.len == 0 {
         return at;

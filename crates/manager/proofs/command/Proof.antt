@@ -1,35 +1,42 @@
+-- `manager::command`: a card that is not sound is stopped by the first row; on a sound one the known call answers the same.
+use mathlib.Core.Path.{ap, sym, _∙_}
+use lib.ListN.{length}
+use borrow.Author.Tests.{not-true, not-false}
+use Rattle.text.proofs.PutLaws.{put-none}
+use Rattle.card.specs.Answers.{handed}
+use Rattle.card.proofs.Outcomes.{checked, stopped}
+use Rattle.manager.specs.Calls.{Call.Command}
+use Rattle.manager.specs.Manager.{work, step}
+use Rattle.manager.proofs.Kept.{call-kept}
 use borrow.Author.Needs.{needs}
 use Rattle.manager.proofs.command.Statement.{statement}
 use Rattle.manager.proofs.command.Tie as tie
-use Rattle.manager.proofs.command.Reads as reads
-use Rattle.manager.proofs.command.Lts as lts
-use Rattle.card.proofs.Card.is_sound.Reads as is-sound-reads
-use Rattle.card.proofs.Card.unsound.Reads as unsound-reads
-use Rattle.manager.proofs.known_command.Reads as known-command-reads
 
--- src/lib.rt:155:9
 is-sound-requires : tie.Need-is-sound-requires
 is-sound-requires c κs = search needs
 
--- src/lib.rt:156:9
 unsound-requires : tie.Need-unsound-requires
 unsound-requires c κs = search needs
 
--- src/lib.rt:156:9
 returns : tie.Need-returns
-returns c = ?
+unfolding step
+returns c = let e = c .before in
+    let s = e .before .before .before .before in
+    let z = stopped (s .args .card) (work (s .args .card) (Command (s .args .verdict) (s .args .bytes .now) (length (s .args .buf .now)))) (sym (e .before .is-sound .ensures) ∙ not-true _ (e .if1 .taken)) in
+    record { answer = c .unsound .ensures ∙ ap handed (sym z); content = rw z (sym (put-none _ 0)) }
 
--- src/lib.rt:158:5
 known-command-requires : tie.Need-known-command-requires
 known-command-requires c κs = search needs
 
--- src/lib.rt:152:1
 same-length : tie.Need-same-length
 same-length c = search needs
 
--- src/lib.rt:152:1
 returns-2 : tie.Need-returns-2
-returns-2 c = ?
+unfolding step
+returns-2 c = let e = c .before .before .before .before in
+    let s = e .before .before .before .before in
+    let g = sym (e .before .is-sound .ensures) ∙ not-false _ (e .if1 .left) in
+    rw (checked (s .args .card) (work (s .args .card) (Command (s .args .verdict) (s .args .bytes .now) (length (s .args .buf .now)))) g (call-kept (s .args .card) (Command (s .args .verdict) (s .args .bytes .now) (length (s .args .buf .now))) g)) (c .before .before .known-command .ensures)
 
 pub command-spec : {M : Type 1} → statement M
 command-spec =

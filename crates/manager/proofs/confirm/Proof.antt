@@ -1,58 +1,58 @@
+-- `manager::confirm`: the rows of the change and of the number, then the step; the AID deleted fits the buffer.
+use mathlib.Core.Path.{sym, _∙_}
+use native.Mathlib.Omega.{arith}
+use borrow.Author.Tests.{not-true, not-false}
+use Rattle.status.specs.Rows.{wordOf}
+use Rattle.manager.proofs.Buffers.{whole}
+use Rattle.text.proofs.PutLaws.{put-none}
 use borrow.Author.Needs.{needs}
 use Rattle.manager.proofs.confirm.Statement.{statement}
 use Rattle.manager.proofs.confirm.Tie as tie
-use Rattle.manager.proofs.confirm.Reads as reads
-use Rattle.manager.proofs.confirm.Lts as lts
-use Rattle.card.proofs.Card.confirmed.Reads as confirmed-reads
-use Rattle.card.proofs.Card.refused.Reads as refused-reads
-use Rattle.card.proofs.Phase.is_outstanding.Reads as is-outstanding-reads
-use Rattle.card.proofs.Phase.is_quiet.Reads as is-quiet-reads
-use Rattle.card.proofs.Step.answer.Reads as answer-reads
-use Rattle.responses.proofs.write_deleted.Reads as write-deleted-reads
 
--- src/lib.rt:68:8
 is-quiet-requires : tie.Need-is-quiet-requires
 is-quiet-requires c κs = search needs
 
--- src/lib.rt:69:9
 refused-requires : tie.Need-refused-requires
 refused-requires c κs = search needs
 
--- src/lib.rt:69:9
 returns : tie.Need-returns
-returns c = ?
+unfolding wordOf
+returns c = let e = sym (c .before .before .is-quiet .ensures) ∙ c .before .if1 .taken in
+    record { answer = rw e (c .refused .ensures); content = rw e (sym (put-none _ 0)) }
 
--- src/lib.rt:71:9
 is-outstanding-requires : tie.Need-is-outstanding-requires
 is-outstanding-requires c κs = search needs
 
--- src/lib.rt:72:9
 refused-requires-2 : tie.Need-refused-requires-2
 refused-requires-2 c κs = search needs
 
--- src/lib.rt:72:9
 returns-2 : tie.Need-returns-2
-returns-2 c = ?
+unfolding wordOf
+returns-2 c = let e = sym (c .before .before .before .before .is-quiet .ensures) ∙ c .before .before .before .if1 .left in
+    let f = sym (c .before .before .is-outstanding .ensures) ∙ not-true _ (c .before .if2 .taken) in
+    record { answer = rw (e, f) (c .refused2 .ensures); content = rw (e, f) (sym (put-none _ 0)) }
 
--- src/lib.rt:74:9
 confirmed-requires : tie.Need-confirmed-requires
 confirmed-requires c κs = search needs
 
--- src/lib.rt:76:9
 write-deleted-requires : tie.Need-write-deleted-requires
 write-deleted-requires c κs = search needs
 
--- src/lib.rt:77:5
 answer-requires : tie.Need-answer-requires
 answer-requires c κs = search needs
 
--- src/lib.rt:63:1
 same-length : tie.Need-same-length
 same-length c = search needs
 
--- src/lib.rt:63:1
 returns-3 : tie.Need-returns-3
-returns-3 c = ?
+unfolding wordOf
+returns-3 c = let t = c .before .before .before .before .before .before in
+    let q = t .before in
+    let e = sym (q .before .before .before .is-quiet .ensures) ∙ q .before .before .if1 .left in
+    let f = sym (q .before .is-outstanding .ensures) ∙ not-false _ (q .if2 .left) in
+    let w = c .before .before .before .write-deleted .ensures in
+    let n = whole (w .0) (let k = w .1 in omega arith) in
+    record { answer = rw (e, f) (rw (c .answer .ensures, n, t .confirmed .ensures)); content = rw (e, f, ← (t .confirmed .ensures)) (w .0 .content) }
 
 pub confirm-spec : {M : Type 1} → statement M
 confirm-spec =

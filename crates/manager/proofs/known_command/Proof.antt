@@ -1,51 +1,53 @@
+-- `manager::known_command`: the row of the buffer, then the rows of reading (proofs/Readings), then what the request asks.
+use mathlib.Core.Path.{sym, _∙_}
+use native.Mathlib.Omega.{arith}
+use lib.ListN.{length}
+use borrow.Author.Tests.{lt-ltb}
+use Rattle.status.specs.Rows.{wordOf}
+use Rattle.text.proofs.PutLaws.{put-none}
+use Rattle.manager.specs.Table.{leastBuffer}
+use Rattle.manager.proofs.Readings.{refused-read, known-read}
 use borrow.Author.Needs.{needs}
 use Rattle.manager.proofs.known_command.Statement.{statement}
 use Rattle.manager.proofs.known_command.Tie as tie
-use Rattle.manager.proofs.known_command.Reads as reads
-use Rattle.manager.proofs.known_command.Lts as lts
-use Rattle.card.proofs.Card.refused.Reads as refused-reads
-use Rattle.command.proofs.read.Reads as read-reads
-use Rattle.manager.proofs.serve.Reads as serve-reads
 
--- src/lib.rt:142:9
 refused-requires : tie.Need-refused-requires
 refused-requires c κs = search needs
 
--- src/lib.rt:142:9
 returns : tie.Need-returns
-returns c = ?
+unfolding wordOf
+returns c = let s = c .before .before .before .before in
+    let e = lt-ltb (length (s .args .buf .now)) leastBuffer (c .before .if1 .taken) in
+    record { answer = rw e (c .refused .ensures); content = rw e (sym (put-none _ 0)) }
 
--- src/lib.rt:144:9
 read-requires : tie.Need-read-requires
 read-requires c κs = search needs
 
--- src/lib.rt:146:26
 enum-known-reading : tie.Need-enum-known-reading
 enum-known-reading c = search needs
 
--- src/lib.rt:146:35
 refused-requires-2 : tie.Need-refused-requires-2
 refused-requires-2 c κs = search needs
 
--- src/lib.rt:147:23
 enum-known-reading-2 : tie.Need-enum-known-reading-2
 enum-known-reading-2 c = search needs
 
--- src/lib.rt:147:35
 serve-requires : tie.Need-serve-requires
 serve-requires c κs = search needs
 
--- src/lib.rt:138:1
 returns-2 : tie.Need-returns-2
-returns-2 c = ?
+returns-2 c = let r = c .before .before .before .before in
+    let s = r .before .before .before .before in
+    let e = refused-read (s .args .card) (s .args .verdict) (s .args .bytes .now) (length (s .args .buf .now)) (omega arith) _ (sym (c .before .before .reading .given .1) ∙ r .read .ensures) in
+    record { answer = rw e (c .refused2 .ensures); content = rw e (sym (put-none _ 0)) }
 
--- src/lib.rt:138:1
 same-length : tie.Need-same-length
 same-length c = search needs
 
--- src/lib.rt:138:1
 returns-3 : tie.Need-returns-3
-returns-3 c = ?
+returns-3 c = let r = c .before .before .before .before .before .before .before in
+    let s = r .before .before .before .before in
+    rw (known-read (s .args .card) (s .args .verdict) (s .args .bytes .now) (length (s .args .buf .now)) (omega arith) _ (sym (c .before .before .before .before .before .reading2 .given .1) ∙ r .read .ensures)) (c .before .before .serve .ensures)
 
 pub known-command-spec : {M : Type 1} → statement M
 known-command-spec =

@@ -1,60 +1,50 @@
+use native.Mathlib.Omega.{arith}
+use Rattle.manager.proofs.Parts.{part-out, part-rest, part-in}
 use borrow.Author.Needs.{needs}
 use Rattle.manager.proofs.part_of.Statement.{statement}
 use Rattle.manager.proofs.part_of.Tie as tie
-use Rattle.manager.proofs.part_of.Reads as reads
-use Rattle.manager.proofs.part_of.Lts as lts
 
--- src/lib.rt:42:16
 sub-result : tie.Need-sub-result
 sub-result c = search needs
 
--- src/lib.rt:42:16
 part-result-start : tie.Need-part-result-start
 part-result-start c = search needs
 
--- src/lib.rt:42:16
 part-result-end : tie.Need-part-result-end
 part-result-end c = search needs
 
--- src/lib.rt:42:9
 returns : tie.Need-returns
-returns c = ?
+returns c = let s = c .before .before in
+    part-out (s .args .bytes .now) (s .args .part .start) (s .args .part .len) (c .before .if1 .taken)
 
--- src/lib.rt:47:16
 sub-result-2 : tie.Need-sub-result-2
 sub-result-2 c = search needs
 
--- src/lib.rt:47:16
 part-result-start-2 : tie.Need-part-result-start-2
 part-result-start-2 c = search needs
 
--- src/lib.rt:47:16
 part-result-end-2 : tie.Need-part-result-end-2
 part-result-end-2 c = search needs
 
--- src/lib.rt:47:9
 returns-2 : tie.Need-returns-2
-returns-2 c = ?
+returns-2 c = let s = c .before .before .before in
+    part-rest (s .args .bytes .now) (s .args .part .start) (s .args .part .len) (omega arith) (c .before .if2 .taken)
 
--- src/lib.rt:49:15
 add-end : tie.Need-add-end
 add-end c = search needs
 
--- src/lib.rt:50:5
 sub-result-3 : tie.Need-sub-result-3
 sub-result-3 c = search needs
 
--- src/lib.rt:50:5
 part-result-start-3 : tie.Need-part-result-start-3
 part-result-start-3 c = search needs
 
--- src/lib.rt:50:5
 part-result-end-3 : tie.Need-part-result-end-3
 part-result-end-3 c = search needs
 
--- src/lib.rt:36:1
 returns-3 : tie.Need-returns-3
-returns-3 c = ?
+returns-3 c = let s = c .before .before .before in
+    part-in (s .args .bytes .now) (s .args .part .start) (s .args .part .len)
 
 pub part-of-spec : {M : Type 1} → statement M
 part-of-spec =

@@ -1,4 +1,6 @@
 -- `responses::write_deleted`: nothing where no AID is handed in, else the head and the AID.
+use native.Mathlib.Omega.{arith}
+use Rattle.responses.proofs.Lengths.{deleted-length}
 use mathlib.Core.Path.{_≡_}
 use lib.ListN.{length}
 use Rattle.text.proofs.PutLaws.{wrote-as, wrote-then, wrote-none}
@@ -8,7 +10,9 @@ use Rattle.responses.proofs.write_deleted.Statement.{statement}
 use Rattle.responses.proofs.write_deleted.Tie as tie
 
 returns : tie.Need-returns
-returns c = wrote-as _ (deleted-none _ (c .if1 .taken)) (wrote-none _ _)
+returns c = let s = c .before .before .before in
+    let n : length (s .args .aid .bytes) ≡ 16 = search needs in
+    (wrote-as _ (deleted-none _ (c .if1 .taken)) (wrote-none _ _), deleted-length (s .args .aid) (omega arith))
 
 held-bytes-requires : tie.Need-held-bytes-requires
 held-bytes-requires c κs = search needs
@@ -34,7 +38,7 @@ same-length c = search needs
 returns-2 : tie.Need-returns-2
 returns-2 c = let s = c .before .before .before .before .before .before .before .before .before .before .before .before .before .before in
     let n : length (s .args .aid .bytes) ≡ 16 = search needs in
-    wrote-as _ (deleted-some (s .args .aid) _ n (c .before .before .before .before .before .before .before .before .before .before .before .if1 .left) (c .before .before .before .before .before .before .before .before .before .before .held-bytes .ensures)) (wrote-then (c .before .before .before .before .before .before .before .put-bytes .ensures) (c .before .before .write-aid .ensures))
+    (wrote-as _ (deleted-some (s .args .aid) _ n (c .before .before .before .before .before .before .before .before .before .before .before .if1 .left) (c .before .before .before .before .before .before .before .before .before .before .held-bytes .ensures)) (wrote-then (c .before .before .before .before .before .before .before .put-bytes .ensures) (c .before .before .write-aid .ensures)), deleted-length (s .args .aid) (omega arith))
 
 pub write-deleted-spec : {M : Type 1} → statement M
 write-deleted-spec =

@@ -1,0 +1,91 @@
+-- Every call keeps a sound card sound, so every run does. An accepted call passed all rows of its table: those before the card's own
+-- rows say that what was read is legal, the card's own rows that the step keeps the card sound. A refusal hands the card back.
+use mathlib.Core.Path.{_≡_, refl, ap}
+use Prim.Native.Nat.{ℕ}
+use native.Mathlib.Omega.{arith}
+use mathlib.Core.List.{List, [], _∷_}
+use mathlib.Core.Bool.{true, false}
+use lib.ListN.{length, drop, length-drop}
+use lib.Seq.{length-take-le}
+use borrow.Author.Tests.{le-leb, not-false}
+use Rattle.status.specs.StatusWords.{isDone}
+use Rattle.status.specs.Rows.{wordOf}
+use Rattle.status.proofs.Tables.{passed, no-row}
+use Rattle.isdp.specs.Sizes.{leastAid, mostAid}
+use Rattle.isdp.specs.Aids.{aidOk}
+use Rattle.isdp.proofs.Bools.{and-r, both}
+use Rattle.card.specs.Sound.{sound}
+use Rattle.card.specs.declared.Card.{Card}
+use Rattle.card.proofs.Outcomes.{decide-card}
+use Rattle.tlv.specs.declared.Part.{Part}
+use Rattle.command.specs.Requests.{fieldOf}
+use Rattle.command.specs.Places.{Placed, RequestIn}
+use Rattle.command.specs.declared.request.Request.{Request}
+use Rattle.command.specs.declared.request.Request.the-variants as request
+use Rattle.command.specs.declared.request.Field.{Field}
+use Rattle.command.specs.declared.request.Field.the-variants as field
+use Rattle.command.proofs.Within.{FieldIn, field-in}
+use Rattle.steps.specs.Conditions.{cardRows}
+use Rattle.steps.specs.Steps.{stepOf, responseOf}
+use Rattle.steps.proofs.Kept.{Legal, step-kept}
+use Rattle.manager.specs.Calls.{Call, Call.Command, Call.Keyed, Call.Stored, Call.Finished, Call.Tick, Call.Lost, partOf, requestAsks, fieldAsks, asked}
+use Rattle.manager.specs.Table.{table, valuesWrong, rowsAfter}
+use Rattle.manager.specs.Manager.{step, run}
+
+-- a part that lies in the command has its length
+pub part-ok : (s : List ℕ) (aid : Part) → Placed s aid → aidOk (partOf s aid) ≡ true
+part-ok s aid p =
+    let h = p .held in
+    let l = p .least in
+    let m = p .most in
+    let d = length-drop (aid .start) s in
+    let e : length (partOf s aid) ≡ aid .len = length-take-le (aid .len) (drop (aid .start) s) (omega arith) in
+    both _ _ (le-leb leastAid (length (partOf s aid)) (omega arith)) (le-leb (length (partOf s aid)) mostAid (omega arith))
+
+request-legal : (c : Card) (verdict : ℕ) (s : List ℕ) (r : Request) → RequestIn s (c .capacity) r → Legal c (requestAsks verdict s r)
+request-legal c verdict s (request.Create aid quota) h =
+    record { named = part-ok s aid (h .0); some = h .1 .least; most = h .1 .most }
+request-legal c verdict s (request.Enable aid) h = tt
+request-legal c verdict s (request.Disable aid) h = tt
+request-legal c verdict s (request.SetFallBack aid) h = tt
+request-legal c verdict s (request.Delete aid) h = tt
+request-legal c verdict s (request.MasterDelete aid) h = tt
+request-legal c verdict s (request.Confirm number) h = tt
+request-legal c verdict s (request.GetStatusOfAll life fallback) h = tt
+request-legal c verdict s (request.GetStatusOfOne aid life fallback) h = tt
+request-legal c verdict s request.GetData h = tt
+
+field-legal : (c : Card) (verdict : ℕ) (s : List ℕ) (f : Field) → FieldIn s (c .capacity) f → Legal c (fieldAsks verdict s f)
+field-legal c verdict s field.Wrong h = tt
+field-legal c verdict s (field.Found r) h = request-legal c verdict s r h
+
+-- what a call asks is legal once its values are right
+pub legal : (c : Card) (call : Call) → valuesWrong c call ≡ false → Legal c (asked c call)
+legal c (Command verdict s room) e = field-legal c verdict s (fieldOf s (c .capacity)) (field-in s (c .capacity))
+legal c (Keyed aid) e = tt
+legal c (Stored aid n) e = tt
+legal c (Finished aid policy) e = and-r (aidOk aid) _ (not-false _ e)
+legal c Tick e = tt
+legal c Lost e = tt
+
+-- the step of a call that the table accepts
+pub took-sound : (c : Card) (call : Call) → isDone (wordOf (table c call)) ≡ true → sound (stepOf c (asked c call) .card) ≡ true
+took-sound c call e =
+    let p = passed (table c call) refl e in
+    let v = p .1 .1 .1 .1 .1 .1 .1 in
+    step-kept c (asked c call) (legal c call (v .0)) (not-false _ (p .0)) (ap isDone (no-row (cardRows c (asked c call)) (v .1)))
+
+pub step-sound : (c : Card) (call : Call) → sound c ≡ true → sound (step c call .card) ≡ true
+unfolding step
+step-sound c call s =
+    decide-card (λ d. sound d ≡ true) c (wordOf (table c call)) (stepOf c (asked c call)) (responseOf c (asked c call)) (took-sound c call) s
+
+pub run-sound : (c : Card) (calls : List Call) → sound c ≡ true → sound (run c calls) ≡ true
+unfolding run
+run-sound c [] s = s
+run-sound c (call ∷ calls) s = run-sound (step c call .card) calls (step-sound c call s)
+
+-- the same for a card known to be sound, as the calls that do not ask it again need it
+pub call-kept : (c : Card) (call : Call) → sound c ≡ true → isDone (wordOf (rowsAfter c call)) ≡ true → sound (stepOf c (asked c call) .card) ≡ true
+unfolding wordOf
+call-kept c call s e = took-sound c call (rw s e)

@@ -1,0 +1,6 @@
+-- Laws that several proofs cite: parts of a command, responses in a buffer, the table over a command read, soundness kept.
+pub mod Parts
+pub mod Buffers
+pub mod Readings
+pub mod Kept
+pub mod Runs
