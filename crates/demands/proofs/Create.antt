@@ -1,0 +1,102 @@
+-- Create is live: where every row before the last passes, the word is decided by the last row, and its search for a free place fails
+-- exactly where no place is free. By induction over the places. Assumes nothing.
+use mathlib.Core.Path.{_≡_, refl, sym, ap, _∙_}
+use Prim.Native.Nat.{ℕ, zero, suc, _<_}
+use native.Mathlib.Omega.{arith}
+use mathlib.Core.List.{List, [], _∷_}
+use mathlib.Core.Bool.{Bool, true, false, not, cond, _||_, false≢true}
+use lib.ListN.{length}
+use lib.Dec.{ltb, leb}
+use borrow.Author.Tests.{leb-true, leb-false, ltb-true, ltb-false, lt-ltb, le-ltb}
+use Rattle.status.specs.Rows.{wordOf}
+use Rattle.status.specs.declared.Status.the-variants.{Done, NoRoom}
+use Rattle.isdp.specs.Sizes.{mostPlaces}
+use Rattle.isdp.specs.Place.{held, isFor}
+use Rattle.isdp.specs.declared.Isdp.{Isdp}
+use Rattle.places.specs.Places.{at, seek, isFree, anyOf}
+use Rattle.places.proofs.Seeks.{past, seek-below}
+use Rattle.card.specs.Cards.{isQuiet, profileOf, freePlace, freeIn}
+use Rattle.card.specs.declared.Card.{Card}
+use Rattle.card.proofs.Sounds.{parts}
+use Rattle.card.proofs.Outcomes.{accepted-card}
+use Rattle.steps.specs.Asked.{Asked, Asked.create}
+use Rattle.steps.specs.Conditions.{cardRows}
+use Rattle.steps.specs.Steps.{stepOf, responseOf}
+use Rattle.manager.specs.Calls.{Call, asked}
+use Rattle.manager.specs.Table.{table}
+use Rattle.manager.specs.Manager.{step}
+use Rattle.demands.specs.Create.{SoundRequest, RoomDecides, LowestFilled, CreateLive}
+use Rattle.demands.proofs.Words.{word-is}
+use Rattle.demands.proofs.Demand2.{takes}
+use Rattle.demands.proofs.CreateWritten.{written-asks}
+
+next-case : (a b : ℕ) (t : Bool) → ltb a b ≡ t → ltb (suc a) (suc b) ≡ t
+next-case a b true e = let h = ltb-true a b e in lt-ltb (suc a) (suc b) (omega arith)
+next-case a b false e = let h = ltb-false a b e in le-ltb (suc a) (suc b) (omega arith)
+
+-- a search finds a place exactly where some place passes
+found-case : (t : Isdp → Bool) (ps : List Isdp) (b : Bool) → ltb (seek t ps) (length ps) ≡ anyOf t ps → ltb (cond b 0 (suc (seek t ps))) (suc (length ps)) ≡ (b || anyOf t ps)
+found-case t ps true r = lt-ltb 0 (suc (length ps)) (omega arith)
+found-case t ps false r = next-case (seek t ps) (length ps) (anyOf t ps) r
+
+pub found-any : (t : Isdp → Bool) (l : List Isdp) → ltb (seek t l) (length l) ≡ anyOf t l
+unfolding seek anyOf
+found-any t [] = refl
+found-any t (p ∷ ps) = found-case t ps (t p) (found-any t ps)
+
+lower-case : (t : Isdp → Bool) (p : Isdp) (ps : List Isdp) (i : ℕ) (b : Bool) → t p ≡ b → i < cond b 0 (suc (seek t ps)) → ((j : ℕ) → j < seek t ps → t (at ps j) ≡ false) → t (at (p ∷ ps) i) ≡ false
+lower-case t p ps i true e h f = absurd (omega arith)
+lower-case t p ps zero false e h f = e
+lower-case t p ps (suc i) false e h f = f i (omega arith)
+
+-- and no lower one
+pub lower : (t : Isdp → Bool) (l : List Isdp) (i : ℕ) → i < seek t l → t (at l i) ≡ false
+unfolding seek
+lower t [] i h = absurd (omega arith)
+lower t (p ∷ ps) i h = lower-case t p ps i (t p) refl h (lower t ps)
+
+-- an AID that no place bears is not held
+missed : (l : List Isdp) (aid : List ℕ) (b : Bool) → ltb (seek (isFor aid) l) (length l) ≡ b → b ≡ false → held (at l (seek (isFor aid) l)) ≡ false
+missed l aid true e n = absurd (false≢true (sym n))
+missed l aid false e n = rw (past l (seek (isFor aid) l) (ltb-false (seek (isFor aid) l) (length l) e))
+
+over-case : (q f : ℕ) (b : Bool) → leb q f ≡ b → not b ≡ ltb f q
+over-case q f true e = sym (le-ltb f q (leb-true q f e))
+over-case q f false e = sym (lt-ltb f q (leb-false q f e))
+
+over : (q f : ℕ) → not (leb q f) ≡ ltb f q
+over q f = over-case q f (leb q f) refl
+
+rows-word : (c : Card) (aid : List ℕ) (quota : ℕ) → isQuiet (c .phase) ≡ true → held (profileOf c aid) ≡ false → ltb (freePlace c) mostPlaces ≡ anyOf isFree (c .places) → wordOf (cardRows c (create aid quota)) ≡ cond (not (anyOf isFree (c .places)) || ltb (freeIn c) quota) NoRoom Done
+unfolding wordOf
+rows-word c aid quota q n f = rw (q, n, f, over quota (freeIn c))
+
+-- the rows before the card's own are passed
+read-word : (c : Card) (call : Call) (aid : List ℕ) (quota : ℕ) → SoundRequest c call aid quota → wordOf (table c call) ≡ wordOf (cardRows c (asked c call))
+unfolding wordOf
+read-word c call aid quota r =
+    rw (r .card-sound, r .buffer-long, r .length-right, r .class-right, r .instruction-right, r .parameters-right, r .shape-right, r .values-right)
+
+pub room-decides : RoomDecides
+room-decides c call aid quota r =
+    let l = c .places in
+    let n = parts c (r .card-sound) .full in
+    let f : ltb (freePlace c) mostPlaces ≡ anyOf isFree l = ap (ltb (freePlace c)) (sym n) ∙ found-any isFree l in
+    let h = missed l aid (ltb (seek (isFor aid) l) (length l)) refl (found-any (isFor aid) l ∙ r .not-held) in
+    word-is c call ∙ read-word c call aid quota r ∙ ap (λ (a : Asked). wordOf (cardRows c a)) (r .asks) ∙ rows-word c aid quota (r .card-quiet) h f
+
+pub lowest-filled : LowestFilled
+lowest-filled c call aid quota r free room =
+    let l = c .places in
+    let d : step c call .status ≡ Done = room-decides c call aid quota r ∙ rw (free, room) in
+    let k = ltb-true (freePlace c) (length l) (found-any isFree l ∙ free) in
+    record {
+      place = freePlace c;
+      there = k;
+      free = seek-below isFree l k;
+      lowest = lower isFree l;
+      new = ap (λ o. o .card) (takes c call d) ∙ accepted-card (stepOf c (asked c call)) (responseOf c (asked c call)) ∙ ap (λ (a : Asked). stepOf c a .card) (r .asks);
+    }
+
+pub create-live : CreateLive
+create-live = record { written-asks = written-asks; room-decides = room-decides; lowest-filled = lowest-filled }

@@ -1,0 +1,181 @@
+-- What one call does to an open change: a tick ticks, the confirmation of the outstanding number closes it, and any other call leaves
+-- it as it was. By what the call asks; an accepted one has passed every row of the table, which gives the facts. Assumes nothing.
+use mathlib.Core.Path.{_≡_, refl, sym, _∙_}
+use Prim.Native.Nat.{ℕ}
+use mathlib.Core.List.{List}
+use mathlib.Core.Bool.{Bool, true, false, not, _&&_, false≢true}
+use lib.ListN.{set}
+use lib.Dec.{eqb}
+use borrow.Author.Tests.{eqb-true, not-false}
+use Rattle.status.specs.Rows.{row, wordOf}
+use Rattle.status.proofs.Tables.{Passed, passed}
+use Rattle.isdp.specs.LifeCycle.{selectable, personalized, isEnabled}
+use Rattle.isdp.specs.Place.{none}
+use Rattle.isdp.specs.declared.Isdp.{Isdp}
+use Rattle.isdp.proofs.Bools.{and-l, or-l, or-r}
+use Rattle.places.specs.Places.{at}
+use Rattle.places.proofs.Sets.{set-enabled}
+use Rattle.card.specs.Cards.{isQuiet, placeOf, profileOf, withPlaces, withPhase}
+use Rattle.card.specs.Sound.{sound}
+use Rattle.card.specs.Clock.{outstanding, dropped, tickOf, lostOf, confirmIn, confirmOf}
+use Rattle.card.specs.Steps.{tickStep, lostStep, confirmStep}
+use Rattle.card.specs.Answers.{accepted}
+use Rattle.card.specs.declared.Card.{Card}
+use Rattle.card.specs.declared.Phase.{Phase}
+use Rattle.card.specs.declared.Phase.the-variants.{Quiet, Trial, Back, Fallen}
+use Rattle.card.proofs.Sounds.{Phased, parts, choose}
+use Rattle.card.proofs.Outcomes.{decide-card}
+use Rattle.steps.specs.Asked.{Act, Act.enable, Act.disable, Act.delete, Act.masterDelete, Act.setFallBack, Act.status, Act.keyed, Act.stored, Act.finished, Asked, Asked.unread, Asked.create, Asked.on, Asked.confirm, Asked.statusOfAll, Asked.getData, Asked.tick, Asked.lost}
+use Rattle.steps.specs.Conditions.{cardRows}
+use Rattle.steps.specs.Steps.{stepOf, responseOf}
+use Rattle.command.specs.Requests.{fieldOf}
+use Rattle.command.specs.declared.request.Request.{Request}
+use Rattle.command.specs.declared.request.Request.the-variants as request
+use Rattle.command.specs.declared.request.Field.{Field}
+use Rattle.command.specs.declared.request.Field.the-variants as field
+use Rattle.manager.specs.Calls.{Call, Call.Command, Call.Keyed, Call.Stored, Call.Finished, Call.Tick, Call.Lost, asked, requestAsks, fieldAsks}
+use Rattle.manager.specs.Table.{table}
+use Rattle.manager.specs.Manager.{step}
+use Rattle.demands.specs.Change.{taken, isTick, isConfirmation, Unmoved, Frame, OnlyOutstanding}
+
+-- the rows that look at the card are the table's last seven
+pub card-passed : (c : Card) (call : Call) → taken c call ≡ true → Passed (cardRows c (asked c call))
+card-passed c call e = passed (table c call) refl e .1 .1 .1 .1 .1 .1 .1 .1
+
+pub same : (c : Card) → Unmoved c c
+same c = record { phase = refl; enabled = λ i. refl; fallback = refl; last = refl }
+
+-- a place rewritten that was not enabled and is not
+rewritten-same : (c : Card) (i : ℕ) (x : Isdp) → isEnabled x ≡ isEnabled (at (c .places) i) → Unmoved c (withPlaces c (set (c .places) i x))
+rewritten-same c i x e =
+    record { phase = refl; enabled = set-enabled x (c .places) i e; fallback = refl; last = refl }
+
+open-row : (c : Card) → isQuiet (c .phase) ≡ false → not (isQuiet (c .phase)) ≡ false → ⊥
+open-row c o h = false≢true (sym o ∙ not-false _ h)
+
+lost-open : (c : Card) → isQuiet (c .phase) ≡ false → lostOf c ≡ c
+unfolding lostOf
+lost-open c o = rw o
+
+abbrev isTicking : Asked → Bool
+isTicking unread = false
+isTicking (create aid quota) = false
+isTicking (on aid act) = false
+isTicking (confirm number) = false
+isTicking (statusOfAll life fallback) = false
+isTicking getData = false
+isTicking tick = true
+isTicking lost = false
+
+act-same : (c : Card) (aid : List ℕ) (act : Act) → isQuiet (c .phase) ≡ false → Passed (cardRows c (on aid act)) → Unmoved c (stepOf c (on aid act) .card)
+act-same c aid enable o p = absurd (open-row c o (p .0))
+act-same c aid disable o p = absurd (open-row c o (p .0))
+act-same c aid delete o p = absurd (open-row c o (p .0))
+act-same c aid (masterDelete verdict) o p = absurd (open-row c o (p .0))
+act-same c aid setFallBack o p = absurd (open-row c o (p .0))
+act-same c aid (status life fallback) o p = same c
+act-same c aid keyed o p =
+    rewritten-same c (placeOf c aid) _ (rw (eqb-true (profileOf c aid .life) selectable (not-false _ (p .1 .1 .1 .0))))
+act-same c aid (stored n) o p =
+    rewritten-same c (placeOf c aid) _ refl
+act-same c aid (finished policy) o p =
+    rewritten-same c (placeOf c aid) _ (rw (eqb-true (profileOf c aid .life) personalized (and-l (eqb (profileOf c aid .life) personalized) _ (not-false _ (p .1 .1 .1 .0)))))
+
+asked-same : (c : Card) (a : Asked) → isQuiet (c .phase) ≡ false → isTicking a ≡ false → isConfirmation a ≡ false → Passed (cardRows c a) → Unmoved c (stepOf c a .card)
+unfolding lostStep
+asked-same c unread o t k p = same c
+asked-same c (create aid quota) o t k p = absurd (open-row c o (p .0))
+asked-same c (on aid act) o t k p = act-same c aid act o p
+asked-same c (confirm number) o t k p = absurd (false≢true (sym k))
+asked-same c (statusOfAll life fallback) o t k p = same c
+asked-same c getData o t k p = same c
+asked-same c tick o t k p = absurd (false≢true (sym t))
+asked-same c lost o t k p = rw (lost-open c o) (same c)
+
+-- no command asks for a tick
+request-ticks : (verdict : ℕ) (s : List ℕ) (r : Request) → isTicking (requestAsks verdict s r) ≡ false
+request-ticks verdict s (request.Create aid quota) = refl
+request-ticks verdict s (request.Enable aid) = refl
+request-ticks verdict s (request.Disable aid) = refl
+request-ticks verdict s (request.SetFallBack aid) = refl
+request-ticks verdict s (request.Delete aid) = refl
+request-ticks verdict s (request.MasterDelete aid) = refl
+request-ticks verdict s (request.Confirm number) = refl
+request-ticks verdict s (request.GetStatusOfAll life fallback) = refl
+request-ticks verdict s (request.GetStatusOfOne aid life fallback) = refl
+request-ticks verdict s request.GetData = refl
+
+field-ticks : (verdict : ℕ) (s : List ℕ) (f : Field) → isTicking (fieldAsks verdict s f) ≡ false
+field-ticks verdict s field.Wrong = refl
+field-ticks verdict s (field.Found r) = request-ticks verdict s r
+
+only-tick : (c : Card) (call : Call) → isTick call ≡ false → isTicking (asked c call) ≡ false
+only-tick c (Command verdict s room) e = field-ticks verdict s (fieldOf s (c .capacity))
+only-tick c (Keyed aid) e = refl
+only-tick c (Stored aid n) e = refl
+only-tick c (Finished aid policy) e = refl
+only-tick c Tick e = absurd (false≢true (sym e))
+only-tick c Lost e = refl
+
+not-asked : (a b : Bool) → (a && b) ≡ false → b ≡ true → a ≡ false
+not-asked true true e h = e
+not-asked true false e h = absurd (false≢true h)
+not-asked false b e h = refl
+
+pub frame : Frame
+unfolding step
+frame c call s o e =
+    decide-card (Unmoved c) c (wordOf (table c call)) (stepOf c (asked c call)) (responseOf c (asked c call))
+    (λ d. asked-same c (asked c call) o (only-tick c call (or-l (isTick call) _ e)) (not-asked (isConfirmation (asked c call)) (taken c call) (or-r (isTick call) _ e) d) (card-passed c call d))
+    (same c)
+
+-- a tick ticks
+pub tick-step : (c : Card) → sound c ≡ true → step c Tick .card ≡ tickOf c
+unfolding step wordOf accepted tickStep
+tick-step c s = rw s
+
+-- the confirmation of the outstanding number closes the change, and the enabled profile stays
+pub record Closed (c d : Card) : Type 0 where
+  pub quiet : d .phase ≡ Quiet
+  pub enabled : (i : ℕ) → isEnabled (at (d .places) i) ≡ isEnabled (at (c .places) i)
+  pub fallback : d .fallback ≡ c .fallback
+
+calm : (c : Card) → Closed c (withPhase c Quiet)
+calm c = record { quiet = refl; enabled = λ i. refl; fallback = refl }
+
+confirm-closes : (c : Card) (p : Phase) → Phased p c → Closed c (confirmIn p c)
+confirm-closes c Quiet h = calm c
+confirm-closes c (Trial q l m) h =
+    choose (Closed c) (dropped c q) _ _
+    (λ b. record { quiet = refl; enabled = set-enabled none (c .places) q (rw (h .1)); fallback = refl })
+    (λ b. calm c)
+confirm-closes c (Back l m) h = calm c
+confirm-closes c (Fallen l m) h = calm c
+
+confirm-card : (c : Card) (a : Asked) → isConfirmation a ≡ true → stepOf c a .card ≡ confirmOf c
+unfolding confirmStep
+confirm-card c unread e = absurd (false≢true e)
+confirm-card c (create aid quota) e = absurd (false≢true e)
+confirm-card c (on aid act) e = absurd (false≢true e)
+confirm-card c (confirm number) e = refl
+confirm-card c (statusOfAll life fallback) e = absurd (false≢true e)
+confirm-card c getData e = absurd (false≢true e)
+confirm-card c tick e = absurd (false≢true e)
+confirm-card c lost e = absurd (false≢true e)
+
+-- an accepted call takes its step
+pub taken-step : (c : Card) (call : Call) → taken c call ≡ true → step c call .card ≡ stepOf c (asked c call) .card
+unfolding step accepted
+taken-step c call e = rw e
+
+pub confirm-does : (c : Card) (call : Call) → sound c ≡ true → isConfirmation (asked c call) ≡ true → taken c call ≡ true → Closed c (step c call .card)
+unfolding confirmOf
+confirm-does c call s a e =
+    rw (taken-step c call e, confirm-card c (asked c call) a) (confirm-closes c (c .phase) (parts c s .phased))
+
+-- by the row "confirmation not of the outstanding number"
+asked-outstanding : (c : Card) (number : ℕ) → Passed (cardRows c (confirm number)) → outstanding (c .phase) number ≡ true
+asked-outstanding c number p = not-false _ (p .1 .0)
+
+pub only-outstanding : OnlyOutstanding
+only-outstanding c call number a e = asked-outstanding c number (rw a at (card-passed c call e))

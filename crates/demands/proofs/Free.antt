@@ -1,0 +1,210 @@
+-- Free is capacity less the quotas of the history. Each accepted call does to the profiles counted what it does to the places, a refused
+-- one nothing; capacity is never changed; and of a sound card the quotas counted are those held. Assumes nothing.
+use mathlib.Core.Path.{_≡_, refl, ap, sym, subst, _∙_}
+use Prim.Native.Nat.{ℕ, _-_, _≤_, _<_}
+use mathlib.Core.List.{List, [], _∷_}
+use mathlib.Core.Bool.{Bool, true, false, not, cond, false≢true}
+use lib.ListN.{length, set}
+use lib.Dec.{ltb, eqb}
+use borrow.Author.Tests.{ne-eqb, not-true, not-false, ltb-true}
+use Rattle.status.specs.StatusWords.{isDone}
+use Rattle.status.specs.Rows.{row, wordOf}
+use Rattle.status.specs.declared.Status.the-variants.{DataWrong}
+use Rattle.status.proofs.Tables.{Passed, passed}
+use Rattle.isdp.specs.Sizes.{mostPlaces, eidSize}
+use Rattle.isdp.specs.Aids.{aidOk, aidOf, noAid, nameOf}
+use Rattle.isdp.specs.LifeCycle.{selectable, disabled, enabled}
+use Rattle.isdp.specs.Place.{none, held, isFor, placeOk}
+use Rattle.isdp.specs.declared.Isdp.{Isdp}
+use Rattle.isdp.proofs.Bools.{and-l, and-r, or-l}
+use Rattle.isdp.proofs.Placed.{placed}
+use Rattle.places.specs.Places.{at, isFree}
+use Rattle.places.proofs.Seeks.{seek-below}
+use Rattle.places.proofs.Lives.{enable-lives, within}
+use Rattle.places.proofs.Sets.{all-at}
+use Rattle.card.specs.Cards.{freeIn, isQuiet, placeOf, profileOf, freePlace, onFallback, withChange, withPhase}
+use Rattle.card.specs.Sound.{sound}
+use Rattle.card.specs.Clock.{tickIn, tickOf, lostOf, dropped, confirmIn, confirmOf}
+use Rattle.card.specs.Steps.{stepTo, tickStep, lostStep, confirmStep, goneIn}
+use Rattle.card.specs.Answers.{accepted}
+use Rattle.card.specs.Fresh.{zeroCard, freshCard, freshOk, freshOutcome}
+use Rattle.card.specs.declared.Card.{Card}
+use Rattle.card.specs.declared.Phase.{Phase}
+use Rattle.card.specs.declared.Phase.the-variants.{Quiet, Trial, Back, Fallen}
+use Rattle.card.proofs.Sounds.{Sound, Phased, parts, choose, nonzero}
+use Rattle.card.proofs.Outcomes.{took, accepted-card}
+use Rattle.card.proofs.Freshness.{fresh-sound}
+use Rattle.responses.specs.Responses.{deletedResponse}
+use Rattle.steps.specs.Asked.{Act, Act.enable, Act.disable, Act.delete, Act.masterDelete, Act.setFallBack, Act.status, Act.keyed, Act.stored, Act.finished, Asked, Asked.unread, Asked.create, Asked.on, Asked.confirm, Asked.statusOfAll, Asked.getData, Asked.tick, Asked.lost}
+use Rattle.steps.specs.Conditions.{cardRows}
+use Rattle.steps.specs.Steps.{stepOf, actStep, responseOf}
+use Rattle.steps.proofs.Kept.{Legal}
+use Rattle.manager.specs.Calls.{Call, Call.Command, Call.Keyed, Call.Stored, Call.Finished, Call.Tick, Call.Lost, asked}
+use Rattle.manager.specs.Table.{table}
+use Rattle.manager.specs.Manager.{step, run}
+use Rattle.manager.proofs.Kept.{legal, step-sound}
+use Rattle.demands.specs.Inputs.{Inputs, freshOf}
+use Rattle.demands.specs.Said.{said, Exchange, exchanges}
+use Rattle.demands.specs.Free.{Made, without, afterConfirm, afterAct, afterAsked, askedOf, after, history, room, first, FreeIsCounted}
+use Rattle.demands.proofs.Words.{done-as}
+use Rattle.demands.proofs.Taken.{hands-back, taken}
+use Rattle.demands.proofs.Others.{held-within, tick-lives, lost-lives}
+use Rattle.demands.proofs.Tallies.{sumMade, sumHeld, Tally, lives-tally, alike-tally, made-weight, create-tally, delete-tally, tally-room, bears-own}
+
+-- no step changes the capacity
+module _ (c : Card) where
+  abbrev As : Card → Type 0
+  As d = d .capacity ≡ c .capacity
+
+  tick-capacity : (p : Phase) → As (tickIn p c)
+  tick-capacity Quiet = refl
+  tick-capacity (Trial q l n) = choose As (ltb 1 l) _ _ (λ b. refl) (λ b. refl)
+  tick-capacity (Back l n) = choose As (ltb 1 l) _ _ (λ b. refl) (λ b. choose As (onFallback c) _ _ (λ e. refl) (λ e. refl))
+  tick-capacity (Fallen l n) = choose As (ltb 1 l) _ _ (λ b. refl) (λ b. refl)
+
+  confirm-capacity : (p : Phase) → As (confirmIn p c)
+  confirm-capacity Quiet = refl
+  confirm-capacity (Trial q l n) = choose As (dropped c q) _ _ (λ b. refl) (λ b. refl)
+  confirm-capacity (Back l n) = refl
+  confirm-capacity (Fallen l n) = refl
+
+  act-capacity : (aid : List ℕ) (a : Act) → As (actStep c aid a .card)
+  act-capacity aid enable = refl
+  act-capacity aid disable = refl
+  act-capacity aid delete = refl
+  act-capacity aid (masterDelete verdict) = refl
+  act-capacity aid setFallBack = refl
+  act-capacity aid (status life fallback) = refl
+  act-capacity aid keyed = refl
+  act-capacity aid (stored n) = refl
+  act-capacity aid (finished policy) = refl
+
+  asks-capacity : (a : Asked) → As (stepOf c a .card)
+  unfolding tickStep lostStep confirmStep tickOf lostOf confirmOf
+  asks-capacity unread = refl
+  asks-capacity (create aid quota) = refl
+  asks-capacity (on aid a) = act-capacity aid a
+  asks-capacity (confirm number) = confirm-capacity (c .phase)
+  asks-capacity (statusOfAll life fallback) = refl
+  asks-capacity getData = refl
+  asks-capacity tick = tick-capacity (c .phase)
+  asks-capacity lost = choose As (isQuiet (c .phase)) _ _ (λ q. choose As (onFallback c) _ _ (λ e. refl) (λ e. refl)) (λ q. refl)
+
+  pub capacity-kept : (call : Call) → As (step c call .card)
+  capacity-kept call = hands-back c call As (λ e. asks-capacity (asked c call)) refl
+
+-- what an accepted call does to the places it does to the profiles counted
+module _ (c : Card) (s : Sound c) (ms : List Made) (t : Tally ms (c .places)) where
+  target-for : (aid : List ℕ) → not (held (profileOf c aid)) ≡ false → isFor aid (profileOf c aid) ≡ true
+  target-for aid e = seek-below (isFor aid) (c .places) (held-within (c .places) (placeOf c aid) (not-false _ e))
+
+  act-tally : (aid : List ℕ) (a : Act) → not (held (profileOf c aid)) ≡ false → Tally (afterAct aid a ms) (actStep c aid a .card .places)
+  act-tally aid enable h = lives-tally ms (enable-lives (c .places) (placeOf c aid)) t
+  act-tally aid disable h = lives-tally ms (enable-lives (c .places) (c .fallback)) t
+  act-tally aid delete h = delete-tally ms (c .places) (placeOf c aid) aid (target-for aid h) (s .apart) t
+  act-tally aid (masterDelete verdict) h = delete-tally ms (c .places) (placeOf c aid) aid (target-for aid h) (s .apart) t
+  act-tally aid setFallBack h = t
+  act-tally aid (status life fallback) h = t
+  act-tally aid keyed h = alike-tally ms _ (c .places) (placeOf c aid) refl refl refl t
+  act-tally aid (stored n) h = alike-tally ms _ (c .places) (placeOf c aid) refl refl refl t
+  act-tally aid (finished policy) h = alike-tally ms _ (c .places) (placeOf c aid) refl refl refl t
+
+  -- the response to a confirmation names the profile that it deletes
+  gone-named : (p : Isdp) → held p ≡ true → afterConfirm (deletedResponse (nameOf p)) ms ≡ without (aidOf p) ms
+  unfolding deletedResponse
+  gone-named p h = rw (not-true (eqb (p .len) 0) h)
+
+  previous-held : (q : ℕ) → at (c .places) q .life ≡ disabled → held (at (c .places) q) ≡ true
+  previous-held q h =
+      let n = nonzero (at (c .places) q .life) 30 h in
+      placed (c .capacity) (at (c .places) q) (ne-eqb _ _ n)
+      (all-at (placeOk (c .capacity)) (c .places) q (within (c .places) q n) (s .each)) .there
+
+  trial-case : (q : ℕ) (b : Bool) → dropped c q ≡ b → at (c .places) q .life ≡ disabled → Tally (afterConfirm (deletedResponse (cond b (nameOf (at (c .places) q)) noAid)) ms) (cond b (withChange c (c .last) Quiet (set (c .places) q none)) (withPhase c Quiet) .places)
+  trial-case q true e h =
+      let k = previous-held q h in
+      subst (λ l. Tally l (set (c .places) q none)) (sym (gone-named (at (c .places) q) k))
+      (delete-tally ms (c .places) q (aidOf (at (c .places) q)) (bears-own (at (c .places) q) k) (s .apart) t)
+  trial-case q false e h = unfold deletedResponse in t
+
+  confirm-tally : (p : Phase) → Phased p c → Tally (afterConfirm (deletedResponse (goneIn p c)) ms) (confirmIn p c .places)
+  unfolding deletedResponse
+  confirm-tally Quiet h = t
+  confirm-tally (Trial q l n) h = trial-case q (dropped c q) refl (h .1)
+  confirm-tally (Back l n) h = t
+  confirm-tally (Fallen l n) h = t
+
+  asks-tally : (a : Asked) → Legal c a → Passed (cardRows c a) → Tally (afterAsked a (responseOf c a) ms) (stepOf c a .card .places)
+  unfolding tickStep lostStep confirmStep confirmOf
+  asks-tally unread g p = t
+  asks-tally (create aid quota) g p =
+      let k : freePlace c < length (c .places) = rw (s .full) (ltb-true _ _ (not-false _ (or-l (not (ltb (freePlace c) mostPlaces)) _ (p .1 .1 .1 .1 .1 .1 .0)))) in
+      create-tally ms (c .places) (freePlace c) aid selectable quota 0 (g .named) k (not-true _ (seek-below isFree (c .places) k)) t
+  asks-tally (on aid a) g p = act-tally aid a (p .1 .0)
+  asks-tally (confirm number) g p = confirm-tally (c .phase) (s .phased)
+  asks-tally (statusOfAll life fallback) g p = t
+  asks-tally getData g p = t
+  asks-tally tick g p = lives-tally ms (tick-lives c) t
+  asks-tally lost g p = lives-tally ms (lost-lives c) t
+
+asked-of : (c : Card) (call : Call) → askedOf (c .capacity) call ≡ asked c call
+asked-of c (Command verdict s room) = refl
+asked-of c (Keyed aid) = refl
+asked-of c (Stored aid n) = refl
+asked-of c (Finished aid policy) = refl
+asked-of c Tick = refl
+asked-of c Lost = refl
+
+accepted-response : (c : Card) (a : Asked) → accepted (stepOf c a) (responseOf c a) .response ≡ responseOf c a
+unfolding accepted
+accepted-response c a = refl
+
+-- one call with its answer
+abbrev exchanged : Card → Call → Exchange
+exchanged c call = record { call = call; answer = said (step c call) }
+
+done-tally : (c : Card) (call : Call) (ms : List Made) (b : Bool) → isDone (step c call .status) ≡ b → sound c ≡ true → Tally ms (c .places) → Tally (cond b (afterAsked (askedOf (c .capacity) call) (step c call .response) ms) ms) (step c call .card .places)
+done-tally c call ms true e s t =
+    let p = passed (table c call) refl (done-as c call true e) in
+    let v = p .1 .1 .1 .1 .1 .1 .1 in
+    let x = asked c call in
+    rw (asked-of c call, taken c call e, accepted-card (stepOf c x) (responseOf c x), accepted-response c x)
+    (asks-tally c (parts c s) ms t x (legal c call (v .0)) (v .1))
+done-tally c call ms false e s t =
+    hands-back c call (λ d. Tally ms (d .places)) (λ f. absurd (false≢true (sym e ∙ f))) t
+
+pub step-tally : (c : Card) (call : Call) (ms : List Made) → sound c ≡ true → Tally ms (c .places) → Tally (after (c .capacity) (exchanged c call) ms) (step c call .card .places)
+step-tally c call ms s t = done-tally c call ms (isDone (step c call .status)) refl s t
+
+run-free : (calls : List Call) (c : Card) (capacity : ℕ) (ms : List Made) → c .capacity ≡ capacity → sound c ≡ true → Tally ms (c .places) → (freeIn (run c calls) ≡ capacity - room (history capacity ms (exchanges c calls))) × (room (history capacity ms (exchanges c calls)) ≤ capacity)
+unfolding run exchanges history
+run-free [] c capacity ms e s t =
+    let r = tally-room (c .capacity) ms (c .places) (parts c s .each) t in
+    (rw (r, e), rw (r, ← e) (parts c s .room))
+run-free (call ∷ calls) c capacity ms e s t =
+    run-free calls (step c call .card) capacity (after capacity (exchanged c call) ms) (capacity-kept c call ∙ e) (step-sound c call s)
+    (subst (λ k. Tally (after k (exchanged c call) ms) (step c call .card .places)) e (step-tally c call ms s t))
+
+-- the card that fresh makes
+abbrev cardOf : Inputs → Card
+cardOf x = freshCard (x .eid) (x .aid) (x .capacity) (x .quota) (x .used) (x .volatile)
+
+fresh-tally : (x : Inputs) → aidOk (x .aid) ≡ true → Tally (first x) (cardOf x .places)
+unfolding sumMade sumHeld
+fresh-tally x ok w = rw (made-weight (x .aid) enabled (x .quota) (x .used) ok w)
+
+fresh-is : (x : Inputs) → isDone (freshOf x .status) ≡ true → (aidOk (x .aid) ≡ true) × (freshOf x .card ≡ cardOf x)
+unfolding freshOutcome
+fresh-is x h =
+    let rows = row (not (freshOk (x .eid) (x .aid) (x .capacity) (x .quota) (x .used))) DataWrong ∷ [] in
+    let t = took zeroCard (wordOf rows) (stepTo zeroCard (cardOf x) noAid) [] h in
+    let p = passed rows refl (t .0) in
+    let f = and-r (eqb (length (x .eid)) eidSize) _ (not-false _ (p .0)) in
+    (and-l (aidOk (x .aid)) _ f, rw (t .1) (accepted-card (stepTo zeroCard (cardOf x) noAid) []))
+
+pub free-is-counted : FreeIsCounted
+free-is-counted x calls h =
+    let f = fresh-is x h in
+    run-free calls (freshOf x .card) (x .capacity) (first x) (ap (λ (d : Card). d .capacity) (f .1))
+    (fresh-sound (x .eid) (x .aid) (x .capacity) (x .quota) (x .used) (x .volatile) h)
+    (subst (λ d. Tally (first x) (d .places)) (sym (f .1)) (fresh-tally x (f .0)))

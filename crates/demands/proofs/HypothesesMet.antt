@@ -1,0 +1,185 @@
+-- The hypotheses of the statements are met: concrete cards and calls, by computing.
+use mathlib.Core.Path.{_≡_, refl, _∙_}
+use Prim.Native.Nat.{ℕ, zero, suc, _-_}
+use native.Mathlib.Omega.{arith}
+use mathlib.Core.List.{List, [], _∷_, _++_}
+use mathlib.Core.Bool.{Bool, true, false, _&&_}
+use mathlib.Core.Option.{some}
+use lib.ListN.{replicate}
+use lib.Dec.{ltb}
+use borrow.Author.Tests.{ltb-true}
+use Rattle.status.specs.StatusWords.{isDone}
+use Rattle.status.specs.Rows.{wordOf}
+use Rattle.status.specs.declared.Status.the-variants.{Done}
+use Rattle.isdp.specs.Sizes.{mostPlaces, eidSize}
+use Rattle.isdp.specs.Aids.{sameBytes, padded}
+use Rattle.isdp.specs.LifeCycle.{disabled, enabled}
+use Rattle.isdp.specs.Place.{none, made, isFor, clash, zeros, placeOk}
+use Rattle.isdp.proofs.Bools.{and-l, and-r}
+use Rattle.places.specs.Places.{seek, quotas, allOf, anyOf, countOf, distinct, allOff, enableAt}
+use Rattle.card.specs.Sound.{phaseOk, sound}
+use Rattle.card.specs.Clock.{tickOf}
+use Rattle.card.specs.Ticks.{stepsIn, ticksToCome}
+use Rattle.card.specs.Steps.{tickStep}
+use Rattle.card.specs.Answers.{refused, accepted}
+use Rattle.card.specs.Fresh.{freshCard, freshOutcome}
+use Rattle.card.specs.declared.Card.{Card}
+use Rattle.card.specs.declared.Phase.the-variants.{Quiet, Trial}
+use Rattle.tlv.specs.When.{when, le?, lt?, eq?}
+use Rattle.tlv.specs.Tlv.{tagAt, lengthAt, afterLength, afterTag, headAt, expectOf, expectAt}
+use Rattle.tlv.specs.Encoding.{window, Bytes}
+use Rattle.fields.specs.Alone.{aloneAt}
+use Rattle.fields.specs.StoreData.{dgiAt, namedBy, storeDataAt}
+use Rattle.install.specs.Parameters.{protocolsWithin, protocolsAt, numberAt, grantOf, memoryAt, parametersAt}
+use Rattle.install.specs.Install.{prefixedOf, prefixedAt, namesAt, rightsAt, installOf}
+use Rattle.install.specs.Grammar.{Created}
+use Rattle.command.specs.Framing.{lengthWrong, classRight, classWrong, instructionWrong, parametersRight, parametersWrong, shapeRight, shapeWrong}
+use Rattle.command.specs.Requests.{fieldOf, dataWrong}
+use Rattle.command.specs.Grammar as written
+use Rattle.command.specs.Grammar.{readAs, Encodes}
+use Rattle.command.specs.Reading.{readOf}
+use Rattle.command.proofs.Written.{command-written}
+use Rattle.manager.specs.Calls.{Call, Call.Command, Call.Tick}
+use Rattle.manager.specs.Manager.{step}
+use Rattle.demands.specs.OpeningAnswers.{OpeningAnswersMet}
+use Rattle.demands.specs.Demand1.{Demand1Met}
+use Rattle.demands.specs.Demand2.{Demand2Met}
+use Rattle.demands.specs.Ticks.{TicksMet}
+use Rattle.demands.specs.Create.{SoundRequest, CreateMet}
+use Rattle.demands.proofs.CreateWritten.{written-asks}
+use Rattle.demands.proofs.Words.{word-is}
+use Rattle.demands.proofs.Create.{room-decides}
+
+-- document 01's AIDs: F, and others
+abbrev aidEnding : ℕ → List ℕ
+aidEnding n = 0xA0 ∷ 0 ∷ 0 ∷ 0 ∷ n ∷ []
+
+abbrev eid : List ℕ
+eid = replicate eidSize 0
+
+-- a fresh card of this capacity, whose profile has 100 bytes
+abbrev freshOf : ℕ → Card
+freshOf capacity = freshCard eid (aidEnding 1) capacity 100 0 0
+
+fresh-sounds : (sound (freshOf 1000) ≡ true) × (sound (freshOf 100) ≡ true)
+unfolding sound phaseOk allOf placeOk zeros padded distinct anyOf clash isFor countOf quotas sameBytes
+fresh-sounds = (refl, refl)
+
+-- an empty command
+short : isDone (step (freshOf 1000) (Command 0 [] 256) .status) ≡ false
+unfolding wordOf lengthWrong
+short = rw (word-is (freshOf 1000) (Command 0 [] 256), fresh-sounds .0)
+
+pub demand-1-met : Demand1Met
+unfolding freshOutcome wordOf refused
+demand-1-met =
+    record { card = freshOf 1000; call = Command 0 [] 256; refused = (fresh-sounds .0, short); eid = []; aid = []; fresh-refused = refl }
+
+ticks-taken : step (freshOf 1000) Tick .status ≡ Done
+unfolding wordOf
+ticks-taken = word-is (freshOf 1000) Tick ∙ rw (fresh-sounds .0)
+
+pub demand-2-met : Demand2Met
+unfolding freshOutcome wordOf accepted
+demand-2-met =
+    record { eid = eid; aid = aidEnding 1; made = refl; taken = Tick; accepts = ticks-taken; refused = Command 0 [] 256; refuses = short }
+
+-- F enabled and on trial, the profile before it not the fall-back
+abbrev trial : Card
+trial =
+    record {
+      eid = eid;
+      capacity = 1000;
+      volatile = 0;
+      last = 1;
+      fallback = 0;
+      phase = Trial 1 10 1;
+      places = made (aidEnding 1) enabled 100 0 ∷ made (aidEnding 2) disabled 100 1 ∷ replicate (mostPlaces - 2) none;
+    }
+
+pub ticks-met : TicksMet
+unfolding step wordOf accepted tickStep tickOf ticksToCome stepsIn enableAt allOff sound phaseOk allOf placeOk zeros padded distinct anyOf clash isFor countOf quotas sameBytes
+ticks-met = record { card = trial; call = Tick; card-sound = refl; figure = refl }
+
+-- a create of 02 with 50 bytes
+abbrev createBytes : List ℕ
+createBytes =
+    0x80 ∷ 0xE6 ∷ 0x0C ∷ 0x00 ∷ 0x22 ∷ 5
+    ∷ (aidEnding 2 ++ 5 ∷ (aidEnding 2 ++ 5 ∷ (aidEnding 2 ++ 1 ∷ 0x80 ∷ 0x0C ∷ 0xC9 ∷ 4 ∷ 0x81 ∷ 2 ∷ 3 ∷ 0x70 ∷ 0xEF ∷ 4 ∷ 0x83 ∷ 2 ∷ 0 ∷ 50 ∷ 0 ∷ [])))
+
+abbrev asks : Created
+asks = record { aid = aidEnding 2; quota = 50 }
+
+abbrev smallBytes : List ℕ → Bool
+smallBytes [] = true
+smallBytes (x ∷ xs) = ltb x 256 && smallBytes xs
+
+bytes-of : (s : List ℕ) → smallBytes s ≡ true → Bytes s
+bytes-of [] e i = omega arith
+bytes-of (x ∷ xs) e zero = ltb-true x 256 (and-l _ _ e)
+bytes-of (x ∷ xs) e (suc i) = bytes-of xs (and-r (ltb x 256) _ e) i
+
+reads : (readAs createBytes (readOf createBytes 1000) ≡ some (written.create asks)) × (readAs createBytes (readOf createBytes 100) ≡ some (written.create asks))
+unfolding readOf wordOf window lengthWrong classRight classWrong instructionWrong parametersRight parametersWrong shapeRight shapeWrong fieldOf dataWrong when le? lt? eq? tagAt lengthAt afterLength afterTag headAt expectOf expectAt protocolsWithin protocolsAt numberAt grantOf memoryAt parametersAt prefixedOf prefixedAt namesAt rightsAt installOf
+reads = (refl, refl)
+
+encoded-in : (capacity : ℕ) → readAs createBytes (readOf createBytes capacity) ≡ some (written.create asks) → Encodes capacity (written.create asks) createBytes
+encoded-in capacity e = command-written createBytes capacity (written.create asks) (bytes-of createBytes refl) e
+
+request-on : (capacity : ℕ) → sound (freshOf capacity) ≡ true → Encodes capacity (written.create asks) createBytes → SoundRequest (freshOf capacity) (Command 0 createBytes 256) (aidEnding 2) 50
+unfolding anyOf isFor sameBytes padded
+request-on capacity s e = written-asks (freshOf capacity) 0 createBytes 256 asks e (omega arith) s refl refl
+
+-- 900 bytes are free on the one card, none on the other
+pub create-met : CreateMet
+unfolding anyOf quotas
+create-met =
+    let e = encoded-in 1000 (reads .0) in
+    let f = encoded-in 100 (reads .1) in
+    let r = request-on 1000 (fresh-sounds .0) e in
+    let t = request-on 100 (fresh-sounds .1) f in
+    record {
+      bytes = createBytes;
+      asks-for = asks;
+      card = freshOf 1000;
+      encoded = e;
+      request = r;
+      taken = room-decides (freshOf 1000) (Command 0 createBytes 256) (aidEnding 2) 50 r;
+      small = freshOf 100;
+      encoded-small = f;
+      request-small = t;
+      not-taken = room-decides (freshOf 100) (Command 0 createBytes 256) (aidEnding 2) 50 t;
+    }
+
+-- F, the fall-back, and 02, one of them enabled
+abbrev pair : ℕ → ℕ → Card
+pair first second =
+    record {
+      eid = eid;
+      capacity = 1000;
+      volatile = 0;
+      last = 0;
+      fallback = 0;
+      phase = Quiet;
+      places = made (aidEnding 1) first 100 0 ∷ made (aidEnding 2) second 100 1 ∷ replicate (mostPlaces - 2) none;
+    }
+
+-- the DGI 3A03 or 3A04 with 02
+abbrev switchCall : ℕ → Call
+switchCall dgi = Command 0 (0x80 ∷ 0xE2 ∷ 0x88 ∷ 0x00 ∷ 0x0A ∷ 0x3A ∷ dgi ∷ 0x07 ∷ 0x4F ∷ 0x05 ∷ aidEnding 2) 256
+
+pub opening-answers-met : OpeningAnswersMet
+unfolding step accepted wordOf lengthWrong classRight classWrong instructionWrong parametersRight parametersWrong shapeRight shapeWrong fieldOf dataWrong when le? lt? eq? tagAt lengthAt afterLength afterTag headAt expectOf expectAt aloneAt dgiAt namedBy storeDataAt sound phaseOk allOf placeOk zeros padded distinct anyOf clash isFor countOf quotas sameBytes seek
+opening-answers-met =
+    record {
+      card = pair enabled disabled;
+      enables = switchCall 0x03;
+      wanted = aidEnding 2;
+      asks-enable = refl;
+      enabled-done = refl;
+      other = pair disabled enabled;
+      disables = switchCall 0x04;
+      unwanted = aidEnding 2;
+      asks-disable = refl;
+      disabled-done = refl;
+    }

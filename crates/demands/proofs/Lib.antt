@@ -1,0 +1,25 @@
+-- The proofs of the statements in specs/, and the laws that several of them cite.
+pub mod Words
+pub mod Demand1
+pub mod Demand2
+pub mod Ticks
+pub mod OpeningAnswers
+pub mod CreateWritten
+pub mod Create
+pub mod Unique
+pub mod HypothesesMet
+pub mod Frames
+pub mod Changes
+pub mod Openings
+pub mod Examples
+pub mod Witnesses
+pub mod Engines
+pub mod WrongEngines
+pub mod Taken
+pub mod Others
+pub mod Tallies
+pub mod Uses
+pub mod Blind
+pub mod Influence
+pub mod Free
+pub mod InfluenceMet

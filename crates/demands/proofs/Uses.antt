@@ -1,0 +1,197 @@
+-- Other used bytes at one place: what a list of places and a card show of them. Every other field, every search and the step of the
+-- clock go past them. By induction over the places. Assumes nothing.
+use mathlib.Core.Path.{_≡_, refl, ap}
+use Prim.Native.Nat.{ℕ, zero, suc}
+use mathlib.Core.List.{List, [], _∷_}
+use mathlib.Core.Bool.{Bool, true, false, cond}
+use lib.ListN.{set}
+use lib.Dec.{ltb}
+use Rattle.isdp.specs.Aids.{nameOf}
+use Rattle.isdp.specs.LifeCycle.{enabled, isEnabled, withLife, withUsed}
+use Rattle.isdp.specs.Place.{held, isFor}
+use Rattle.isdp.specs.declared.Isdp.{Isdp}
+use Rattle.places.specs.Places.{at, seek, isFree, quotas, countOf, allOff, enableAt}
+use Rattle.card.specs.Cards.{isQuiet, placeOf, enabledPlace, freePlace, freeIn, onFallback, withPlaces}
+use Rattle.card.specs.Clock.{moved, dropped, tickIn, tickOf, lostOf}
+use Rattle.card.specs.Ticks.{stepsIn, ticksToCome}
+use Rattle.card.specs.Notifications.{issued, noticeOf}
+use Rattle.card.specs.declared.Card.{Card}
+use Rattle.card.specs.declared.Phase.{Phase}
+use Rattle.card.specs.declared.Phase.the-variants.{Quiet, Trial, Back, Fallen}
+use Rattle.responses.specs.Responses.{markOf, statusBody, statusRow, rowOf, rowsFrom, statusResponse, oneStatus, dataResponse}
+
+-- the places, and the card, with u used bytes at place i
+unfoldable pub useAt : List Isdp → ℕ → ℕ → List Isdp
+useAt l i u = set l i (withUsed (at l i) u)
+
+abbrev pub reuseAt : ℕ → ℕ → Card → Card
+reuseAt i u c = withPlaces c (useAt (c .places) i u)
+
+-- a place, but for its used bytes
+pub use-at : (l : List Isdp) (i u j : ℕ) → at (useAt l i u) j ≡ withUsed (at l j) (at (useAt l i u) j .used)
+unfolding useAt
+use-at [] i u j = refl
+use-at (p ∷ ps) zero u zero = refl
+use-at (p ∷ ps) zero u (suc j) = refl
+use-at (p ∷ ps) (suc i) u zero = refl
+use-at (p ∷ ps) (suc i) u (suc j) = use-at ps i u j
+
+pub use-other : (l : List Isdp) (i u j : ℕ) → (j ≡ i → ⊥) → at (useAt l i u) j ≡ at l j
+unfolding useAt
+use-other [] i u j n = refl
+use-other (p ∷ ps) zero u zero n = absurd (n refl)
+use-other (p ∷ ps) zero u (suc j) n = refl
+use-other (p ∷ ps) (suc i) u zero n = refl
+use-other (p ∷ ps) (suc i) u (suc j) n = use-other ps i u j (λ e. n (ap suc e))
+
+-- the same number again
+pub use-same : (l : List Isdp) (i : ℕ) → useAt l i (at l i .used) ≡ l
+unfolding useAt
+use-same [] i = refl
+use-same (p ∷ ps) zero = refl
+use-same (p ∷ ps) (suc i) = rw (use-same ps i)
+
+-- a test that does not ask for used bytes
+pub use-seek : (t : Isdp → Bool) → ((p : Isdp) (u : ℕ) → t (withUsed p u) ≡ t p) → (l : List Isdp) (i u : ℕ) → seek t (useAt l i u) ≡ seek t l
+unfolding seek useAt
+use-seek t b [] i u = refl
+use-seek t b (p ∷ ps) zero u = rw (b p u)
+use-seek t b (p ∷ ps) (suc i) u = rw (use-seek t b ps i u)
+
+pub use-count : (t : Isdp → Bool) → ((p : Isdp) (u : ℕ) → t (withUsed p u) ≡ t p) → (l : List Isdp) (i u : ℕ) → countOf t (useAt l i u) ≡ countOf t l
+unfolding countOf useAt
+use-count t b [] i u = refl
+use-count t b (p ∷ ps) zero u = rw (b p u)
+use-count t b (p ∷ ps) (suc i) u = rw (use-count t b ps i u)
+
+pub use-quotas : (l : List Isdp) (i u : ℕ) → quotas (useAt l i u) ≡ quotas l
+unfolding quotas useAt
+use-quotas [] i u = refl
+use-quotas (p ∷ ps) zero u = refl
+use-quotas (p ∷ ps) (suc i) u = rw (use-quotas ps i u)
+
+use-off : (l : List Isdp) (i u : ℕ) → allOff (useAt l i u) ≡ useAt (allOff l) i u
+unfolding useAt allOff
+use-off [] i u = refl
+use-off (p ∷ ps) zero u = refl
+use-off (p ∷ ps) (suc i) u = rw (use-off ps i u)
+
+use-enable : (l : List Isdp) (i u j : ℕ) → enableAt (useAt l i u) j ≡ useAt (enableAt l j) i u
+unfolding useAt enableAt
+use-enable [] i u j = refl
+use-enable (p ∷ ps) zero u zero = refl
+use-enable (p ∷ ps) zero u (suc j) = refl
+use-enable (p ∷ ps) (suc i) u zero = ap (λ (m : List Isdp). withLife p enabled ∷ m) (use-off ps i u)
+use-enable (p ∷ ps) (suc i) u (suc j) = rw (use-enable ps i u j)
+
+-- one place set anew: another one, the same one but for its used bytes, the same one altogether
+pub set-other : (l : List Isdp) (i u j : ℕ) (x : Isdp) → (j ≡ i → ⊥) → set (useAt l i u) j x ≡ useAt (set l j x) i u
+unfolding useAt
+set-other [] i u j x n = refl
+set-other (p ∷ ps) zero u zero x n = absurd (n refl)
+set-other (p ∷ ps) zero u (suc j) x n = refl
+set-other (p ∷ ps) (suc i) u zero x n = refl
+set-other (p ∷ ps) (suc i) u (suc j) x n = rw (set-other ps i u j x (λ e. n (ap suc e)))
+
+pub set-used : (l : List Isdp) (i u : ℕ) (v : ℕ) → set (useAt l i u) i (withLife (at (useAt l i u) i) v) ≡ useAt (set l i (withLife (at l i) v)) i u
+unfolding useAt
+set-used [] i u v = refl
+set-used (p ∷ ps) zero u v = refl
+set-used (p ∷ ps) (suc i) u v = rw (set-used ps i u v)
+
+pub set-over : (l : List Isdp) (i u : ℕ) (x : Isdp) → set (useAt l i u) i x ≡ set l i x
+unfolding useAt
+set-over [] i u x = refl
+set-over (p ∷ ps) zero u x = refl
+set-over (p ∷ ps) (suc i) u x = rw (set-over ps i u x)
+
+-- a choice between two cards, each with other used bytes
+reuse-cond : (i u : ℕ) (b : Bool) (x y x' y' : Card) → x' ≡ reuseAt i u x → y' ≡ reuseAt i u y → cond b x' y' ≡ reuseAt i u (cond b x y)
+reuse-cond i u true x y x' y' e f = e
+reuse-cond i u false x y x' y' e f = f
+
+module _ (i u : ℕ) where
+  pub reuse-moved : (c : Card) (j : ℕ) (p : Phase) → moved (reuseAt i u c) j p ≡ reuseAt i u (moved c j p)
+  reuse-moved c j p = rw (use-enable (c .places) i u j)
+
+  pub enabled-reuse : (c : Card) → enabledPlace (reuseAt i u c) ≡ enabledPlace c
+  enabled-reuse c = use-seek isEnabled (λ p v. refl) (c .places) i u
+
+  pub place-reuse : (c : Card) (aid : List ℕ) → placeOf (reuseAt i u c) aid ≡ placeOf c aid
+  unfolding isFor
+  place-reuse c aid = use-seek (isFor aid) (λ p v. refl) (c .places) i u
+
+  pub free-reuse : (c : Card) → freePlace (reuseAt i u c) ≡ freePlace c
+  free-reuse c = use-seek isFree (λ p v. refl) (c .places) i u
+
+  pub on-reuse : (c : Card) → onFallback (reuseAt i u c) ≡ onFallback c
+  on-reuse c = rw (use-at (c .places) i u (c .fallback))
+
+  pub drops-reuse : (c : Card) (q : ℕ) → dropped (reuseAt i u c) q ≡ dropped c q
+  drops-reuse c q = rw (use-at (c .places) i u q)
+
+  tick-case : (c : Card) (p : Phase) → tickIn p (reuseAt i u c) ≡ reuseAt i u (tickIn p c)
+  tick-case c Quiet = refl
+  tick-case c (Trial q l n) = reuse-cond i u (ltb 1 l) _ _ _ _ refl (reuse-moved c q _)
+  tick-case c (Back l n) =
+      reuse-cond i u (ltb 1 l) _ _ _ _ refl
+      (rw (on-reuse c) (reuse-cond i u (onFallback c) _ _ _ _ refl (reuse-moved c (c .fallback) _)))
+  tick-case c (Fallen l n) = reuse-cond i u (ltb 1 l) _ _ _ _ refl refl
+
+  pub tick-reuse : (c : Card) → tickOf (reuseAt i u c) ≡ reuseAt i u (tickOf c)
+  unfolding tickOf
+  tick-reuse c = tick-case c (c .phase)
+
+  pub lost-reuse : (c : Card) → lostOf (reuseAt i u c) ≡ reuseAt i u (lostOf c)
+  unfolding lostOf
+  lost-reuse c =
+      reuse-cond i u (isQuiet (c .phase)) _ _ _ _
+      (rw (on-reuse c) (reuse-cond i u (onFallback c) _ _ _ _ refl (reuse-moved c (c .fallback) _)))
+      refl
+
+  -- the ticks still to come
+  steps-reuse : (k : ℕ) (c : Card) → stepsIn k (reuseAt i u c) ≡ stepsIn k c
+  unfolding stepsIn
+  steps-reuse zero c = refl
+  steps-reuse (suc k) c = rw (tick-reuse c, steps-reuse k (tickOf c))
+
+  pub ticks-reuse : (c : Card) → ticksToCome (reuseAt i u c) ≡ ticksToCome c
+  unfolding ticksToCome
+  ticks-reuse c = steps-reuse 300 c
+
+  -- the notification
+  named-reuse : (c : Card) (j : ℕ) → nameOf (at (useAt (c .places) i u) j) ≡ nameOf (at (c .places) j)
+  named-reuse c j = rw (use-at (c .places) i u j)
+
+  pub issued-reuse : (c : Card) → issued (reuseAt i u c) ≡ issued c
+  issued-reuse c = rw (enabled-reuse c, named-reuse c (enabledPlace c))
+
+  -- the responses
+  row-reuse : (p : Isdp) (v mark : ℕ) (life fallback : Bool) → rowOf (withUsed p v) mark life fallback ≡ rowOf p mark life fallback
+  unfolding rowOf statusRow statusBody
+  row-reuse p v mark life fallback = refl
+
+  pub rows-reuse : (l : List Isdp) (j holder place : ℕ) (life fallback : Bool) → rowsFrom holder place life fallback (useAt l j u) ≡ rowsFrom holder place life fallback l
+  unfolding rowsFrom useAt
+  rows-reuse [] j holder place life fallback = refl
+  rows-reuse (p ∷ ps) zero holder place life fallback = rw (row-reuse p u (markOf holder place) life fallback)
+  rows-reuse (p ∷ ps) (suc j) holder place life fallback = rw (rows-reuse ps j holder (suc place) life fallback)
+
+  pub status-reuse : (c : Card) (life fallback : Bool) → statusResponse (reuseAt i u c) life fallback ≡ statusResponse c life fallback
+  unfolding statusResponse
+  status-reuse c life fallback = rows-reuse (c .places) i (c .fallback) 0 life fallback
+
+  pub one-reuse : (c : Card) (j : ℕ) (life fallback : Bool) → oneStatus (reuseAt i u c) j life fallback ≡ oneStatus c j life fallback
+  unfolding oneStatus
+  one-reuse c j life fallback = rw (use-at (c .places) i u j, row-reuse (at (c .places) j) (at (useAt (c .places) i u) j .used) (markOf (c .fallback) j) life fallback)
+
+  pub room-reuse : (c : Card) → freeIn (reuseAt i u c) ≡ freeIn c
+  room-reuse c = rw (use-quotas (c .places) i u)
+
+  pub data-reuse : (c : Card) → dataResponse (reuseAt i u c) ≡ dataResponse c
+  unfolding dataResponse
+  data-reuse c = rw (use-count held (λ p v. refl) (c .places) i u, room-reuse c)
+
+pub notice-reuse : (i u v : ℕ) (c d : Card) → noticeOf (reuseAt i u c) (reuseAt i v d) ≡ noticeOf c d
+unfolding noticeOf
+notice-reuse i u v c d = rw (issued-reuse i v d)

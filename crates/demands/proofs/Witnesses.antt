@@ -1,0 +1,46 @@
+-- The runs of the witnesses, by computing. Assumes nothing.
+use mathlib.Core.Path.{refl}
+use Rattle.status.specs.Rows.{wordOf}
+use Rattle.isdp.specs.Aids.{sameBytes, padded}
+use Rattle.isdp.specs.Place.{isFor, clash, zeros, placeOk}
+use Rattle.places.specs.Places.{seek, quotas, allOf, anyOf, countOf, distinct, allOff, enableAt}
+use Rattle.card.specs.Sound.{phaseOk, sound}
+use Rattle.card.specs.Clock.{tickOf, lostOf, confirmOf}
+use Rattle.card.specs.Steps.{tickStep, lostStep, confirmStep}
+use Rattle.card.specs.Notifications.{noticeOf}
+use Rattle.card.specs.Ticks.{stepsIn, ticksToCome}
+use Rattle.card.specs.Answers.{refused, accepted}
+use Rattle.card.specs.Fresh.{freshOutcome}
+use Rattle.tlv.specs.When.{when, le?, lt?, eq?}
+use Rattle.tlv.specs.Tlv.{tagAt, lengthAt, afterLength, afterTag, headAt, expectOf, expectAt}
+use Rattle.fields.specs.Alone.{aloneAt}
+use Rattle.fields.specs.StoreData.{dgiAt, confirmationAt, namedBy, storeDataAt}
+use Rattle.fields.specs.Delete.{verificationAt, deletionAt}
+use Rattle.fields.specs.GetStatus.{noted, listedWithin, listedAt, tagsAt, listingAt}
+use Rattle.install.specs.Parameters.{protocolsWithin, protocolsAt, numberAt, grantOf, memoryAt, parametersAt}
+use Rattle.install.specs.Install.{prefixedOf, prefixedAt, namesAt, rightsAt, installOf}
+use Rattle.command.specs.Framing.{lengthWrong, classRight, classWrong, instructionWrong, parametersRight, parametersWrong, shapeRight, shapeWrong}
+use Rattle.command.specs.Requests.{fieldOf, dataWrong}
+use Rattle.responses.specs.Responses.{statusBody, statusRow, rowOf, rowsFrom, statusResponse, oneStatus, dataResponse, deletedResponse}
+use Rattle.manager.specs.Manager.{step, run}
+use Rattle.demands.specs.Change.{ticksAmong, staysOpen, Opens.enables, Opens.disables}
+use Rattle.demands.specs.Examples.{aid, fresh}
+use Rattle.demands.specs.Witnesses.{second, Witnesses}
+
+pub witnesses : Witnesses
+unfolding second ticksAmong staysOpen fresh step run wordOf sameBytes padded isFor clash zeros placeOk seek quotas allOf anyOf countOf distinct allOff enableAt phaseOk sound tickOf lostOf confirmOf tickStep lostStep confirmStep noticeOf stepsIn ticksToCome refused accepted freshOutcome when le? lt? eq? tagAt lengthAt afterLength afterTag headAt expectOf expectAt aloneAt dgiAt confirmationAt namedBy storeDataAt verificationAt deletionAt noted listedWithin listedAt tagsAt listingAt protocolsWithin protocolsAt numberAt grantOf memoryAt parametersAt prefixedOf prefixedAt namesAt rightsAt installOf lengthWrong classRight classWrong instructionWrong parametersRight parametersWrong shapeRight shapeWrong fieldOf dataWrong statusBody statusRow rowOf rowsFrom statusResponse oneStatus dataResponse deletedResponse
+witnesses =
+    record {
+      still = refl;
+      quiet = refl;
+      away = refl;
+      previous = refl;
+      fallback = refl;
+      enabling = enables (aid 3) refl refl;
+      disabling = disables (aid 2) refl refl;
+      wanted-stays = record { open-before = refl; quiet-after = refl; confirming = refl; ticked = refl; enabled = refl };
+      previous-comes-back = record { open-before = refl; quiet-after = refl; confirming = refl; ticked = refl; enabled = refl };
+      fallback-at-last = record { open-before = refl; quiet-after = refl; confirming = refl; ticked = refl; enabled = refl };
+      disabled-stays = record { open-before = refl; quiet-after = refl; confirming = refl; ticked = refl; enabled = refl };
+      lost-ends = record { open-before = refl; quiet-after = refl; confirming = refl; ticked = refl; enabled = refl };
+    }

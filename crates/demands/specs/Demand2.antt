@@ -1,0 +1,130 @@
+-- Demand 2: "Each command and event has the status word, response bytes, notification and new profile table that .. document 01
+-- give[s], and nothing further changes. From a fresh card on, exactly one profile is enabled and exactly one is the fall-back."
+-- The table, the steps and the responses are the definitions of the crates below, so all of this holds at every card reached.
+use Prim.Native.Nat.{ℕ, _<_}
+use mathlib.Core.Path.{_≡_}
+use mathlib.Core.List.{List, [], _∷_, _++_}
+use mathlib.Core.Bool.{true, false}
+use lib.ListN.{length}
+use Rattle.status.specs.StatusWords.{isDone}
+use Rattle.status.specs.Rows.{Row}
+use Rattle.status.specs.declared.Status.{Status}
+use Rattle.status.specs.declared.Status.the-variants.{DataWrong, Done}
+use Rattle.isdp.specs.LifeCycle.{isEnabled, isFinished}
+use Rattle.isdp.specs.Place.{held}
+use Rattle.places.specs.Places.{at, countOf}
+use Rattle.card.specs.Sound.{sound}
+use Rattle.card.specs.Answers.{accepted}
+use Rattle.card.specs.Notifications.{silent}
+use Rattle.card.specs.Fresh.{zeroCard, freshCard, freshOk, freshOutcome}
+use Rattle.card.specs.declared.Card.{Card}
+use Rattle.steps.specs.Steps.{stepOf, responseOf}
+use Rattle.manager.specs.Calls.{Call, asked}
+use Rattle.manager.specs.Table.{table}
+use Rattle.manager.specs.Manager.{step, run, answers}
+
+-- no row's condition holds
+abbrev pub NoneHolds : List Row → Type 0
+NoneHolds [] = Unit {0}
+NoneHolds (r ∷ rs) = (r .when ≡ false) × NoneHolds rs
+
+-- w is the word of the first row whose condition holds
+pub record First (rows : List Row) (w : Status) : Type 0 where
+  pub before : List Row
+  pub this : Row
+  pub after : List Row
+  pub split : rows ≡ before ++ this ∷ after
+  pub none-before : NoneHolds before
+  pub holds : this .when ≡ true
+  pub word : this .word ≡ w
+
+-- "Given exactly when, in this order": a word is given where its row is the first to hold, and a refusal's word nowhere else
+abbrev pub FirstRow : Type 0
+FirstRow = (c : Card) (call : Call) (w : Status) → First (table c call) w → step c call .status ≡ w
+
+abbrev pub OnlyFirstRow : Type 0
+OnlyFirstRow = (c : Card) (call : Call) → isDone (step c call .status) ≡ false → First (table c call) (step c call .status)
+
+-- "Otherwise 90 00", and only then
+abbrev pub Otherwise : Type 0
+Otherwise = (c : Card) (call : Call) → NoneHolds (table c call) → step c call .status ≡ Done
+
+abbrev pub OnlyOtherwise : Type 0
+OnlyOtherwise = (c : Card) (call : Call) → step c call .status ≡ Done → NoneHolds (table c call)
+
+-- an accepted call gives its step and its response: the whole answer
+abbrev pub Takes : Type 0
+Takes =
+    (c : Card) (call : Call)
+    → step c call .status ≡ Done
+    → step c call ≡ accepted (stepOf c (asked c call)) (responseOf c (asked c call))
+
+-- fresh: its whole answer, where its inputs keep the sizes and where not
+abbrev pub FreshTaken : Type 0
+FreshTaken =
+    (eid aid : List ℕ) (capacity quota used volatile : ℕ)
+    → freshOk eid aid capacity quota used ≡ true
+    → freshOutcome eid aid capacity quota used volatile
+    ≡ record { status = Done; card = freshCard eid aid capacity quota used volatile; response = []; notification = silent; ticks = 0 }
+
+abbrev pub FreshRefused : Type 0
+FreshRefused =
+    (eid aid : List ℕ) (capacity quota used volatile : ℕ)
+    → freshOk eid aid capacity quota used ≡ false
+    → freshOutcome eid aid capacity quota used volatile
+    ≡ record { status = DataWrong; card = zeroCard; response = []; notification = silent; ticks = 0 }
+
+-- every answer of a run is that of its call on the card then reached, so all above holds of it
+abbrev pub Answered : Type 0
+Answered =
+    (c : Card) (before : List Call) (call : Call) (after : List Call)
+    → answers c (before ++ call ∷ after)
+    ≡ answers c before ++ step (run c before) call ∷ answers (run c (before ++ call ∷ [])) after
+
+-- soundness is kept by every call and made by fresh
+abbrev pub Keeps : Type 0
+Keeps = (c : Card) (call : Call) → sound c ≡ true → sound (step c call .card) ≡ true
+
+abbrev pub Makes : Type 0
+Makes =
+    (eid aid : List ℕ) (capacity quota used volatile : ℕ)
+    → freshOutcome eid aid capacity quota used volatile .status ≡ Done
+    → sound (freshOutcome eid aid capacity quota used volatile .card) ≡ true
+
+-- a sound card: exactly one place is ENABLED, and the fall-back is one of its places, held, and DISABLED or ENABLED
+pub record Standing (c : Card) : Type 0 where
+  pub still-sound : sound c ≡ true
+  pub one-enabled : countOf isEnabled (c .places) ≡ 1
+  pub one-fallback : c .fallback < length (c .places)
+  pub fallback-held : held (at (c .places) (c .fallback)) ≡ true
+  pub fallback-finished : isFinished (at (c .places) (c .fallback) .life) ≡ true
+
+-- "From a fresh card on": whatever the calls
+abbrev pub FromFresh : Type 0
+FromFresh =
+    (eid aid : List ℕ) (capacity quota used volatile : ℕ) (calls : List Call)
+    → freshOutcome eid aid capacity quota used volatile .status ≡ Done
+    → Standing (run (freshOutcome eid aid capacity quota used volatile .card) calls)
+
+pub record Demand2 : Type 0 where
+  pub first-row : FirstRow
+  pub only-first-row : OnlyFirstRow
+  pub otherwise : Otherwise
+  pub only-otherwise : OnlyOtherwise
+  pub takes : Takes
+  pub fresh-taken : FreshTaken
+  pub fresh-refused : FreshRefused
+  pub answered : Answered
+  pub keeps : Keeps
+  pub makes : Makes
+  pub from-fresh : FromFresh
+
+-- some fresh is accepted, and on its card some call is accepted and some other refused
+pub record Demand2Met : Type 0 where
+  pub eid : List ℕ
+  pub aid : List ℕ
+  pub made : freshOutcome eid aid 1000 100 0 0 .status ≡ Done
+  pub taken : Call
+  pub accepts : step (freshOutcome eid aid 1000 100 0 0 .card) taken .status ≡ Done
+  pub refused : Call
+  pub refuses : isDone (step (freshOutcome eid aid 1000 100 0 0 .card) refused .status) ≡ false

@@ -1,0 +1,220 @@
+-- Document 01, 'What the contracts have to settle' ("These engines have to be caught") and 'Wrong engines we expect to see': each is
+-- the manager with one thing changed, and none meets the demands.
+use Prim.Native.Nat.{ℕ, suc}
+use mathlib.Core.Path.{_≡_}
+use mathlib.Core.List.{List, [], _∷_, _++_}
+use mathlib.Core.Bool.{Bool, true, false, not, cond, _&&_}
+use lib.ListN.{set}
+use lib.Dec.{ltb, leb}
+use Rattle.status.specs.StatusWords.{isDone}
+use Rattle.status.specs.declared.Status.{Status}
+use Rattle.status.specs.declared.Status.the-variants.{PolicyForbids}
+use Rattle.isdp.specs.Sizes.{wait}
+use Rattle.isdp.specs.Aids.{noAid}
+use Rattle.isdp.specs.Policy.{forbidsDisabling}
+use Rattle.isdp.specs.Place.{none}
+use Rattle.places.specs.Places.{at}
+use Rattle.card.specs.Cards.{isQuiet, enabledPlace, withPlaces, withPhase}
+use Rattle.card.specs.Clock.{nextOf, outstanding, dropped}
+use Rattle.card.specs.Steps.{stepTo, confirmStep}
+use Rattle.card.specs.Ticks.{ticksToCome}
+use Rattle.card.specs.Answers.{Outcome, refused, accepted}
+use Rattle.card.specs.declared.Card.{Card}
+use Rattle.card.specs.declared.Phase.{Phase}
+use Rattle.card.specs.declared.Phase.the-variants.{Quiet, Trial, Back, Fallen}
+use Rattle.steps.specs.Asked.{Act, Act.enable, Act.disable, Act.delete, Act.masterDelete, Act.setFallBack, Act.status, Act.keyed, Act.stored, Act.finished, Asked, Asked.unread, Asked.create, Asked.on, Asked.confirm, Asked.statusOfAll, Asked.getData, Asked.tick, Asked.lost}
+use Rattle.manager.specs.Calls.{Call, Call.Command, Call.Keyed, Call.Stored, Call.Finished, Call.Tick, Call.Lost, asked}
+use Rattle.manager.specs.Manager.{step}
+use Rattle.demands.specs.Change.{taken, isTick}
+use Rattle.demands.specs.Inputs.{Inputs, freshOf}
+use Rattle.demands.specs.Examples as example
+use Rattle.demands.specs.Engines.{Engine, answerAfter, Answered, MeetsDemand2, MeetsDemand3, MeetsCount, Meets}
+
+abbrev pub Refuted : Engine → Type 0
+Refuted e = Meets e → ⊥
+
+-- an engine that remembers nothing
+abbrev pub plain : (Card → Call → Outcome) → Engine
+plain answer =
+    record {
+      Memory = Unit {0};
+      fresh = freshOf;
+      start = λ x. tt;
+      answer = λ m c call. answer c call;
+      remember = λ m c call. tt;
+    }
+
+-- an answer with another card, and with another figure of ticks
+abbrev pub withCard : Outcome → Card → Outcome
+withCard o c =
+    record { status = o .status; card = c; response = o .response; notification = o .notification; ticks = o .ticks }
+
+abbrev pub withTicks : Outcome → ℕ → Outcome
+withTicks o n =
+    record { status = o .status; card = o .card; response = o .response; notification = o .notification; ticks = n }
+
+-- "one that refuses everything", by whatever words
+abbrev pub refusesAll : (Card → Call → Status) → Engine
+refusesAll word = plain (λ c call. refused c (word c call))
+
+-- "one with a fixed answer", whatever it is
+abbrev pub fixedAnswer : Outcome → Engine
+fixedAnswer o = plain (λ c call. o)
+
+-- "one that leaves every card as it was", whatever else it answers
+abbrev pub leavesEveryCard : (Card → Call → Outcome) → Engine
+leavesEveryCard says = plain (λ c call. withCard (says c call) c)
+
+-- demand 2 along a list of calls
+unfoldable pub Along : (e : Engine) → e .Memory → Card → List Call → Type 0
+Along e m c [] = Unit {0}
+Along e m c (call ∷ calls) =
+    Answered (e .answer m c call) (step c call) × Along e (e .remember m c call) (e .answer m c call .card) calls
+
+abbrev pub AlongFresh : Engine → List Call → Type 0
+AlongFresh e calls = Along e (e .start example.inputs) (e .fresh example.inputs .card) calls
+
+-- "all three by demand 2 on examples 1, 2 and 7"
+pub record OnExamples (e : Engine) : Type 0 where
+  pub first : AlongFresh e (example.getStatus ∷ [])
+  pub second : AlongFresh e (example.load 2 0 ++ example.setFallBack 2 ∷ [])
+  pub second-not-held : AlongFresh e (example.setFallBack 2 ∷ [])
+  pub seventh : AlongFresh e (example.load 2 0 ++ example.enable 2 ∷ example.ticks 9 ++ example.confirm 1 ∷ [])
+
+-- whatever meets demand 2 meets it there
+abbrev pub Exemplary : Type 1
+Exemplary = (e : Engine) → Meets e → OnExamples e
+
+abbrev pub RefusesAll : Type 0
+RefusesAll = (word : Card → Call → Status) → ((c : Card) (call : Call) → isDone (word c call) ≡ false) → OnExamples (refusesAll word) → ⊥
+
+abbrev pub FixedAnswer : Type 0
+FixedAnswer = (o : Outcome) → OnExamples (fixedAnswer o) → ⊥
+
+abbrev pub LeavesEveryCard : Type 0
+LeavesEveryCard = (says : Card → Call → Outcome) → OnExamples (leavesEveryCard says) → ⊥
+
+-- "one that works on the first command and then only answers 90 00": it remembers how many commands came
+abbrev pub isCommand : Call → Bool
+isCommand (Command verdict s room) = true
+isCommand (Keyed aid) = false
+isCommand (Stored aid n) = false
+isCommand (Finished aid policy) = false
+isCommand Tick = false
+isCommand Lost = false
+
+-- on the first so many
+abbrev pub onlyTheFirst : ℕ → Engine
+onlyTheFirst n =
+    record {
+      Memory = ℕ;
+      fresh = freshOf;
+      start = λ x. 0;
+      answer = λ m c call. cond (leb n m && isCommand call) (accepted (stepTo c c noAid) []) (step c call);
+      remember = λ m c call. cond (isCommand call) (suc m) m;
+    }
+
+abbrev pub firstThenOnly9000 : Engine
+firstThenOnly9000 = onlyTheFirst 1
+
+-- "one that invents its ticks-left figure", from the card handed back
+abbrev pub inventsTicks : (Card → ℕ) → Engine
+inventsTicks figure = plain (λ c call. withTicks (step c call) (figure (step c call .card)))
+
+-- no figure but the count is taken, at any card that is reached
+abbrev pub OnlyTheCount : Type 0
+OnlyTheCount =
+    (figure : Card → ℕ) → MeetsCount (inventsTicks figure) → (x : Inputs) → isDone (freshOf x .status) ≡ true
+    → (past : List Call) (call : Call)
+    → figure (answerAfter (inventsTicks figure) x past call .card) ≡ ticksToCome (answerAfter (inventsTicks figure) x past call .card)
+
+-- thirty while a change is open
+abbrev pub thirtyWhileOpen : Card → ℕ
+thirtyWhileOpen c = cond (isQuiet (c .phase)) 0 30
+
+-- "Roll-back refused because the new profile forbids disabling itself."
+abbrev pub rollsBack : Phase → Bool
+rollsBack Quiet = false
+rollsBack (Trial previous left number) = not (ltb 1 left)
+rollsBack (Back left number) = false
+rollsBack (Fallen left number) = false
+
+abbrev pub rollBackAsksPolicy : Engine
+rollBackAsksPolicy =
+    plain
+    (λ c call.
+    cond (isTick call && (rollsBack (c .phase) && forbidsDisabling (at (c .places) (enabledPlace c) .policy)))
+    (refused c PolicyForbids) (step c call))
+
+abbrev pub enables : Act → Bool
+enables enable = true
+enables disable = false
+enables delete = false
+enables (masterDelete verdict) = false
+enables setFallBack = false
+enables (status life fallback) = false
+enables keyed = false
+enables (stored n) = false
+enables (finished policy) = false
+
+abbrev pub asksEnable : Asked → Bool
+asksEnable unread = false
+asksEnable (create aid quota) = false
+asksEnable (on aid act) = enables act
+asksEnable (confirm number) = false
+asksEnable (statusOfAll life fallback) = false
+asksEnable getData = false
+asksEnable tick = false
+asksEnable lost = false
+
+-- "The previous profile deleted at the enable command, so nothing is left to return to": where its policy has it deleted once disabled
+abbrev pub previousDeletedAtEnable : Engine
+previousDeletedAtEnable =
+    plain
+    (λ c call.
+    cond ((asksEnable (asked c call) && taken c call) && dropped c (enabledPlace c))
+    (withCard (step c call) (withPlaces (step c call .card) (set (step c call .card .places) (enabledPlace c) none)))
+    (step c call))
+
+-- "A second enable during Trial that restarts the ten ticks."
+abbrev pub restarted : Phase → Card → Card
+restarted Quiet c = c
+restarted (Trial previous left number) c = withPhase c (Trial previous wait number)
+restarted (Back left number) c = c
+restarted (Fallen left number) c = c
+
+abbrev pub secondEnableRestartsWait : Engine
+secondEnableRestartsWait =
+    plain
+    (λ c call.
+    cond (asksEnable (asked c call) && not (isQuiet (c .phase))) (accepted (stepTo c (restarted (c .phase) c) noAid) [])
+    (step c call))
+
+-- "A late confirmation of number 1 accepted as that of number 2."
+abbrev pub isLate : Phase → Asked → Bool
+isLate phase unread = false
+isLate phase (create aid quota) = false
+isLate phase (on aid act) = false
+isLate phase (confirm number) = outstanding phase (nextOf number)
+isLate phase (statusOfAll life fallback) = false
+isLate phase getData = false
+isLate phase tick = false
+isLate phase lost = false
+
+abbrev pub lateConfirmationTaken : Engine
+lateConfirmationTaken = plain (λ c call. cond (isLate (c .phase) (asked c call)) (accepted (confirmStep c) []) (step c call))
+
+-- "These engines have to be caught": none of them meets the demands
+pub record Caught : Type 0 where
+  pub refusing-all : (word : Card → Call → Status) → ((c : Card) (call : Call) → isDone (word c call) ≡ false) → Refuted (refusesAll word)
+  pub fixed : (o : Outcome) → Refuted (fixedAnswer o)
+  pub leaving-every-card : (says : Card → Call → Outcome) → Refuted (leavesEveryCard says)
+  -- by demand 2 however many commands it works on, and by demand 3 at the second change
+  pub only-9000 : Refuted firstThenOnly9000
+  pub only-the-first-ones : (n : ℕ) → MeetsDemand2 (onlyTheFirst n) → ⊥
+  pub not-the-second-change : MeetsDemand3 (onlyTheFirst 4) → ⊥
+  pub inventing : Refuted (inventsTicks thirtyWhileOpen)
+  pub asking-policy : Refuted rollBackAsksPolicy
+  pub deleting-at-enable : Refuted previousDeletedAtEnable
+  pub restarting : Refuted secondEnableRestartsWait
+  pub taking-late : Refuted lateConfirmationTaken
