@@ -5,7 +5,7 @@ use mathlib.Core.List.{List, [], _∷_, _++_, map}
 use mathlib.Core.Bool.{true}
 use Rattle.status.specs.Rows.{wordOf}
 use Rattle.status.specs.declared.Status.the-variants as status
-use Rattle.tlv.specs.When.{when, le?, lt?, eq?}
+use Rattle.choice.specs.Choice.{pick, atMost, isBelow, isSame}
 use Rattle.tlv.specs.Tlv.{tagAt, lengthAt, afterLength, afterTag, headAt, expectOf, expectAt}
 use Rattle.fields.specs.Alone.{aloneAt}
 use Rattle.fields.specs.StoreData.{dgiAt, confirmationAt, namedBy, storeDataAt}
@@ -48,5 +48,5 @@ examples =
     ∷ []
 
 worked : map (λ (e : Example). readOf (e .bytes) 1000) examples ≡ map (λ (e : Example). e .answer) examples
-unfolding readOf wordOf lengthWrong classRight classWrong instructionWrong parametersRight parametersWrong shapeRight shapeWrong fieldOf dataWrong when le? lt? eq? tagAt lengthAt afterLength afterTag headAt expectOf expectAt aloneAt dgiAt confirmationAt namedBy storeDataAt verificationAt deletionAt noted listedWithin listedAt tagsAt listingAt protocolsWithin protocolsAt numberAt grantOf memoryAt parametersAt prefixedOf prefixedAt namesAt rightsAt installOf
+unfolding readOf wordOf lengthWrong classRight classWrong instructionWrong parametersRight parametersWrong shapeRight shapeWrong fieldOf dataWrong pick atMost isBelow isSame tagAt lengthAt afterLength afterTag headAt expectOf expectAt aloneAt dgiAt confirmationAt namedBy storeDataAt verificationAt deletionAt noted listedWithin listedAt tagsAt listingAt protocolsWithin protocolsAt numberAt grantOf memoryAt parametersAt prefixedOf prefixedAt namesAt rightsAt installOf
 worked = refl

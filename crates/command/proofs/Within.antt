@@ -7,7 +7,7 @@ use mathlib.Core.Bool.{Bool}
 use native.Mathlib.Omega.{arith}
 use Rattle.tlv.specs.Tlv.{expectAt}
 use Rattle.tlv.specs.declared.Element.the-variants as element
-use Rattle.tlv.proofs.Branches.{each-eq, each-lt}
+use Rattle.choice.proofs.Branches.{each-eq, each-lt}
 use Rattle.tlv.proofs.Inside.{Expected, expect-parts}
 use Rattle.fields.specs.Alone.{aloneAt, partOf}
 use Rattle.fields.specs.StoreData.{dgiAt, onDgi, confirmationAt, namedBy, storeDataAt}

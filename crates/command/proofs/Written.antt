@@ -11,7 +11,7 @@ use lib.Dec.{eqb}
 use borrow.Author.Tests.{eqb-true, ne-eqb, eq-eqb, not-false}
 use Rattle.tlv.specs.Tlv.{byte}
 use Rattle.tlv.specs.Encoding.{window, Bytes}
-use Rattle.tlv.proofs.Branches.{each-eq}
+use Rattle.choice.proofs.Branches.{each-eq}
 use Rattle.fields.specs.StoreData.{storeDataAt}
 use Rattle.fields.specs.Delete.{deletionAt}
 use Rattle.fields.specs.GetStatus.{listingAt}

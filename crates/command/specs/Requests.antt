@@ -3,7 +3,7 @@
 use Prim.Native.Nat.{ℕ}
 use mathlib.Core.List.{List}
 use mathlib.Core.Bool.{Bool, true, false}
-use Rattle.tlv.specs.When.{when, eq?}
+use Rattle.choice.specs.Choice.{pick, isSame}
 use Rattle.fields.specs.StoreData.{storeDataAt}
 use Rattle.fields.specs.Delete.{deletionAt}
 use Rattle.fields.specs.GetStatus.{listingAt}
@@ -58,10 +58,10 @@ listingOf s end = onListing (listingAt s 5 end)
 -- GET DATA has no data field
 unfoldable pub fieldOf : List ℕ → ℕ → Field
 fieldOf s capacity =
-    when (eq? (byte s 1) 0xE6) (createOf s (dataEnd s) capacity)
-    (when (eq? (byte s 1) 0xE4) (deletionOf s (dataEnd s))
-    (when (eq? (byte s 1) 0xE2) (storeDataOf s (dataEnd s))
-    (when (eq? (byte s 1) 0xF2) (listingOf s (dataEnd s))
+    pick (isSame (byte s 1) 0xE6) (createOf s (dataEnd s) capacity)
+    (pick (isSame (byte s 1) 0xE4) (deletionOf s (dataEnd s))
+    (pick (isSame (byte s 1) 0xE2) (storeDataOf s (dataEnd s))
+    (pick (isSame (byte s 1) 0xF2) (listingOf s (dataEnd s))
     (field.Found request.GetData))))
 
 abbrev pub isWrong : Field → Bool

@@ -25,7 +25,7 @@ use Rattle.card.specs.Answers.{refused, accepted}
 use Rattle.card.specs.Fresh.{freshCard, freshOutcome}
 use Rattle.card.specs.declared.Card.{Card}
 use Rattle.card.specs.declared.Phase.the-variants.{Quiet, Trial}
-use Rattle.tlv.specs.When.{when, le?, lt?, eq?}
+use Rattle.choice.specs.Choice.{pick, atMost, isBelow, isSame}
 use Rattle.tlv.specs.Tlv.{tagAt, lengthAt, afterLength, afterTag, headAt, expectOf, expectAt}
 use Rattle.tlv.specs.Encoding.{window, Bytes}
 use Rattle.fields.specs.Alone.{aloneAt}
@@ -120,7 +120,7 @@ bytes-of (x ∷ xs) e zero = ltb-true x 256 (and-l _ _ e)
 bytes-of (x ∷ xs) e (suc i) = bytes-of xs (and-r (ltb x 256) _ e) i
 
 reads : (readAs createBytes (readOf createBytes 1000) ≡ some (written.create asks)) × (readAs createBytes (readOf createBytes 100) ≡ some (written.create asks))
-unfolding readOf wordOf window lengthWrong classRight classWrong instructionWrong parametersRight parametersWrong shapeRight shapeWrong fieldOf dataWrong when le? lt? eq? tagAt lengthAt afterLength afterTag headAt expectOf expectAt protocolsWithin protocolsAt numberAt grantOf memoryAt parametersAt prefixedOf prefixedAt namesAt rightsAt installOf
+unfolding readOf wordOf window lengthWrong classRight classWrong instructionWrong parametersRight parametersWrong shapeRight shapeWrong fieldOf dataWrong pick atMost isBelow isSame tagAt lengthAt afterLength afterTag headAt expectOf expectAt protocolsWithin protocolsAt numberAt grantOf memoryAt parametersAt prefixedOf prefixedAt namesAt rightsAt installOf
 reads = (refl, refl)
 
 encoded-in : (capacity : ℕ) → readAs createBytes (readOf createBytes capacity) ≡ some (written.create asks) → Encodes capacity (written.create asks) createBytes
@@ -169,7 +169,7 @@ abbrev switchCall : ℕ → Call
 switchCall dgi = Command 0 (0x80 ∷ 0xE2 ∷ 0x88 ∷ 0x00 ∷ 0x0A ∷ 0x3A ∷ dgi ∷ 0x07 ∷ 0x4F ∷ 0x05 ∷ aidEnding 2) 256
 
 pub opening-answers-met : OpeningAnswersMet
-unfolding step accepted wordOf lengthWrong classRight classWrong instructionWrong parametersRight parametersWrong shapeRight shapeWrong fieldOf dataWrong when le? lt? eq? tagAt lengthAt afterLength afterTag headAt expectOf expectAt aloneAt dgiAt namedBy storeDataAt sound phaseOk allOf placeOk zeros padded distinct anyOf clash isFor countOf quotas sameBytes seek
+unfolding step accepted wordOf lengthWrong classRight classWrong instructionWrong parametersRight parametersWrong shapeRight shapeWrong fieldOf dataWrong pick atMost isBelow isSame tagAt lengthAt afterLength afterTag headAt expectOf expectAt aloneAt dgiAt namedBy storeDataAt sound phaseOk allOf placeOk zeros padded distinct anyOf clash isFor countOf quotas sameBytes seek
 opening-answers-met =
     record {
       card = pair enabled disabled;

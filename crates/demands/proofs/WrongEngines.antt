@@ -27,7 +27,7 @@ use Rattle.card.specs.Notifications.{noticeOf}
 use Rattle.card.specs.Ticks.{stepsIn, ticksToCome}
 use Rattle.card.specs.Answers.{Outcome, refused, accepted}
 use Rattle.card.specs.Fresh.{freshOutcome}
-use Rattle.tlv.specs.When.{when, le?, lt?, eq?}
+use Rattle.choice.specs.Choice.{pick, atMost, isBelow, isSame}
 use Rattle.tlv.specs.Tlv.{tagAt, lengthAt, afterLength, afterTag, headAt, expectOf, expectAt}
 use Rattle.fields.specs.Alone.{aloneAt}
 use Rattle.fields.specs.StoreData.{dgiAt, confirmationAt, namedBy, storeDataAt}
@@ -76,7 +76,7 @@ record Runs : Type 0 where
   late-quiet : isQuiet (cardAfter lateConfirmationTaken inputs (load 2 0 ++ enable 2 ∷ (ticks 10 ++ confirm 1 ∷ [])) .phase) ≡ true
 
 runs : Runs
-unfolding reached remembered ticksAmong staysOpen step run wordOf sameBytes padded isFor clash zeros placeOk seek quotas allOf anyOf countOf distinct allOff enableAt phaseOk sound tickOf lostOf confirmOf tickStep lostStep confirmStep noticeOf stepsIn ticksToCome refused accepted freshOutcome when le? lt? eq? tagAt lengthAt afterLength afterTag headAt expectOf expectAt aloneAt dgiAt confirmationAt namedBy storeDataAt verificationAt deletionAt noted listedWithin listedAt tagsAt listingAt protocolsWithin protocolsAt numberAt grantOf memoryAt parametersAt prefixedOf prefixedAt namesAt rightsAt installOf lengthWrong classRight classWrong instructionWrong parametersRight parametersWrong shapeRight shapeWrong fieldOf dataWrong statusBody statusRow rowOf rowsFrom statusResponse oneStatus dataResponse deletedResponse
+unfolding reached remembered ticksAmong staysOpen step run wordOf sameBytes padded isFor clash zeros placeOk seek quotas allOf anyOf countOf distinct allOff enableAt phaseOk sound tickOf lostOf confirmOf tickStep lostStep confirmStep noticeOf stepsIn ticksToCome refused accepted freshOutcome pick atMost isBelow isSame tagAt lengthAt afterLength afterTag headAt expectOf expectAt aloneAt dgiAt confirmationAt namedBy storeDataAt verificationAt deletionAt noted listedWithin listedAt tagsAt listingAt protocolsWithin protocolsAt numberAt grantOf memoryAt parametersAt prefixedOf prefixedAt namesAt rightsAt installOf lengthWrong classRight classWrong instructionWrong parametersRight parametersWrong shapeRight shapeWrong fieldOf dataWrong statusBody statusRow rowOf rowsFrom statusResponse oneStatus dataResponse deletedResponse
 runs =
     record {
       made = refl;

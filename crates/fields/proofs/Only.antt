@@ -6,7 +6,8 @@ use native.Mathlib.Omega.{arith}
 use Rattle.tlv.specs.Tlv.{expectAt}
 use Rattle.tlv.specs.declared.Element.{Element}
 use Rattle.tlv.specs.declared.Element.the-variants as element
-use Rattle.tlv.proofs.Branches.{each-eq, each-found}
+use Rattle.choice.proofs.Branches.{each-eq}
+use Rattle.tlv.proofs.Branches.{each-found}
 use Rattle.tlv.proofs.Inside.{Expected, expect-parts}
 use Rattle.fields.specs.Alone.{aloneAt}
 

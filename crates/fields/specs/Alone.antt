@@ -2,7 +2,7 @@
 -- A value is handed on as its place and its number of bytes.
 use Prim.Native.Nat.{ℕ, _-_}
 use mathlib.Core.List.{List}
-use Rattle.tlv.specs.When.{when, eq?}
+use Rattle.choice.specs.Choice.{pick, isSame}
 use Rattle.tlv.specs.Tlv.{expectAt, onFound}
 use Rattle.tlv.specs.declared.Element.{Element}
 use Rattle.tlv.specs.declared.Element.the-variants as element
@@ -11,7 +11,7 @@ use Rattle.tlv.specs.declared.Part.{Part}
 unfoldable pub aloneAt : List ℕ → ℕ → ℕ → ℕ → ℕ → ℕ → Element
 aloneAt s at end tag low high =
     onFound (expectAt s at end tag low high) element.Wrong λ start stop.
-    when (eq? stop end) (element.Found start stop) element.Wrong
+    pick (isSame stop end) (element.Found start stop) element.Wrong
 
 abbrev pub partOf : ℕ → ℕ → Part
 partOf start stop = record { start = start; len = stop - start }

@@ -2,7 +2,7 @@
 -- the data field alone tells the two apart (000, Tables 20 and 33).
 use Prim.Native.Nat.{ℕ}
 use mathlib.Core.List.{List}
-use Rattle.tlv.specs.When.{when, eq?}
+use Rattle.choice.specs.Choice.{pick, isSame}
 use Rattle.tlv.specs.Tlv.{expectAt, onFound}
 use Rattle.fields.specs.Alone.{aloneAt, partOf}
 use Rattle.fields.specs.declared.Verification.{Verification}
@@ -26,7 +26,7 @@ onFilled verification.Filled w x = x
 unfoldable pub deletionAt : List ℕ → ℕ → ℕ → Deletion
 deletionAt s at end =
     onFound (expectAt s at end 0x4F 5 16) deletion.Wrong λ start stop.
-    when (eq? stop end) (deletion.Delete (partOf start stop))
+    pick (isSame stop end) (deletion.Delete (partOf start stop))
     (onFound (expectAt s stop end 0xB6 0 255) deletion.Wrong λ from to.
     onFilled (verificationAt s from to) deletion.Wrong
     (onFound (aloneAt s to end 0x9E 1 255) deletion.Wrong λ _ _.

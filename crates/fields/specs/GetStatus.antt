@@ -3,7 +3,7 @@
 use Prim.Native.Nat.{ℕ, zero, suc, _-_}
 use mathlib.Core.List.{List}
 use mathlib.Core.Bool.{Bool, true, false}
-use Rattle.tlv.specs.When.{when, le?, lt?, eq?}
+use Rattle.choice.specs.Choice.{pick, atMost, isBelow, isSame}
 use Rattle.tlv.specs.Tlv.{tagAt, expectAt, onFound}
 use Rattle.tlv.specs.declared.TagRead.{TagRead}
 use Rattle.tlv.specs.declared.TagRead.the-variants as tag
@@ -16,9 +16,9 @@ use Rattle.fields.specs.declared.Listing.the-variants as listing
 -- one more listed tag
 unfoldable pub noted : ℕ → Bool → Bool → Tags
 noted t life fallBack =
-    when (eq? t 0x4F) (tags.Shown life fallBack)
-    (when (eq? t 0x9F70) (tags.Shown true fallBack)
-    (when (eq? t 0x53) (tags.Shown life true)
+    pick (isSame t 0x4F) (tags.Shown life fallBack)
+    (pick (isSame t 0x9F70) (tags.Shown true fallBack)
+    (pick (isSame t 0x53) (tags.Shown life true)
     tags.Wrong))
 
 abbrev pub onTag {ℓ} : {X : Type ℓ} → TagRead → X → (ℕ → ℕ → X) → X
@@ -33,7 +33,7 @@ onShown (tags.Shown life fallBack) w f = f life fallBack
 unfoldable pub listedWithin : ℕ → List ℕ → ℕ → ℕ → Bool → Bool → Tags
 listedWithin zero s at end life fallBack = tags.Shown life fallBack
 listedWithin (suc n) s at end life fallBack =
-    when (le? end at) (tags.Shown life fallBack)
+    pick (atMost end at) (tags.Shown life fallBack)
     (onTag (tagAt s at end) tags.Wrong λ t next.
     onShown (noted t life fallBack) tags.Wrong λ l f.
     listedWithin n s next end l f)
@@ -43,15 +43,15 @@ listedAt s at end = listedWithin (end - at) s at end false false
 
 unfoldable pub tagsAt : List ℕ → ℕ → ℕ → Tags
 tagsAt s at end =
-    when (eq? at end) (tags.Shown true true)
+    pick (isSame at end) (tags.Shown true true)
     (onFound (aloneAt s at end 0x5C 0 255) tags.Wrong λ start stop.
     listedAt s start stop)
 
 -- all rows where 4F is empty, else the row of its AID
 abbrev pub rowsOf : ℕ → ℕ → Bool → Bool → Listing
 rowsOf start stop life fallBack =
-    when (eq? (stop - start) 0) (listing.All life fallBack)
-    (when (lt? (stop - start) 5) listing.Wrong
+    pick (isSame (stop - start) 0) (listing.All life fallBack)
+    (pick (isBelow (stop - start) 5) listing.Wrong
     (listing.One (partOf start stop) life fallBack))
 
 unfoldable pub listingAt : List ℕ → ℕ → ℕ → Listing

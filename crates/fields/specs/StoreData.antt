@@ -3,7 +3,7 @@
 use Prim.Native.Nat.{ℕ, _+_, _-_, _*_}
 use mathlib.Core.List.{List}
 use lib.ListN.{length}
-use Rattle.tlv.specs.When.{when, lt?, eq?}
+use Rattle.choice.specs.Choice.{pick, isBelow, isSame}
 use Rattle.tlv.specs.Tlv.{byte, onFound}
 use Rattle.tlv.specs.declared.Part.{Part}
 use Rattle.fields.specs.Alone.{aloneAt, partOf}
@@ -18,10 +18,10 @@ numberAt s at = byte s at * 256 + byte s (at + 1)
 
 unfoldable pub dgiAt : List ℕ → ℕ → ℕ → Dgi
 dgiAt s at end =
-    when (lt? (length s) end) dgi.Wrong
-    (when (lt? end (at + 3)) dgi.Wrong
-    (when (lt? 0xFE (byte s (at + 2))) dgi.Wrong
-    (when (eq? (at + 3 + byte s (at + 2)) end)
+    pick (isBelow (length s) end) dgi.Wrong
+    (pick (isBelow end (at + 3)) dgi.Wrong
+    (pick (isBelow 0xFE (byte s (at + 2))) dgi.Wrong
+    (pick (isSame (at + 3 + byte s (at + 2)) end)
     (dgi.Found (numberAt s at) (at + 3))
     dgi.Wrong)))
 
@@ -38,14 +38,14 @@ confirmationAt s at end =
 -- the command that a DGI names, on an AID
 unfoldable pub namedBy : ℕ → Part → StoreData
 namedBy number aid =
-    when (eq? number 0x3A03) (store.Enable aid)
-    (when (eq? number 0x3A04) (store.Disable aid)
-    (when (eq? number 0x3A05) (store.SetFallBack aid)
+    pick (isSame number 0x3A03) (store.Enable aid)
+    (pick (isSame number 0x3A04) (store.Disable aid)
+    (pick (isSame number 0x3A05) (store.SetFallBack aid)
     store.Wrong))
 
 unfoldable pub storeDataAt : List ℕ → ℕ → ℕ → StoreData
 storeDataAt s at end =
     onDgi (dgiAt s at end) store.Wrong λ number contents.
-    when (eq? number 0x3A08) (confirmationAt s contents end)
+    pick (isSame number 0x3A08) (confirmationAt s contents end)
     (onFound (aloneAt s contents end 0x4F 5 16) store.Wrong λ start stop.
     namedBy number (partOf start stop))

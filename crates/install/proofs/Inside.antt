@@ -10,7 +10,7 @@ use Rattle.tlv.specs.declared.LengthRead.{LengthRead}
 use Rattle.tlv.specs.declared.LengthRead.the-variants as len
 use Rattle.tlv.specs.declared.Element.{Element}
 use Rattle.tlv.specs.declared.Element.the-variants as element
-use Rattle.tlv.proofs.Branches.{each-lt, each-eq}
+use Rattle.choice.proofs.Branches.{each-lt, each-eq}
 use Rattle.tlv.proofs.Inside.{Inside, length-inside}
 use Rattle.tlv.specs.declared.Part.{Part}
 use Rattle.tlv.specs.Tlv.{expectAt}

@@ -6,7 +6,7 @@ use native.Mathlib.Omega.{arith}
 use lib.ListN.{length}
 use Rattle.tlv.specs.Tlv.{byte}
 use Rattle.tlv.specs.Encoding.{window}
-use Rattle.tlv.proofs.Branches.{each-eq}
+use Rattle.choice.proofs.Branches.{each-eq}
 use Rattle.tlv.proofs.Windows.{window-first}
 use Rattle.tlv.proofs.Written.{window-two}
 use Rattle.install.specs.Parameters.{numberAt}

@@ -10,7 +10,7 @@ use Rattle.tlv.specs.Tlv.{expectAt}
 use Rattle.tlv.specs.declared.Element.{Element}
 use Rattle.tlv.specs.declared.Element.the-variants as element
 use Rattle.tlv.specs.Encoding.{window, Bytes, encodeLength, encodeElement}
-use Rattle.tlv.proofs.Branches.{each-le, each-lt, each-eq}
+use Rattle.choice.proofs.Branches.{each-le, each-lt, each-eq}
 use Rattle.tlv.proofs.Inside.{expect-parts}
 use Rattle.tlv.proofs.Windows.{window-none, window-length, window-cut}
 use Rattle.tlv.proofs.Written.{length-written, element-written}

@@ -3,7 +3,7 @@
 -- token (length 0)".
 use Prim.Native.Nat.{ℕ, _+_, _-_}
 use mathlib.Core.List.{List}
-use Rattle.tlv.specs.When.{when, lt?, eq?}
+use Rattle.choice.specs.Choice.{pick, isBelow, isSame}
 use Rattle.tlv.specs.Tlv.{lengthAt, onFound}
 use Rattle.tlv.specs.declared.LengthRead.{LengthRead}
 use Rattle.tlv.specs.declared.LengthRead.the-variants as len
@@ -19,9 +19,9 @@ use Rattle.install.specs.Parameters.{parametersAt}
 unfoldable pub prefixedOf : ℕ → ℕ → ℕ → LengthRead → Element
 prefixedOf end low high len.Wrong = element.Wrong
 prefixedOf end low high (len.Length count start) =
-    when (lt? (end - start) count) element.Wrong
-    (when (lt? count low) element.Wrong
-    (when (lt? high count) element.Wrong
+    pick (isBelow (end - start) count) element.Wrong
+    (pick (isBelow count low) element.Wrong
+    (pick (isBelow high count) element.Wrong
     (element.Found start (start + count))))
 
 unfoldable pub prefixedAt : List ℕ → ℕ → ℕ → ℕ → ℕ → Element
@@ -39,10 +39,10 @@ namesAt s at end =
 unfoldable pub rightsAt : List ℕ → ℕ → ℕ → Element
 rightsAt s at end =
     onFound (prefixedAt s at end 1 3) element.Wrong λ start stop.
-    when (eq? (stop - start) 2) element.Wrong
+    pick (isSame (stop - start) 2) element.Wrong
     (onFound (prefixedAt s stop end 0 255) element.Wrong λ from to.
     onFound (prefixedAt s to end 0 0) element.Wrong λ _ last.
-    when (eq? last end) (element.Found from to) element.Wrong)
+    pick (isSame last end) (element.Found from to) element.Wrong)
 
 abbrev pub onGranted {ℓ} : {X : Type ℓ} → Quota → X → (ℕ → X) → X
 onGranted quota.Wrong w f = w

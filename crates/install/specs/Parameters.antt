@@ -4,7 +4,7 @@ use Prim.Native.Nat.{ℕ, zero, suc, _+_, _-_, _*_, _≤_}
 use mathlib.Core.Path.{_≡_}
 use mathlib.Core.List.{List}
 use lib.ListN.{length}
-use Rattle.tlv.specs.When.{when, le?, lt?, eq?}
+use Rattle.choice.specs.Choice.{pick, atMost, isBelow, isSame}
 use Rattle.tlv.specs.Tlv.{byte, expectAt, onFound}
 use Rattle.install.specs.declared.Protocols.{Protocols}
 use Rattle.install.specs.declared.Protocols.the-variants as protocols
@@ -15,7 +15,7 @@ use Rattle.install.specs.declared.Quota.the-variants as quota
 unfoldable pub protocolsWithin : ℕ → List ℕ → ℕ → ℕ → Protocols
 protocolsWithin zero s at end = protocols.Listed
 protocolsWithin (suc n) s at end =
-    when (le? end at) protocols.Listed
+    pick (atMost end at) protocols.Listed
     (onFound (expectAt s at end 0x81 2 2) protocols.Wrong λ _ stop. protocolsWithin n s stop end)
 
 unfoldable pub protocolsAt : List ℕ → ℕ → ℕ → Protocols
@@ -31,7 +31,7 @@ pairAt s at = byte s at * 256 + byte s (at + 1)
 
 -- "2 or 4 bytes"
 unfoldable pub numberAt : List ℕ → ℕ → ℕ → ℕ
-numberAt s start count = when (eq? count 2) (pairAt s start) (pairAt s start * 65536 + pairAt s (start + 2))
+numberAt s start count = pick (isSame count 2) (pairAt s start) (pairAt s start * 65536 + pairAt s (start + 2))
 
 -- so many bytes are there, and they are 2 or 4
 pub record Counted (s : List ℕ) (start count : ℕ) : Type 0 where
@@ -42,14 +42,14 @@ pub record Counted (s : List ℕ) (start count : ℕ) : Type 0 where
 
 -- "1 up to capacity"
 unfoldable pub grantOf : ℕ → ℕ → Quota
-grantOf number capacity = when (eq? number 0) quota.Wrong (when (lt? capacity number) quota.Wrong (quota.Granted number))
+grantOf number capacity = pick (isSame number 0) quota.Wrong (pick (isBelow capacity number) quota.Wrong (quota.Granted number))
 
 -- the cumulative granted non-volatile memory, alone in its window
 unfoldable pub memoryAt : List ℕ → ℕ → ℕ → ℕ → Quota
 memoryAt s at end capacity =
     onFound (expectAt s at end 0x83 2 4) quota.Wrong λ start stop.
-    when (eq? stop end)
-    (when (eq? (stop - start) 3) quota.Wrong (grantOf (numberAt s start (stop - start)) capacity))
+    pick (isSame stop end)
+    (pick (isSame (stop - start) 3) quota.Wrong (grantOf (numberAt s start (stop - start)) capacity))
     quota.Wrong
 
 -- C9, then EF, and nothing after
@@ -58,4 +58,4 @@ parametersAt s at end capacity =
     onFound (expectAt s at end 0xC9 1 255) quota.Wrong λ start stop.
     onListed (protocolsAt s start stop)
     (onFound (expectAt s stop end 0xEF 0 255) quota.Wrong λ from to.
-    when (eq? to end) (memoryAt s from to capacity) quota.Wrong)
+    pick (isSame to end) (memoryAt s from to capacity) quota.Wrong)

@@ -8,10 +8,10 @@ use mathlib.Core.Bool.{Bool, true, false}
 use native.Mathlib.Omega.{arith}
 use lib.ListN.{length, take, drop, length-take, length-drop, drop-of-length-le}
 use lib.Seq.{drop-drop, take-all, drop-length}
-use Rattle.text.specs.When.{when}
+use Rattle.choice.specs.Choice.{pick}
 use Rattle.text.specs.Words.{before, part}
 use Rattle.text.proofs.WordLists.{before-le}
-use Rattle.text.proofs.Branches.{by-test, by-lt, by-le, lt!, nlt! }
+use Rattle.choice.proofs.Branches.{each, by-lt, by-le, lt!, nlt!}
 use Rattle.lines.specs.Lines.{Line, TooLong, lineOf, linesOf}
 use Rattle.lines.specs.Window.{windowOf, gives, found, idle, tailFrom, stopFrom, lineFrom, stepOf}
 use Rattle.lines.specs.Cuts.{handed, Settled}
@@ -76,9 +76,9 @@ idle-right s at skipping last p =
       hands = λ f g.
           p f
           ∙ ap (λ (x : List ℕ). toCome skipping (x ++ f)) (sym (drop-length s))
-          ∙ ap (λ (x : List Line). x ++ toCome skipping (drop (length s) s ++ f)) (by-test (λ (x : Found). [] ≡ handed s x) last (λ e. refl) (λ e. refl));
-      inside = by-test (Inside (length s)) last (λ e. tt) (λ e. tt);
-      settled = by-test (λ (x : Found). Settled last x (drop (length s) s)) last (λ e. (e, drop-length s)) (λ e. (e, (none-before s, omega arith)));
+          ∙ ap (λ (x : List Line). x ++ toCome skipping (drop (length s) s ++ f)) (each (λ (x : Found). [] ≡ handed s x) last (λ e. refl) (λ e. refl));
+      inside = each (Inside (length s)) last (λ e. tt) (λ e. tt);
+      settled = each (λ (x : Found). Settled last x (drop (length s) s)) last (λ e. (e, drop-length s)) (λ e. (e, (none-before s, omega arith)));
       ends = refl;
       falls = omega arith;
       falls-last = λ e. omega arith;
@@ -148,7 +148,7 @@ module _ (s : List ℕ) (from : ℕ) (last : Bool) where
       by-le (Right s from false last) (length s) from
       (λ h. idle-right s from false last (λ f. ap (λ (x : List ℕ). linesOf (x ++ f)) (drop-of-length-le s h)))
       (λ h.
-      by-test (Right s from false last) last
+      each (Right s from false last) last
       (last-right none h)
       (λ e. by-lt (Right s from false last) 4096 (length s - from) (long-right none h e) (wait-right none h e)))
 
@@ -206,7 +206,7 @@ past-right s at last h p =
     }
 
 pub step-right : (s : List ℕ) (at : ℕ) (skipping last : Bool) → Right s at skipping last (stepOf s at skipping last)
-unfolding stepOf when
+unfolding stepOf pick
 step-right s at false last = line-right s at last
 step-right s at true last =
     by-le (Right s at true last) (length s) (stopFrom s at)

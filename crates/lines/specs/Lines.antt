@@ -3,7 +3,7 @@
 use Prim.Native.Nat.{ℕ}
 use mathlib.Core.List.{List, [], _∷_, _++_}
 use lib.ListN.{length}
-use Rattle.text.specs.When.{when, lt?, eq?}
+use Rattle.choice.specs.Choice.{pick, isBelow, isSame}
 
 -- the most bytes of a line, without its end
 abbrev pub longest : ℕ
@@ -17,7 +17,7 @@ pub data Line : Type 0 where
   TooLong : Line
 
 unfoldable pub lineOf : List ℕ → Line
-lineOf line = when (lt? longest (length line)) TooLong (Whole line)
+lineOf line = pick (isBelow longest (length line)) TooLong (Whole line)
 
 -- what stands after the last LF; no bytes are no line
 unfoldable pub lastOf : List ℕ → List Line
@@ -27,7 +27,7 @@ lastOf (c ∷ cs) = lineOf (c ∷ cs) ∷ []
 -- the lines of a text, where `line` was read of the one that it begins in
 unfoldable pub linesOn : List ℕ → List ℕ → List Line
 linesOn line [] = lastOf line
-linesOn line (c ∷ cs) = when (eq? c lineEnd) (lineOf line ∷ linesOn [] cs) (linesOn (line ++ (c ∷ [])) cs)
+linesOn line (c ∷ cs) = pick (isSame c lineEnd) (lineOf line ∷ linesOn [] cs) (linesOn (line ++ (c ∷ [])) cs)
 
 unfoldable pub linesOf : List ℕ → List Line
 linesOf text = linesOn [] text

@@ -4,7 +4,7 @@ use Prim.Native.Nat.{ℕ, _+_, _-_}
 use mathlib.Core.List.{List}
 use mathlib.Core.Bool.{Bool, true, false}
 use lib.ListN.{length, take, drop}
-use Rattle.text.specs.When.{when, le?, lt?}
+use Rattle.choice.specs.Choice.{pick, atMost, isBelow}
 use Rattle.text.specs.Words.{before}
 use Rattle.text.specs.Put.{after}
 use Rattle.lines.specs.Lines.{longest, lineEnd}
@@ -23,18 +23,18 @@ abbrev pub gives : Window → Found → Step
 gives window found = record { window = window; found = found }
 
 unfoldable pub found : ℕ → ℕ → Found
-found from to = when (lt? longest (to - from)) TooLong (Line from to)
+found from to = pick (isBelow longest (to - from)) TooLong (Line from to)
 
 -- all was handed out
 unfoldable pub idle : ℕ → Bool → Bool → Step
-idle end skipping last = gives (windowOf end end skipping) (when last End More)
+idle end skipping last = gives (windowOf end end skipping) (pick last End More)
 
 -- what stands from a place on holds no LF
 unfoldable pub tailFrom : List ℕ → ℕ → Bool → Step
 tailFrom s from last =
-    when (le? (length s) from) (idle (length s) false last)
-    (when last (gives (windowOf (length s) (length s) false) (found from (length s)))
-    (when (lt? longest (length s - from)) (gives (windowOf (length s) (length s) true) TooLong)
+    pick (atMost (length s) from) (idle (length s) false last)
+    (pick last (gives (windowOf (length s) (length s) false) (found from (length s)))
+    (pick (isBelow longest (length s - from)) (gives (windowOf (length s) (length s) true) TooLong)
     (gives (windowOf from (length s) false) More)))
 
 -- the place of the first LF from a place on, or the end
@@ -43,14 +43,14 @@ stopFrom s from = from + before lineEnd (drop from s)
 
 unfoldable pub lineFrom : List ℕ → ℕ → Bool → Step
 lineFrom s from last =
-    when (lt? (stopFrom s from) (length s)) (gives (windowOf (stopFrom s from + 1) (length s) false) (found from (stopFrom s from)))
+    pick (isBelow (stopFrom s from) (length s)) (gives (windowOf (stopFrom s from + 1) (length s) false) (found from (stopFrom s from)))
     (tailFrom s from last)
 
 -- a line that was told as too long is passed over first
 unfoldable pub stepOf : List ℕ → ℕ → Bool → Bool → Step
 stepOf s at skipping last =
-    when skipping
-    (when (le? (length s) (stopFrom s at)) (idle (length s) true last) (lineFrom s (stopFrom s at + 1) last))
+    pick skipping
+    (pick (atMost (length s) (stopFrom s at)) (idle (length s) true last) (lineFrom s (stopFrom s at + 1) last))
     (lineFrom s at last)
 
 abbrev pub nextOf : Window → List ℕ → Bool → Step

@@ -6,14 +6,14 @@ use native.Mathlib.Omega.{arith}
 use mathlib.Core.List.{List, [], _∷_}
 use mathlib.Core.Bool.{Bool, true, false}
 use lib.ListN.{length, getD, set, drop, length-drop}
-use Rattle.text.specs.When.{when, lt?}
+use Rattle.choice.specs.Choice.{pick, isBelow}
 use Rattle.text.specs.Words.{sameOf}
 use Rattle.text.specs.Hex.{nibbleOf, pairsOf, isHex, byteOf, spelled, hexByteOf, hexReadOf, hexLeft, hexText, hexWord}
 use Rattle.text.specs.declared.hex.Byte.the-variants as byte
 use Rattle.text.specs.declared.hex.HexRead.{HexRead}
 use Rattle.text.specs.declared.hex.HexRead.the-variants.{Bytes, NoRoom, Wrong}
 use Rattle.text.specs.Put.{put}
-use Rattle.text.proofs.Branches.{by-test, by-lt, yes!, no!, lt!, nlt! }
+use Rattle.choice.proofs.Branches.{each, by-lt, yes!, no!, lt!, nlt!}
 use Rattle.text.proofs.PutLaws.{put-none, put-cons}
 use Rattle.text.proofs.Rest.{rest, rest-one, rest-two, rest-end}
 
@@ -74,7 +74,7 @@ byte-not (a ∷ b ∷ []) h = absurd (h refl)
 byte-not (a ∷ b ∷ c ∷ r) h = refl
 
 pub byte-two : (s : List ℕ) → length s ≡ 2
-    → hexByteOf s ≡ when (lt? 15 (nibbleOf (getD s 0 0))) byte.Wrong (when (lt? 15 (nibbleOf (getD s 1 0))) byte.Wrong (byte.Value (byteOf (getD s 0 0) (getD s 1 0))))
+    → hexByteOf s ≡ pick (isBelow 15 (nibbleOf (getD s 0 0))) byte.Wrong (pick (isBelow 15 (nibbleOf (getD s 1 0))) byte.Wrong (byte.Value (byteOf (getD s 0 0) (getD s 1 0))))
 unfolding hexByteOf
 byte-two [] h = absurd (omega arith)
 byte-two (a ∷ []) h = absurd (omega arith)
@@ -87,7 +87,7 @@ unfolding isHex
 hex-none [] h = refl
 hex-none (c ∷ cs) h = absurd (omega arith)
 
-pub hex-some : (s : List ℕ) → (length s ≡ 0 → ⊥) → isHex s ≡ when (sameOf s (45 ∷ [])) true (pairsOf s)
+pub hex-some : (s : List ℕ) → (length s ≡ 0 → ⊥) → isHex s ≡ pick (sameOf s (45 ∷ [])) true (pairsOf s)
 unfolding isHex
 hex-some [] h = absurd (h refl)
 hex-some (c ∷ cs) h = refl
@@ -123,7 +123,7 @@ word-some (b ∷ bs) h = refl
 pub hex-within : (s : List ℕ) (room n : ℕ) → Bytes n ≡ hexReadOf s room → n ≤ room
 unfolding hexReadOf
 hex-within s room n h =
-    by-test (λ (x : HexRead). Bytes n ≡ x → n ≤ room) (isHex s)
+    each (λ (x : HexRead). Bytes n ≡ x → n ≤ room) (isHex s)
     (λ e.
     by-lt (λ (x : HexRead). Bytes n ≡ x → n ≤ room) room (length (spelled s))
     (λ k q. let z : _≡_ {A = ℕ} 0 1 = cc in absurd (omega arith))

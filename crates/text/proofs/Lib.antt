@@ -1,5 +1,4 @@
 -- Laws that several proofs cite, here and in the crates above.
-pub mod Branches
 pub mod Rest
 pub mod WordLaws
 pub mod WordLists

@@ -3,7 +3,7 @@ use Prim.Native.Nat.{ℕ, _+_, _-_, _*_, _/_, _%_}
 use mathlib.Core.List.{List, [], _∷_}
 use mathlib.Core.Bool.{Bool, true, false}
 use lib.ListN.{length}
-use Rattle.text.specs.When.{when, le?, lt?}
+use Rattle.choice.specs.Choice.{pick, atMost, isBelow}
 use Rattle.text.specs.Words.{sameOf}
 use Rattle.text.specs.declared.hex.Byte.{Byte}
 use Rattle.text.specs.declared.hex.Byte.the-variants as byte
@@ -13,23 +13,23 @@ use Rattle.text.specs.declared.hex.HexRead.the-variants.{Bytes, NoRoom, 
 -- the value of a digit, or 16
 unfoldable pub nibbleOf : ℕ → ℕ
 nibbleOf c =
-    when (lt? c 48) 16
-    (when (le? c 57) (c - 48)
-    (when (lt? c 65) 16
-    (when (le? c 70) (c - 55)
-    (when (lt? c 97) 16
-    (when (le? c 102) (c - 87) 16)))))
+    pick (isBelow c 48) 16
+    (pick (atMost c 57) (c - 48)
+    (pick (isBelow c 65) 16
+    (pick (atMost c 70) (c - 55)
+    (pick (isBelow c 97) 16
+    (pick (atMost c 102) (c - 87) 16)))))
 
 -- is it pairs of digits?
 unfoldable pub pairsOf : List ℕ → Bool
 pairsOf [] = true
 pairsOf (a ∷ []) = false
-pairsOf (a ∷ b ∷ r) = when (lt? 15 (nibbleOf a)) false (when (lt? 15 (nibbleOf b)) false (pairsOf r))
+pairsOf (a ∷ b ∷ r) = pick (isBelow 15 (nibbleOf a)) false (pick (isBelow 15 (nibbleOf b)) false (pairsOf r))
 
 -- is it a byte string? The empty text is none: `-` stands for no bytes
 unfoldable pub isHex : List ℕ → Bool
 isHex [] = false
-isHex (c ∷ cs) = when (sameOf (c ∷ cs) (45 ∷ [])) true (pairsOf (c ∷ cs))
+isHex (c ∷ cs) = pick (sameOf (c ∷ cs) (45 ∷ [])) true (pairsOf (c ∷ cs))
 
 -- the byte that two digits spell. (A digit's value is below 16.)
 unfoldable pub byteOf : ℕ → ℕ → ℕ
@@ -45,20 +45,20 @@ spelled (a ∷ b ∷ r) = byteOf a b ∷ spelled r
 unfoldable pub hexByteOf : List ℕ → Byte
 hexByteOf [] = byte.Wrong
 hexByteOf (a ∷ []) = byte.Wrong
-hexByteOf (a ∷ b ∷ []) = when (lt? 15 (nibbleOf a)) byte.Wrong (when (lt? 15 (nibbleOf b)) byte.Wrong (byte.Value (byteOf a b)))
+hexByteOf (a ∷ b ∷ []) = pick (isBelow 15 (nibbleOf a)) byte.Wrong (pick (isBelow 15 (nibbleOf b)) byte.Wrong (byte.Value (byteOf a b)))
 hexByteOf (a ∷ b ∷ c ∷ r) = byte.Wrong
 
 -- how many bytes a text gives, where `room` of them fit
 unfoldable pub hexReadOf : List ℕ → ℕ → HexRead
-hexReadOf s room = when (isHex s) (when (lt? room (length (spelled s))) NoRoom (Bytes (length (spelled s)))) Wrong
+hexReadOf s room = pick (isHex s) (pick (isBelow room (length (spelled s))) NoRoom (Bytes (length (spelled s)))) Wrong
 
 -- which bytes it leaves; none where it is refused
 unfoldable pub hexLeft : List ℕ → ℕ → List ℕ
-hexLeft s room = when (isHex s) (when (lt? room (length (spelled s))) [] (spelled s)) []
+hexLeft s room = pick (isHex s) (pick (isBelow room (length (spelled s))) [] (spelled s)) []
 
 -- the hex digit of the low four bits
 unfoldable pub glyphOf : ℕ → ℕ
-glyphOf n = when (lt? (n % 16) 10) (48 + n % 16) (55 + n % 16)
+glyphOf n = pick (isBelow (n % 16) 10) (48 + n % 16) (55 + n % 16)
 
 -- two digits a byte
 unfoldable pub hexText : List ℕ → List ℕ

@@ -1,7 +1,7 @@
 -- Decimal numbers as text, in ASCII.
 use Prim.Native.Nat.{ℕ, zero, suc, _+_, _-_, _*_, _/_, _%_}
 use mathlib.Core.List.{List, [], _∷_, _++_}
-use Rattle.text.specs.When.{when, lt?}
+use Rattle.choice.specs.Choice.{pick, isBelow}
 use Rattle.text.specs.declared.numbers.Number.{Number}
 use Rattle.text.specs.declared.numbers.Number.the-variants.{Value, Wrong}
 
@@ -9,9 +9,9 @@ use Rattle.text.specs.declared.numbers.Number.the-variants.{Value, Wrong
 unfoldable pub digitsOn : ℕ → ℕ → List ℕ → Number
 digitsOn most value [] = Value value
 digitsOn most value (c ∷ cs) =
-    when (lt? c 48) Wrong
-    (when (lt? 57 c) Wrong
-    (when (lt? most (value * 10 + (c - 48))) Wrong
+    pick (isBelow c 48) Wrong
+    (pick (isBelow 57 c) Wrong
+    (pick (isBelow most (value * 10 + (c - 48))) Wrong
     (digitsOn most (value * 10 + (c - 48)) cs)))
 
 -- no digits are no number
@@ -22,7 +22,7 @@ decimalOf most (c ∷ cs) = digitsOn most 0 (c ∷ cs)
 -- the last k + 1 digits of n at the most, with no zeros in front
 unfoldable pub digitsText : ℕ → ℕ → List ℕ
 digitsText zero n = (48 + n % 10) ∷ []
-digitsText (suc k) n = when (lt? n 10) ((48 + n % 10) ∷ []) (digitsText k (n / 10) ++ ((48 + n % 10) ∷ []))
+digitsText (suc k) n = pick (isBelow n 10) ((48 + n % 10) ∷ []) (digitsText k (n / 10) ++ ((48 + n % 10) ∷ []))
 
 -- a number of 64 bits has at most 20 digits
 abbrev pub decimalText : ℕ → List ℕ

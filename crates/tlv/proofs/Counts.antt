@@ -10,10 +10,10 @@ use Rattle.tlv.specs.declared.ElementRead.{ElementRead}
 use Rattle.tlv.specs.declared.ElementRead.the-variants as read
 use Rattle.tlv.specs.declared.ListRead.{ListRead}
 use Rattle.tlv.specs.declared.ListRead.the-variants as list
-use Rattle.tlv.specs.When.{when}
+use Rattle.choice.specs.Choice.{pick}
 use Rattle.tlv.specs.Tlv.{headAt}
 use Rattle.tlv.specs.Lists.{closed, elementOf, restOf, listOf, listWithin, listAt, elementAt}
-use Rattle.tlv.proofs.Branches.{each-lt, each-eq, lt!, nlt!, eq!, ne! }
+use Rattle.choice.proofs.Branches.{each-lt, each-eq, lt!, nlt!, eq!, ne!}
 use Rattle.tlv.proofs.Inside.{head-inside, element-of}
 
 module _ (s : List ℕ) (at end level : ℕ) where
@@ -31,7 +31,7 @@ module _ (s : List ℕ) (at end level : ℕ) where
   element-of-same p q head.Wrong g f = refl
   element-of-same p q (head.Head t b start stop) g f =
       let i = head-inside s at end t b start stop g in
-      ap (λ (l : ListRead). when b (closed stop l) (read.Next stop)) (f start stop (i .past) (i .within))
+      ap (λ (l : ListRead). pick b (closed stop l) (read.Next stop)) (f start stop (i .past) (i .within))
 
   rest-of-same : (p q : ℕ → ListRead) (inner : ℕ → ℕ → ListRead) (r : ElementRead) → r ≡ elementOf inner (headAt s at end)
       → ((next : ℕ) → at < next → p next ≡ q next) → restOf p r ≡ restOf q r

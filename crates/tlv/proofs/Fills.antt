@@ -11,11 +11,11 @@ use Rattle.tlv.specs.declared.HeadRead.the-variants as head
 use Rattle.tlv.specs.declared.ElementRead.the-variants as read
 use Rattle.tlv.specs.declared.ListRead.{ListRead}
 use Rattle.tlv.specs.declared.ListRead.the-variants as list
-use Rattle.tlv.specs.When.{when}
+use Rattle.choice.specs.Choice.{pick}
 use Rattle.tlv.specs.Tlv.{headAt}
 use Rattle.tlv.specs.Lists.{closed, elementOf, restOf, listOf, listWithin, listAt, elementAt}
 use Rattle.tlv.specs.Filled.{Level, Filled, ended, primitive, constructed}
-use Rattle.tlv.proofs.Branches.{each-lt, each-eq, nlt!, eq!, ne! }
+use Rattle.choice.proofs.Branches.{each-lt, each-eq, nlt!, eq!, ne!}
 use Rattle.tlv.proofs.Inside.{head-inside}
 use Rattle.tlv.proofs.Counts.{list-onward}
 
@@ -28,7 +28,7 @@ module _ (s : List ℕ) (at end level : ℕ) (l : Level level) (rest : ℕ → L
     (goes : (next : ℕ) → list.Filled ≡ rest next → Filled s level next end)
     (holds : (start stop : ℕ) → list.Filled ≡ inner start stop → Filled s (level + 1) start stop) where
   element-fills : (r : HeadRead) → r ≡ headAt s at end → list.Filled ≡ restOf rest (elementOf inner r) → Filled s level at end
-  unfolding elementOf restOf when
+  unfolding elementOf restOf pick
   element-fills head.Wrong g q = let z : _≡_ {A = ℕ} 0 1 = cc in absurd (omega arith)
   element-fills (head.Head t true start stop) g q =
       let b = closed-both rest stop (inner start stop) q in constructed l g (holds start stop (b .0)) (goes stop (b .1))
@@ -60,7 +60,7 @@ filled-held {s} {level} {at} {end} (primitive {t} {start} {stop} l g r) = let i 
 filled-held {s} {level} {at} {end} (constructed {t} {start} {stop} l g n r) = let i = head-inside s at end t true start stop g in (omega arith, omega arith)
 
 pub filled-list : {s : List ℕ} {level at end : ℕ} → Filled s level at end → list.Filled ≡ listAt s at end level
-unfolding listOf restOf elementAt elementOf closed when
+unfolding listOf restOf elementAt elementOf closed pick
 filled-list {s} {level} {at} {end} (ended l h) = list-onward s at at level _
     (nlt! _ (omega arith) (nlt! _ (omega arith) (nlt! _ (omega arith) (nlt! _ (omega arith) (eq! _ refl refl)))))
 filled-list {s} {level} {at} {end} (primitive {t} {start} {stop} l g r) =

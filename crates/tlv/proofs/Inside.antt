@@ -20,7 +20,7 @@ use Rattle.tlv.specs.declared.ListRead.{ListRead}
 use Rattle.tlv.specs.declared.ListRead.the-variants as list
 use Rattle.tlv.specs.Tlv.{tagAt, lengthAt, headAt, afterTag, afterLength, expectAt, expectOf}
 use Rattle.tlv.specs.Lists.{elementOf, closed, elementAt}
-use Rattle.tlv.proofs.Branches.{each, each-le, each-lt, each-eq}
+use Rattle.choice.proofs.Branches.{each, each-le, each-lt, each-eq}
 
 -- something read from `at` on, with the next place `next`
 pub record Passed (s : List ℕ) (at next end : ℕ) : Type 0 where

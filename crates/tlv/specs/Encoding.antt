@@ -4,7 +4,7 @@ use Prim.Native.Nat.{ℕ, _/_, _%_, _<_}
 use mathlib.Core.List.{List, [], _∷_, _++_}
 use lib.ListN.{length}
 use lib.Seq.{slice}
-use Rattle.tlv.specs.When.{when, lt?}
+use Rattle.choice.specs.Choice.{pick, isBelow}
 use Rattle.tlv.specs.Tlv.{byte}
 
 -- the bytes from `from` up to `to`
@@ -20,10 +20,10 @@ abbrev pub encodeNumber : ℕ → List ℕ
 encodeNumber n = n / 256 ∷ n % 256 ∷ []
 
 unfoldable pub encodeTag : ℕ → List ℕ
-encodeTag t = when (lt? t 256) (t ∷ []) (encodeNumber t)
+encodeTag t = pick (isBelow t 256) (t ∷ []) (encodeNumber t)
 
 unfoldable pub encodeLength : ℕ → List ℕ
-encodeLength n = when (lt? n 0x80) (n ∷ []) (0x81 ∷ n ∷ [])
+encodeLength n = pick (isBelow n 0x80) (n ∷ []) (0x81 ∷ n ∷ [])
 
 unfoldable pub encodeElement : ℕ → List ℕ → List ℕ
 encodeElement t value = encodeTag t ++ (encodeLength (length value) ++ value)

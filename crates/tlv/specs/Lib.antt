@@ -1,5 +1,4 @@
 -- Document 01, 'Reading a command': the TLV forms.
-pub mod When
 pub mod Tlv
 pub mod Lists
 pub mod Filled

@@ -12,7 +12,7 @@ use Rattle.tlv.specs.declared.ElementRead.the-variants as element
 use Rattle.tlv.specs.declared.ListRead.{ListRead}
 use Rattle.tlv.specs.declared.ListRead.the-variants as list
 use Rattle.tlv.specs.Tlv.{headAt}
-use Rattle.tlv.specs.When.{when, lt?, eq?}
+use Rattle.choice.specs.Choice.{pick, isBelow, isSame}
 
 -- the element that stops at `stop`, where its inner list is filled
 unfoldable pub closed : ℕ → ListRead → ElementRead
@@ -24,7 +24,7 @@ unfoldable pub elementOf : (ℕ → ℕ → ListRead) → HeadRead → ElementRe
 unfolding closed
 elementOf inner head.Wrong = element.Wrong
 elementOf inner (head.Head t constructed start stop) =
-    when constructed (closed stop (inner start stop)) (element.Next stop)
+    pick constructed (closed stop (inner start stop)) (element.Next stop)
 
 -- the rest of a list after an element
 unfoldable pub restOf : (ℕ → ListRead) → ElementRead → ListRead
@@ -34,11 +34,11 @@ restOf rest (element.Next next) = rest next
 -- a list: its window lies in the bytes, its level is 1 to 4, and it is at its end or `elements` says what stands there
 unfoldable pub listOf : List ℕ → ℕ → ℕ → ℕ → ListRead → ListRead
 listOf s at end level elements =
-    when (lt? (length s) end) list.Wrong
-    (when (lt? end at) list.Wrong
-    (when (lt? level 1) list.Wrong
-    (when (lt? 4 level) list.Wrong
-    (when (eq? at end) list.Filled elements))))
+    pick (isBelow (length s) end) list.Wrong
+    (pick (isBelow end at) list.Wrong
+    (pick (isBelow level 1) list.Wrong
+    (pick (isBelow 4 level) list.Wrong
+    (pick (isSame at end) list.Filled elements))))
 
 unfoldable pub listWithin : ℕ → List ℕ → ℕ → ℕ → ℕ → ListRead
 unfolding listOf elementOf restOf

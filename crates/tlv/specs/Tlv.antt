@@ -5,7 +5,7 @@ use mathlib.Core.List.{List}
 use mathlib.Core.Bool.{Bool}
 use lib.ListN.{length, getD}
 use lib.Dec.{eqb}
-use Rattle.tlv.specs.When.{when, le?, lt?, eq?}
+use Rattle.choice.specs.Choice.{pick, atMost, isBelow, isSame}
 use Rattle.tlv.specs.declared.TagRead.{TagRead}
 use Rattle.tlv.specs.declared.TagRead.the-variants as tag
 use Rattle.tlv.specs.declared.LengthRead.{LengthRead}
@@ -25,23 +25,23 @@ isConstructed first = eqb (first / 32 % 2) 1
 -- "one byte, or two when the low five bits of the first are all ones; the second byte is then below 80"
 unfoldable pub tagAt : List ℕ → ℕ → ℕ → TagRead
 tagAt s at end =
-    when (lt? (length s) end) tag.Wrong
-    (when (le? end at) tag.Wrong
-    (when (eq? (byte s at % 32) 31)
-    (when (le? end (at + 1)) tag.Wrong
-    (when (le? 0x80 (byte s (at + 1))) tag.Wrong
+    pick (isBelow (length s) end) tag.Wrong
+    (pick (atMost end at) tag.Wrong
+    (pick (isSame (byte s at % 32) 31)
+    (pick (atMost end (at + 1)) tag.Wrong
+    (pick (atMost 0x80 (byte s (at + 1))) tag.Wrong
     (tag.Tag (byte s at * 256 + byte s (at + 1)) (isConstructed (byte s at)) (at + 1 + 1))))
     (tag.Tag (byte s at) (isConstructed (byte s at)) (at + 1))))
 
 -- "length is 00-7F, or 81 with 80-FF; other forms are wrong"
 unfoldable pub lengthAt : List ℕ → ℕ → ℕ → LengthRead
 lengthAt s at end =
-    when (lt? (length s) end) len.Wrong
-    (when (le? end at) len.Wrong
-    (when (lt? (byte s at) 0x80) (len.Length (byte s at) (at + 1))
-    (when (eq? (byte s at) 0x81)
-    (when (le? end (at + 1)) len.Wrong
-    (when (lt? (byte s (at + 1)) 0x80) len.Wrong
+    pick (isBelow (length s) end) len.Wrong
+    (pick (atMost end at) len.Wrong
+    (pick (isBelow (byte s at) 0x80) (len.Length (byte s at) (at + 1))
+    (pick (isSame (byte s at) 0x81)
+    (pick (atMost end (at + 1)) len.Wrong
+    (pick (isBelow (byte s (at + 1)) 0x80) len.Wrong
     (len.Length (byte s (at + 1)) (at + 1 + 1))))
     len.Wrong)))
 
@@ -49,7 +49,7 @@ lengthAt s at end =
 unfoldable pub afterLength : ℕ → ℕ → Bool → LengthRead → HeadRead
 afterLength end t constructed len.Wrong = head.Wrong
 afterLength end t constructed (len.Length count start) =
-    when (le? (start + count) end) (head.Head t constructed start (start + count)) head.Wrong
+    pick (atMost (start + count) end) (head.Head t constructed start (start + count)) head.Wrong
 
 unfoldable pub afterTag : List ℕ → ℕ → TagRead → HeadRead
 unfolding afterLength
@@ -65,9 +65,9 @@ headAt s at end = afterTag s end (tagAt s at end)
 unfoldable pub expectOf : ℕ → ℕ → ℕ → HeadRead → Element
 expectOf expected low high head.Wrong = element.Wrong
 expectOf expected low high (head.Head t constructed start stop) =
-    when (eq? t expected)
-    (when (lt? (stop - start) low) element.Wrong
-    (when (lt? high (stop - start)) element.Wrong
+    pick (isSame t expected)
+    (pick (isBelow (stop - start) low) element.Wrong
+    (pick (isBelow high (stop - start)) element.Wrong
     (element.Found start stop)))
     element.Wrong
 

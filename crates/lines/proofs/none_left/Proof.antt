@@ -1,16 +1,16 @@
 -- `none_left` meets its contract. Each exit names the test that leads to it.
 use mathlib.Core.Path.{refl}
-use Rattle.text.specs.When.{when}
+use Rattle.choice.specs.Choice.{pick}
 use Rattle.lines.specs.Window.{idle}
 use Rattle.lines.proofs.none_left.Statement.{statement}
 use Rattle.lines.proofs.none_left.Tie as tie
 
 returns : tie.Need-returns
-unfolding idle when
+unfolding idle pick
 returns c = rw (c .if1 .taken) refl
 
 returns-2 : tie.Need-returns-2
-unfolding idle when
+unfolding idle pick
 returns-2 c = rw (c .if1 .left) refl
 
 pub none-left-spec : {M : Type 1} → statement M

@@ -1,0 +1,2 @@
+-- The rules of a choice.
+pub mod Branches

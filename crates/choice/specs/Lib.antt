@@ -1,0 +1,2 @@
+-- A choice by a test.
+pub mod Choice
