@@ -5,3 +5,4 @@ pub mod Counts
 pub mod Rewrites
 pub mod Outcomes
 pub mod Freshness
+pub mod Policies

@@ -7,3 +7,4 @@ pub mod Notifications
 pub mod Steps
 pub mod Answers
 pub mod Fresh
+pub mod Policies

@@ -7,7 +7,7 @@ use mathlib.Core.Option.{Option, none, some}
 use mathlib.Core.Bool.{false}
 use native.Mathlib.Omega.{arith}
 use Rattle.tlv.specs.Tlv.{byte}
-use Rattle.choice.proofs.Branches.{eq!, ne!}
+use Rattle.choice.proofs.Branches.{eq!, ne! }
 use Rattle.fields.specs.Grammar.{Stored, storedOf, Deleted, deletedOf, Asked, listedOf}
 use Rattle.fields.specs.declared.StoreData.{StoreData}
 use Rattle.fields.specs.declared.StoreData.the-variants as stored

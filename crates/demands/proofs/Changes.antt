@@ -3,7 +3,7 @@
 use mathlib.Core.Path.{_≡_, refl, ap, sym, _∙_}
 use Prim.Native.Nat.{ℕ, suc, _+_, _-_, _<_}
 use native.Mathlib.Omega.{arith}
-use mathlib.Core.List.{List, [], _∷_, _++_}
+use mathlib.Core.List.{List, [], _∷_}
 use mathlib.Core.Bool.{Bool, true, false, not, cond, _&&_, false≢true}
 use lib.Dec.{ltb, eqb}
 use borrow.Author.Tests.{eq-eqb, ne-eqb, ltb-true, ltb-false, lt-ltb, le-ltb}
@@ -23,8 +23,16 @@ use Rattle.steps.proofs.Opens.{only}
 use Rattle.manager.specs.Calls.{Call, Call.Command, Call.Keyed, Call.Stored, Call.Finished, Call.Tick, Call.Lost, asked}
 use Rattle.manager.specs.Manager.{step, run}
 use Rattle.manager.proofs.Kept.{step-sound}
-use Rattle.demands.specs.Change.{Holds, isTick, isConfirmation, confirms, ticksAmong, staysOpen, Unmoved, holder, heir, lastTick, Change, LostChange}
+use Rattle.demands.specs.Change.{isTick, isConfirmation, confirms, ticksAmong, staysOpen, Unmoved, holder, heir}
 use Rattle.demands.proofs.Frames.{frame, tick-step, Closed, confirm-does}
+
+-- the profile at this place is enabled
+abbrev pub Holds : Card → ℕ → Type 0
+Holds c i = isEnabled (at (c .places) i) ≡ true
+
+-- the tick that closes a change from place p where nothing is confirmed
+abbrev pub closingTick : ℕ → ℕ → ℕ
+closingTick p f = cond (eqb p f) 20 30
 
 -- an open change k ticks after its opening: the place wanted, the previous one and the fall-back are g, p and f
 data Stage (g p f k : ℕ) (c : Card) : Type 0 where
@@ -41,7 +49,7 @@ record Known (g p f k : ℕ) (c : Card) : Type 0 where
 -- after one more tick it is open still, or closed with the fall-back enabled
 data Ticked (g p f k : ℕ) (c : Card) : Type 0 where
   goes : Stage g p f k c → Ticked g p f k c
-  ends : c .phase ≡ Quiet → Holds c f → k ≡ lastTick p f → Ticked g p f k c
+  ends : c .phase ≡ Quiet → Holds c f → k ≡ closingTick p f → Ticked g p f k c
 
 module _ (g p f : ℕ) where
   from-trial : (k : ℕ) (c : Card) (l n : ℕ) → Sound c → c .phase ≡ Trial p l n → l + k ≡ 10 → Holds c g → Ticked g p f (suc k) (tickOf c)
@@ -127,7 +135,7 @@ tick-fallback c = fallback-case c (c .phase)
 -- what one call leads to, by whether it is a tick and whether it confirms: open still, or closed with the right profile enabled
 data Led (g p f k : ℕ) (d : Card) : Bool → Bool → Type 0 where
   open-still : {t b : Bool} → Known g p f (cond t 1 0 + k) d → Led g p f k d t b
-  over : {t b : Bool} → d .phase ≡ Quiet → Holds d (heir g p f b k) → (t ≡ true → k + 1 ≡ lastTick p f) → Led g p f k d t b
+  over : {t b : Bool} → d .phase ≡ Quiet → Holds d (heir g p f b k) → (t ≡ true → k + 1 ≡ closingTick p f) → Led g p f k d t b
 
 module _ (g p f : ℕ) where
   led-ticked : (k : ℕ) (d : Card) → sound d ≡ true → d .fallback ≡ f → Ticked g p f (suc k) d → Led g p f k d true false
@@ -171,7 +179,7 @@ module _ (g p f : ℕ) where
   led-over k d t b (open-still x) q = absurd (false≢true (sym (open-known _ d x) ∙ q))
   led-over k d t b (over r v z) q = v
 
-  led-due : (k : ℕ) (d : Card) (t b : Bool) → Led g p f k d t b → isQuiet (d .phase) ≡ true → t ≡ true → k + 1 ≡ lastTick p f
+  led-due : (k : ℕ) (d : Card) (t b : Bool) → Led g p f k d t b → isQuiet (d .phase) ≡ true → t ≡ true → k + 1 ≡ closingTick p f
   led-due k d t b (open-still x) q h = absurd (false≢true (sym (open-known _ d x) ∙ q))
   led-due k d t b (over r v z) q h = z h
 
@@ -186,11 +194,13 @@ module _ (g p f : ℕ) where
       let z : (cond (isTick call) 1 0 + ticksAmong calls) + k ≡ ticksAmong calls + (cond (isTick call) 1 0 + k) = omega arith in
       rw z y
 
--- the card after one call more
-pub run-snoc : (calls : List Call) (call : Call) (c : Card) → run c (calls ++ call ∷ []) ≡ step (run c calls) call .card
-unfolding run
-run-snoc [] call c = refl
-run-snoc (x ∷ calls) call c = run-snoc calls call (step c x .card)
+-- the course of a change, told by places
+pub record Course (g p f : ℕ) (c : Card) : Type 0 where
+  pub still : (calls : List Call) → staysOpen (run c) calls ≡ true → sound (run c calls) ≡ true
+  pub thirty : (calls : List Call) → staysOpen (run c) calls ≡ true → ticksAmong calls < 30
+  pub meanwhile : (calls : List Call) → staysOpen (run c) calls ≡ true → Holds (run c calls) (holder g p f (ticksAmong calls))
+  pub close : (calls : List Call) (call : Call) → staysOpen (run c) calls ≡ true → isQuiet (step (run c calls) call .card .phase) ≡ true → Holds (step (run c calls) call .card) (heir g p f (confirms (run c calls) call) (ticksAmong calls))
+  pub due : (calls : List Call) → staysOpen (run c) calls ≡ true → isQuiet (step (run c calls) Tick .card .phase) ≡ true → ticksAmong calls + 1 ≡ closingTick p f
 
 -- from a card just opened
 module _ (g p f : ℕ) (c : Card) (w : Known g p f 0 c) where
@@ -199,17 +209,14 @@ module _ (g p f : ℕ) (c : Card) (w : Known g p f 0 c) where
       let z : ticksAmong calls + 0 ≡ ticksAmong calls = omega arith in
       rw z at (along g p f calls 0 c w e)
 
-  change : Change g p f (run c)
-  unfolding run
-  change =
+  course : Course g p f c
+  course =
       record {
-        opens = open-known g p f 0 c w;
-        meanwhile = λ calls e. let x = after calls e in stage-known g p f _ _ (x .still) (x .stage) .0;
+        still = λ calls e. after calls e .still;
         thirty = λ calls e. let x = after calls e in stage-known g p f _ _ (x .still) (x .stage) .1;
-        close = λ calls call e q. rw (run-snoc calls call c) (led-over g p f _ _ (isTick call) (confirms (run c calls) call) (led g p f _ (run c calls) call (after calls e)) (rw (run-snoc calls call c) at q));
-        due = λ calls e q. led-due g p f _ _ true false (led g p f _ (run c calls) Tick (after calls e)) (rw (run-snoc calls Tick c) at q) refl;
-        confirmed = λ calls call e q. rw (run-snoc calls call c, closes g p f _ (run c calls) call (after calls e) q .quiet);
-        still = λ calls call e q. rw (run-snoc calls call c) (frame (run c calls) call (after calls e .still) (open-known g p f _ _ (after calls e)) q);
+        meanwhile = λ calls e. let x = after calls e in stage-known g p f _ _ (x .still) (x .stage) .0;
+        close = λ calls call e q. led-over g p f _ _ (isTick call) (confirms (run c calls) call) (led g p f _ (run c calls) call (after calls e)) q;
+        due = λ calls e q. led-due g p f _ _ true false (led g p f _ (run c calls) Tick (after calls e)) q refl;
       }
 
 -- the card just after the opening step: place g is enabled, p was
@@ -220,11 +227,17 @@ pub record Opened (g p f : ℕ) (c : Card) : Type 0 where
   pub trial : c .phase ≡ Trial p wait number
   pub wanted : Holds c g
 
-pub opened-change : (g p f : ℕ) (c : Card) → Opened g p f c → Change g p f (run c)
-opened-change g p f c o =
-    change g p f c (record { still = o .still; same = o .same; stage = trial wait (o .number) (o .trial) (omega arith) (o .wanted) })
+pub opened-course : (g p f : ℕ) (c : Card) → Opened g p f c → Course g p f c
+opened-course g p f c o =
+    course g p f c (record { still = o .still; same = o .same; stage = trial wait (o .number) (o .trial) (omega arith) (o .wanted) })
 
 -- a change opened by a lost network is one at its last stage, twenty ticks on, whatever the previous place was
+pub record LostCourse (f : ℕ) (c : Card) : Type 0 where
+  pub ten : (calls : List Call) → staysOpen (run c) calls ≡ true → ticksAmong calls < 10
+  pub throughout : (calls : List Call) → staysOpen (run c) calls ≡ true → Holds (run c calls) f
+  pub close : (calls : List Call) (call : Call) → staysOpen (run c) calls ≡ true → isQuiet (step (run c calls) call .card .phase) ≡ true → Holds (step (run c calls) call .card) f
+  pub due : (calls : List Call) → staysOpen (run c) calls ≡ true → isQuiet (step (run c calls) Tick .card .phase) ≡ true → ticksAmong calls + 1 ≡ 10
+
 late : (f k : ℕ) → holder f (suc f) f (k + 20) ≡ f
 late f k = rw (le-ltb (k + 20) 10 (omega arith), le-ltb (k + 20) 20 (omega arith))
 
@@ -232,7 +245,7 @@ late-heir : (f k : ℕ) (b : Bool) → heir f (suc f) f b (k + 20) ≡ f
 late-heir f k true = late f k
 late-heir f k false = refl
 
-late-due : (f k : ℕ) → (k + 20) + 1 ≡ lastTick (suc f) f → k + 1 ≡ 10
+late-due : (f k : ℕ) → (k + 20) + 1 ≡ closingTick (suc f) f → k + 1 ≡ 10
 late-due f k e =
     let n : (k + 20) + 1 ≡ 30 = rw (ne-eqb (suc f) f (λ q. omega arith)) at e in
     omega arith
@@ -250,13 +263,11 @@ module _ (f n : ℕ) (c : Card) (s : sound c ≡ true) (b : c .fallback ≡ f) (
       let x = stage-known f (suc f) f _ _ (w .still) (w .stage) in
       (rw (late f (ticksAmong calls)) at (x .0), let y = x .1 in omega arith)
 
-  pub lost-change : LostChange f (run c)
-  unfolding run
-  lost-change =
+  pub lost-course : LostCourse f c
+  lost-course =
       record {
-        opens = rw e;
         ten = λ calls h. lost-holds calls h .1;
         throughout = λ calls h. lost-holds calls h .0;
-        close = λ calls call h q. rw (run-snoc calls call c) (rw (late-heir f (ticksAmong calls) (confirms (run c calls) call)) at (led-over f (suc f) f _ _ (isTick call) (confirms (run c calls) call) (led f (suc f) f _ (run c calls) call (lost-known calls h)) (rw (run-snoc calls call c) at q)));
-        due = λ calls h q. late-due f (ticksAmong calls) (led-due f (suc f) f _ _ true false (led f (suc f) f _ (run c calls) Tick (lost-known calls h)) (rw (run-snoc calls Tick c) at q) refl);
+        close = λ calls call h q. rw (late-heir f (ticksAmong calls) (confirms (run c calls) call)) at (led-over f (suc f) f _ _ (isTick call) (confirms (run c calls) call) (led f (suc f) f _ (run c calls) call (lost-known calls h)) q);
+        due = λ calls h q. late-due f (ticksAmong calls) (led-due f (suc f) f _ _ true false (led f (suc f) f _ (run c calls) Tick (lost-known calls h)) q refl);
       }

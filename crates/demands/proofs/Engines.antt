@@ -13,14 +13,14 @@ use Rattle.card.proofs.Counts.{steps-are}
 use Rattle.card.proofs.Outcomes.{decide-ticks}
 use Rattle.card.proofs.Freshness.{fresh-sound}
 use Rattle.steps.specs.Steps.{stepOf, responseOf}
-use Rattle.manager.specs.Calls.{Call, asked}
+use Rattle.manager.specs.Calls.{Call, Call.Lost, asked}
 use Rattle.manager.specs.Table.{table}
 use Rattle.manager.specs.Manager.{step, run}
 use Rattle.manager.proofs.Kept.{took-sound, step-sound, run-sound}
-use Rattle.demands.specs.Change.{Change}
+use Rattle.demands.specs.Change.{Change, LostChange}
 use Rattle.demands.specs.Inputs.{Inputs, freshOf}
 use Rattle.demands.specs.Engines.{reached, cardAfter, Meets, manager}
-use Rattle.demands.proofs.Openings.{demand-3}
+use Rattle.demands.proofs.Openings.{demand-3, lost-network}
 
 reached-run : (calls : List Call) (c : Card) → reached manager tt c calls ≡ run c calls
 unfolding reached run
@@ -38,8 +38,11 @@ reached-sound x a past =
     (run-sound (freshOf x .card) past (fresh-sound (x .eid) (x .aid) (x .capacity) (x .quota) (x .used) (x .volatile) a))
 
 -- what holds of a change holds of the same cards told otherwise
-retold : (w p f : ℕ) (r s : List Call → Card) → ((calls : List Call) → r calls ≡ s calls) → Change w p f r → Change w p f s
-retold w p f r s e x = coe 0 1 (i. Change w p f (λ calls. e calls i)) x
+retold : (w p f : List ℕ) (n : ℕ) (r s : List Call → Card) → ((calls : List Call) → r calls ≡ s calls) → Change w p f n r → Change w p f n s
+retold w p f n r s e x = coe 0 1 (i. Change w p f n (λ calls. e calls i)) x
+
+lost-retold : (f : List ℕ) (r s : List Call → Card) → ((calls : List Call) → r calls ≡ s calls) → LostChange f r → LostChange f s
+lost-retold f r s e x = coe 0 1 (i. LostChange f (λ calls. e calls i)) x
 
 step-ticks : (c : Card) (call : Call) → sound c ≡ true → step c call .ticks ≡ ticksToCome (step c call .card)
 unfolding step
@@ -57,8 +60,12 @@ manager-meets =
       fresh = λ x. refl;
       demand2 = λ x a past call. record { status = refl; response = refl; notification = refl; card = refl };
       demand3 = λ x a past call wanted q o.
-          retold wanted _ _ (run (step (cardAfter manager x past) call .card)) (λ calls. cardAfter manager x (past ++ call ∷ calls))
+          retold wanted _ _ _ (run (step (cardAfter manager x past) call .card)) (λ calls. cardAfter manager x (past ++ call ∷ calls))
           (λ calls. sym (reached-more past call calls (freshOf x .card)))
           (demand-3 (cardAfter manager x past) call wanted (reached-sound x a past) q o);
+      lost = λ x a past q b.
+          lost-retold _ (run (step (cardAfter manager x past) Lost .card)) (λ calls. cardAfter manager x (past ++ Lost ∷ calls))
+          (λ calls. sym (reached-more past Lost calls (freshOf x .card)))
+          (lost-network (cardAfter manager x past) (reached-sound x a past) q b);
       count = λ x a past call. step-counts (cardAfter manager x past) call (reached-sound x a past);
     }

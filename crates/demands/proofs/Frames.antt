@@ -1,14 +1,15 @@
 -- What one call does to an open change: a tick ticks, the confirmation of the outstanding number closes it, and any other call leaves
 -- it as it was. By what the call asks; an accepted one has passed every row of the table, which gives the facts. Assumes nothing.
 use mathlib.Core.Path.{_≡_, refl, sym, _∙_}
-use Prim.Native.Nat.{ℕ}
-use mathlib.Core.List.{List}
+use Prim.Native.Nat.{ℕ, zero, suc}
+use mathlib.Core.List.{List, [], _∷_}
 use mathlib.Core.Bool.{Bool, true, false, not, _&&_, false≢true}
 use lib.ListN.{set}
 use lib.Dec.{eqb}
 use borrow.Author.Tests.{eqb-true, not-false}
 use Rattle.status.specs.Rows.{row, wordOf}
 use Rattle.status.proofs.Tables.{Passed, passed}
+use Rattle.isdp.specs.Aids.{nameOf}
 use Rattle.isdp.specs.LifeCycle.{selectable, personalized, isEnabled}
 use Rattle.isdp.specs.Place.{none}
 use Rattle.isdp.specs.declared.Isdp.{Isdp}
@@ -43,12 +44,19 @@ pub card-passed : (c : Card) (call : Call) → taken c call ≡ true → Passed 
 card-passed c call e = passed (table c call) refl e .1 .1 .1 .1 .1 .1 .1 .1
 
 pub same : (c : Card) → Unmoved c c
-same c = record { phase = refl; enabled = λ i. refl; fallback = refl; last = refl }
+same c = record { phase = refl; enabled = λ i. refl; named = λ i. refl; fallback = refl; last = refl }
 
--- a place rewritten that was not enabled and is not
-rewritten-same : (c : Card) (i : ℕ) (x : Isdp) → isEnabled x ≡ isEnabled (at (c .places) i) → Unmoved c (withPlaces c (set (c .places) i x))
-rewritten-same c i x e =
-    record { phase = refl; enabled = set-enabled x (c .places) i e; fallback = refl; last = refl }
+-- a place rewritten that was not enabled and is not, with the AID that it had
+set-named : (x : Isdp) (l : List Isdp) (i : ℕ) → nameOf x ≡ nameOf (at l i) → (j : ℕ) → nameOf (at (set l i x) j) ≡ nameOf (at l j)
+set-named x [] i e j = refl
+set-named x (p ∷ ps) zero e zero = e
+set-named x (p ∷ ps) zero e (suc j) = refl
+set-named x (p ∷ ps) (suc i) e zero = refl
+set-named x (p ∷ ps) (suc i) e (suc j) = set-named x ps i e j
+
+rewritten-same : (c : Card) (i : ℕ) (x : Isdp) → isEnabled x ≡ isEnabled (at (c .places) i) → nameOf x ≡ nameOf (at (c .places) i) → Unmoved c (withPlaces c (set (c .places) i x))
+rewritten-same c i x e n =
+    record { phase = refl; enabled = set-enabled x (c .places) i e; named = set-named x (c .places) i n; fallback = refl; last = refl }
 
 open-row : (c : Card) → isQuiet (c .phase) ≡ false → not (isQuiet (c .phase)) ≡ false → ⊥
 open-row c o h = false≢true (sym o ∙ not-false _ h)
@@ -75,11 +83,11 @@ act-same c aid (masterDelete verdict) o p = absurd (open-row c o (p .0))
 act-same c aid setFallBack o p = absurd (open-row c o (p .0))
 act-same c aid (status life fallback) o p = same c
 act-same c aid keyed o p =
-    rewritten-same c (placeOf c aid) _ (rw (eqb-true (profileOf c aid .life) selectable (not-false _ (p .1 .1 .1 .0))))
+    rewritten-same c (placeOf c aid) _ (rw (eqb-true (profileOf c aid .life) selectable (not-false _ (p .1 .1 .1 .0)))) refl
 act-same c aid (stored n) o p =
-    rewritten-same c (placeOf c aid) _ refl
+    rewritten-same c (placeOf c aid) _ refl refl
 act-same c aid (finished policy) o p =
-    rewritten-same c (placeOf c aid) _ (rw (eqb-true (profileOf c aid .life) personalized (and-l (eqb (profileOf c aid .life) personalized) _ (not-false _ (p .1 .1 .1 .0)))))
+    rewritten-same c (placeOf c aid) _ (rw (eqb-true (profileOf c aid .life) personalized (and-l (eqb (profileOf c aid .life) personalized) _ (not-false _ (p .1 .1 .1 .0))))) refl
 
 asked-same : (c : Card) (a : Asked) → isQuiet (c .phase) ≡ false → isTicking a ≡ false → isConfirmation a ≡ false → Passed (cardRows c a) → Unmoved c (stepOf c a .card)
 unfolding lostStep
@@ -138,16 +146,25 @@ tick-step c s = rw s
 pub record Closed (c d : Card) : Type 0 where
   pub quiet : d .phase ≡ Quiet
   pub enabled : (i : ℕ) → isEnabled (at (d .places) i) ≡ isEnabled (at (c .places) i)
+  pub named : (i : ℕ) → isEnabled (at (d .places) i) ≡ true → nameOf (at (d .places) i) ≡ nameOf (at (c .places) i)
   pub fallback : d .fallback ≡ c .fallback
 
 calm : (c : Card) → Closed c (withPhase c Quiet)
-calm c = record { quiet = refl; enabled = λ i. refl; fallback = refl }
+calm c = record { quiet = refl; enabled = λ i. refl; named = λ i e. refl; fallback = refl }
+
+-- the place that is emptied is not enabled
+clear-named : (l : List Isdp) (q i : ℕ) → isEnabled (at (set l q none) i) ≡ true → nameOf (at (set l q none) i) ≡ nameOf (at l i)
+clear-named [] q i e = refl
+clear-named (p ∷ ps) zero zero e = absurd (false≢true e)
+clear-named (p ∷ ps) zero (suc i) e = refl
+clear-named (p ∷ ps) (suc q) zero e = refl
+clear-named (p ∷ ps) (suc q) (suc i) e = clear-named ps q i e
 
 confirm-closes : (c : Card) (p : Phase) → Phased p c → Closed c (confirmIn p c)
 confirm-closes c Quiet h = calm c
 confirm-closes c (Trial q l m) h =
     choose (Closed c) (dropped c q) _ _
-    (λ b. record { quiet = refl; enabled = set-enabled none (c .places) q (rw (h .1)); fallback = refl })
+    (λ b. record { quiet = refl; enabled = set-enabled none (c .places) q (rw (h .1)); named = clear-named (c .places) q; fallback = refl })
     (λ b. calm c)
 confirm-closes c (Back l m) h = calm c
 confirm-closes c (Fallen l m) h = calm c

@@ -10,7 +10,9 @@ pub mod Unique
 pub mod HypothesesMet
 pub mod Frames
 pub mod Changes
+pub mod Named
 pub mod Openings
+pub mod Closes
 pub mod Examples
 pub mod Witnesses
 pub mod Engines

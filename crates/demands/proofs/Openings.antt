@@ -1,16 +1,21 @@
 -- Demand 3, from its opening: an accepted enable or disable leads to Trial with the place wanted enabled and the one that was enabled
 -- as the previous one; a lost network to Fallen. The rest is the course of a change (Changes). Assumes nothing.
-use mathlib.Core.Path.{_≡_, refl}
+use mathlib.Core.Path.{_≡_, refl, ap, sym, _∙_}
 use Prim.Native.Nat.{ℕ}
 use mathlib.Core.List.{List}
-use mathlib.Core.Bool.{true, false}
-use borrow.Author.Tests.{eqb-true, eq-eqb, not-true, not-false}
+use mathlib.Core.Bool.{Bool, true, false, false≢true}
+use lib.Dec.{eqb}
+use borrow.Author.Tests.{eqb-true, eq-eqb, ne-eqb, not-true, not-false}
 use Rattle.status.specs.Rows.{wordOf}
 use Rattle.status.proofs.Tables.{Passed}
+use Rattle.isdp.specs.Aids.{aidOf, nameOf}
+use Rattle.isdp.specs.Place.{held, isFor}
+use Rattle.isdp.proofs.Alike.{same-true}
 use Rattle.isdp.specs.LifeCycle.{disabled, isEnabled}
 use Rattle.isdp.proofs.Bools.{and-l, and-r}
 use Rattle.places.specs.Places.{at}
-use Rattle.places.proofs.Lives.{enable-at, within}
+use Rattle.places.proofs.Lives.{enable-at, enable-lives, lives-at, within}
+use Rattle.places.proofs.Seeks.{enabled-at, seek-below}
 use Rattle.card.specs.Cards.{isQuiet, placeOf, profileOf, enabledPlace, onFallback}
 use Rattle.card.specs.Sound.{sound}
 use Rattle.card.specs.Clock.{nextOf, opened, fallen, lostOf}
@@ -21,15 +26,13 @@ use Rattle.card.proofs.Sounds.{parts, whole, nonzero}
 use Rattle.steps.specs.Asked.{Act.enable, Act.disable, Asked.on}
 use Rattle.steps.specs.Conditions.{cardRows}
 use Rattle.steps.proofs.Opens as steps
-use Rattle.manager.specs.Calls.{Call, Call.Lost}
-use Rattle.manager.specs.Manager.{step}
+use Rattle.manager.specs.Calls.{Call.Lost}
+use Rattle.manager.specs.Manager.{step, run}
 use Rattle.manager.proofs.Kept.{step-sound}
-use Rattle.demands.specs.Change.{Opens, Opens.enables, Opens.disables, Demand3, LostNetwork, OneEnabled}
+use Rattle.demands.specs.Change.{enabledAid, fallbackAid, Opens.enables, Opens.disables, lastTick, Change, Demand3, LostNetwork}
 use Rattle.demands.proofs.Frames.{card-passed, taken-step}
-use Rattle.demands.proofs.Changes.{Opened, opened-change, lost-change}
-
-pub one-enabled : OneEnabled
-one-enabled c i j s = steps.only (c .places) i j (parts c s .one)
+use Rattle.demands.proofs.Changes.{closingTick, Opened, opened-course, lost-course}
+use Rattle.demands.proofs.Named.{Named, change-named, lost-named}
 
 -- a DISABLED place is enabled in place of the enabled one
 opens : (c : Card) (t : ℕ) → sound c ≡ true → at (c .places) t .life ≡ disabled → Opened t (enabledPlace c) (c .fallback) (opened c t)
@@ -53,15 +56,39 @@ disable-opens c aid s p =
     let n = not-true _ (and-r (isEnabled (profileOf c aid)) _ h) in
     opens c (c .fallback) s (steps.fallback-life c (placeOf c aid) (parts c s) v n)
 
-opening : (c : Card) (call : Call) (wanted : ℕ) → sound c ≡ true → Opens c call wanted → Opened wanted (enabledPlace c) (c .fallback) (step c call .card)
-opening c call _ s (enables aid a e) =
-    rw (taken-step c call e, a) (enable-opens c aid s (rw a at (card-passed c call e)))
-opening c call _ s (disables aid a e) =
-    rw (taken-step c call e, a) (disable-opens c aid s (rw a at (card-passed c call e)))
+-- a place that is enabled keeps its AID
+opened-named : (c : Card) (t : ℕ) → Named c (opened c t)
+opened-named c t i = ap nameOf (lives-at (enable-lives (c .places) t) i)
+
+-- the place found for an AID bears it
+found-aid : (c : Card) (aid : List ℕ) → profileOf c aid .life ≡ disabled → aidOf (profileOf c aid) ≡ aid
+unfolding isFor
+found-aid c aid d =
+    let k = within (c .places) (placeOf c aid) (nonzero _ 30 d) in
+    same-true _ _ (and-r (held (profileOf c aid)) _ (seek-below (isFor aid) (c .places) k))
+
+-- the change closes at the twentieth tick exactly where the fall-back was enabled
+tick-case : (c : Card) (b : Bool) → onFallback c ≡ b → sound c ≡ true → eqb (enabledPlace c) (c .fallback) ≡ b
+tick-case c true e s =
+    eq-eqb _ _ (steps.only (c .places) (enabledPlace c) (c .fallback) (parts c s .one) (enabled-at (c .places) (parts c s .one)) e)
+tick-case c false e s =
+    ne-eqb _ _ (λ q. false≢true (sym e ∙ ap (λ (i : ℕ). isEnabled (at (c .places) i)) (sym q) ∙ enabled-at (c .places) (parts c s .one)))
+
+last-tick : (c : Card) → sound c ≡ true → closingTick (enabledPlace c) (c .fallback) ≡ lastTick c
+last-tick c s = rw (tick-case c (onFallback c) refl s)
+
+change-of : (c : Card) (t : ℕ) → sound c ≡ true → Opened t (enabledPlace c) (c .fallback) (opened c t) → Change (aidOf (at (c .places) t)) (enabledAid c) (fallbackAid c) (lastTick c) (run (opened c t))
+change-of c t s o =
+    rw (last-tick c s) at (change-named c (opened c t) (o .still) refl (opened-named c t) t (enabledPlace c) (c .fallback) (opened-course t (enabledPlace c) (c .fallback) (opened c t) o))
 
 pub demand-3 : Demand3
-demand-3 c call wanted s q o =
-    opened-change wanted (enabledPlace c) (c .fallback) (step c call .card) (opening c call wanted s o)
+demand-3 c call _ s q (enables aid a e) =
+    let p : Passed (cardRows c (on aid enable)) = rw a at (card-passed c call e) in
+    let f = found-aid c aid (eqb-true _ _ (not-false _ (p .1 .1 .1 .0))) in
+    rw (taken-step c call e, a) (rw f at (change-of c (placeOf c aid) s (enable-opens c aid s p)))
+demand-3 c call _ s q (disables aid a e) =
+    let p : Passed (cardRows c (on aid disable)) = rw a at (card-passed c call e) in
+    rw (taken-step c call e, a) (change-of c (c .fallback) s (disable-opens c aid s p))
 
 -- a lost network
 lost-card : (c : Card) → sound c ≡ true → isQuiet (c .phase) ≡ true → onFallback c ≡ false → step c Lost .card ≡ fallen c
@@ -71,4 +98,7 @@ lost-card c s q b = rw (s, q, b)
 pub lost-network : LostNetwork
 lost-network c s q b =
     let e = lost-card c s q b in
-    lost-change (c .fallback) (nextOf (c .last)) (step c Lost .card) (step-sound c Lost s) (rw e) (rw e)
+    let k : sound (fallen c) ≡ true = rw e at (step-sound c Lost s) in
+    rw e
+    (lost-named c (fallen c) k refl (λ i. ap nameOf (lives-at (enable-lives (c .places) (c .fallback)) i)) (c .fallback)
+    (lost-course (c .fallback) (nextOf (c .last)) (fallen c) k refl refl))

@@ -46,7 +46,7 @@ use Rattle.demands.specs.Engines.{Engine, reached, remembered, cardAfter
 use Rattle.demands.specs.WrongEngines.{Refuted, refusesAll, fixedAnswer, leavesEveryCard, Along, Exemplary, RefusesAll, FixedAnswer, LeavesEveryCard, onlyTheFirst, firstThenOnly9000, inventsTicks, OnlyTheCount, thirtyWhileOpen, rollBackAsksPolicy, previousDeletedAtEnable, secondEnableRestartsWait, lateConfirmationTaken, Caught}
 
 -- a change that this engine opens, and calls after each of which it is still open
-record Open (e : Engine) (past : List Call) (opening : Call) (wanted : ℕ) (calls : List Call) : Type 0 where
+record Open (e : Engine) (past : List Call) (opening : Call) (wanted : List ℕ) (calls : List Call) : Type 0 where
   quiet : isQuiet (cardAfter e inputs past .phase) ≡ true
   opens : Opens (cardAfter e inputs past) opening wanted
   stays : staysOpen (λ rest. cardAfter e inputs (past ++ opening ∷ rest)) calls ≡ true
@@ -61,16 +61,16 @@ record Runs : Type 0 where
   room-before : quotas (freshOf inputs .card .places) ≡ 100
   room-after : quotas (step (freshOf inputs .card) (create 2 50) .card .places) ≡ 150
   listed-card : step (freshOf inputs .card) getStatus .card ≡ freshOf inputs .card
-  unopened : Open (onlyTheFirst 4) (load 2 0 ++ load 3 0 ++ enable 2 ∷ confirm 1 ∷ []) (enable 3) 2 []
+  unopened : Open (onlyTheFirst 4) (load 2 0 ++ load 3 0 ++ enable 2 ∷ confirm 1 ∷ []) (enable 3) (aid 3) []
   unopened-quiet : isQuiet (cardAfter (onlyTheFirst 4) inputs ((load 2 0 ++ load 3 0 ++ enable 2 ∷ confirm 1 ∷ []) ++ enable 3 ∷ []) .phase) ≡ true
   invented : thirtyWhileOpen (answerAfter (inventsTicks thirtyWhileOpen) inputs (load 2 0) (enable 2) .card) ≡ 30
   counted : ticksToCome (answerAfter (inventsTicks thirtyWhileOpen) inputs (load 2 0) (enable 2) .card) ≡ 20
   thirty : ticksAmong (ticks 30) ≡ 30
-  forbidden : Open rollBackAsksPolicy (load 2 1) (enable 2) 1 (ticks 30)
-  deleted : Open previousDeletedAtEnable (load 2 4 ++ load 3 0 ++ enable 2 ∷ confirm 1 ∷ []) (enable 3) 2 (ticks 30)
+  forbidden : Open rollBackAsksPolicy (load 2 1) (enable 2) (aid 2) (ticks 30)
+  deleted : Open previousDeletedAtEnable (load 2 4 ++ load 3 0 ++ enable 2 ∷ confirm 1 ∷ []) (enable 3) (aid 3) (ticks 30)
   more : ticksAmong (waiting ++ waiting ++ waiting ++ waiting) ≡ 36
-  restarts : Open secondEnableRestartsWait (load 2 0) (enable 2) 1 (waiting ++ waiting ++ waiting ++ waiting)
-  late : Open lateConfirmationTaken (load 2 0) (enable 2) 1 (ticks 10)
+  restarts : Open secondEnableRestartsWait (load 2 0) (enable 2) (aid 2) (waiting ++ waiting ++ waiting ++ waiting)
+  late : Open lateConfirmationTaken (load 2 0) (enable 2) (aid 2) (ticks 10)
   late-number : (isTick (confirm 1) || confirms (cardAfter lateConfirmationTaken inputs (load 2 0 ++ enable 2 ∷ ticks 10)) (confirm 1)) ≡ false
   late-open : isQuiet (cardAfter lateConfirmationTaken inputs (load 2 0 ++ enable 2 ∷ ticks 10) .phase) ≡ false
   late-quiet : isQuiet (cardAfter lateConfirmationTaken inputs (load 2 0 ++ enable 2 ∷ (ticks 10 ++ confirm 1 ∷ [])) .phase) ≡ true
@@ -184,7 +184,7 @@ first-then-only-9000 w = only-the-first 1 (w .demand2)
 pub second-change-not-opened : MeetsDemand3 (onlyTheFirst 4) → ⊥
 second-change-not-opened d =
     let r = runs .unopened in
-    false≢true (sym (d inputs (runs .made) _ (enable 3) 2 (r .quiet) (r .opens) .opens) ∙ runs .unopened-quiet)
+    false≢true (sym (d inputs (runs .made) _ (enable 3) (aid 3) (r .quiet) (r .opens) .opens) ∙ runs .unopened-quiet)
 
 -- the figure alone differs, so the cards reached are the manager's
 reached-run : (figure : Card → ℕ) (calls : List Call) (c : Card) → reached (inventsTicks figure) tt c calls ≡ run c calls
@@ -205,7 +205,7 @@ invents-ticks w =
     absurd (omega arith)
 
 -- a change that is open after thirty ticks
-stuck : (e : Engine) (past : List Call) (opening : Call) (wanted : ℕ) (calls : List Call) → Open e past opening wanted calls → 30 ≤ ticksAmong calls → MeetsDemand3 e → ⊥
+stuck : (e : Engine) (past : List Call) (opening : Call) (wanted : List ℕ) (calls : List Call) → Open e past opening wanted calls → 30 ≤ ticksAmong calls → MeetsDemand3 e → ⊥
 stuck e past opening wanted calls r k d =
     let t = d inputs (runs .made) past opening wanted (r .quiet) (r .opens) .thirty calls (r .stays) in
     absurd (omega arith)
@@ -225,7 +225,7 @@ second-enable-restarts-wait w =
 pub late-confirmation-taken : Refuted lateConfirmationTaken
 late-confirmation-taken w =
     let r = runs .late in
-    let u = w .demand3 inputs (runs .made) (load 2 0) (enable 2) 1 (r .quiet) (r .opens) .still (ticks 10) (confirm 1) (r .stays) (runs .late-number) in
+    let u = w .demand3 inputs (runs .made) (load 2 0) (enable 2) (aid 2) (r .quiet) (r .opens) .still (ticks 10) (confirm 1) (r .stays) (runs .late-number) in
     false≢true (sym (runs .late-open) ∙ sym (ap isQuiet (u .phase)) ∙ runs .late-quiet)
 
 pub caught : Caught

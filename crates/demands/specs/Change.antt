@@ -1,15 +1,16 @@
 -- Demand 3: "An accepted enable or disable opens a change. Let any commands, inner calls and reports then arrive, in any number and order."
 -- What is asked of the calls after the opening is said over `reach`, which tells the card that any list of them leads to.
-use Prim.Native.Nat.{ℕ, _+_, _<_}
+use Prim.Native.Nat.{ℕ, _+_, _≤_, _<_}
 use mathlib.Core.Path.{_≡_}
 use mathlib.Core.List.{List, [], _∷_, _++_}
 use mathlib.Core.Bool.{Bool, true, false, not, cond, _&&_, _||_}
-use lib.Dec.{ltb, eqb}
+use lib.Dec.{ltb}
 use Rattle.status.specs.StatusWords.{isDone}
 use Rattle.status.specs.Rows.{wordOf}
+use Rattle.isdp.specs.Aids.{aidOf, nameOf}
 use Rattle.isdp.specs.LifeCycle.{isEnabled}
 use Rattle.places.specs.Places.{at}
-use Rattle.card.specs.Cards.{isQuiet, placeOf, enabledPlace, onFallback}
+use Rattle.card.specs.Cards.{isQuiet, enabledPlace, onFallback}
 use Rattle.card.specs.Sound.{sound}
 use Rattle.card.specs.Clock.{outstanding}
 use Rattle.card.specs.declared.Card.{Card}
@@ -18,9 +19,12 @@ use Rattle.manager.specs.Calls.{Call, Call.Command, Call.Keyed, Call.Stored, Ca
 use Rattle.manager.specs.Table.{table}
 use Rattle.manager.specs.Manager.{step, run}
 
--- the profile at this place is enabled
-abbrev pub Holds : Card → ℕ → Type 0
-Holds c i = isEnabled (at (c .places) i) ≡ true
+-- the AID of the enabled profile, and of the fall-back
+abbrev pub enabledAid : Card → List ℕ
+enabledAid c = aidOf (at (c .places) (enabledPlace c))
+
+abbrev pub fallbackAid : Card → List ℕ
+fallbackAid c = aidOf (at (c .places) (c .fallback))
 
 -- no row of the table refuses the call
 abbrev pub taken : Card → Call → Bool
@@ -58,76 +62,89 @@ staysOpen reach [] = true
 staysOpen reach (call ∷ calls) =
     not (isQuiet (reach (call ∷ []) .phase)) && staysOpen (λ rest. reach (call ∷ rest)) calls
 
--- phase, enabled profile, fall-back and last number are as they were
+-- phase, enabled profile, fall-back and last number are as they were, and every place bears the AID that it bore
 pub record Unmoved (c d : Card) : Type 0 where
   pub phase : d .phase ≡ c .phase
   pub enabled : (i : ℕ) → isEnabled (at (d .places) i) ≡ isEnabled (at (c .places) i)
+  pub named : (i : ℕ) → nameOf (at (d .places) i) ≡ nameOf (at (c .places) i)
   pub fallback : d .fallback ≡ c .fallback
   pub last : d .last ≡ c .last
 
 -- of the profile asked for, the previous one and the fall-back, the one enabled after so many ticks, while the change is open
-abbrev pub holder : ℕ → ℕ → ℕ → ℕ → ℕ
+abbrev pub holder : {A : Type 0} → A → A → A → ℕ → A
 holder wanted previous fallback ticks = cond (ltb ticks 10) wanted (cond (ltb ticks 20) previous fallback)
 
 -- the one that is to be enabled at the close: confirmed, by the ticks seen; not confirmed, the fall-back
-abbrev pub heir : ℕ → ℕ → ℕ → Bool → ℕ → ℕ
+abbrev pub heir : {A : Type 0} → A → A → A → Bool → ℕ → A
 heir wanted previous fallback confirmed ticks = cond confirmed (holder wanted previous fallback ticks) fallback
 
--- the tick that closes it where nothing is confirmed: sooner "if the fall-back is already enabled"
-abbrev pub lastTick : ℕ → ℕ → ℕ
-lastTick previous fallback = cond (eqb previous fallback) 20 30
-
--- a change that keeps demand 3, whatever calls follow
-pub record Change (wanted previous fallback : ℕ) (reach : List Call → Card) : Type 0 where
+-- a change that keeps demand 3, whatever calls follow; profiles are told by their AIDs, `last` is the tick that closes it where nothing
+-- is confirmed
+pub record Change (wanted previous fallback : List ℕ) (last : ℕ) (reach : List Call → Card) : Type 0 where
   -- it is open
   pub opens : isQuiet (reach [] .phase) ≡ false
   -- "The change closes no later than the thirtieth tick."
   pub thirty : (calls : List Call) → staysOpen reach calls ≡ true → ticksAmong calls < 30
   -- the one asked for is tried before the tenth tick, the previous one before the twentieth, then the fall-back
-  pub meanwhile : (calls : List Call) → staysOpen reach calls ≡ true → Holds (reach calls) (holder wanted previous fallback (ticksAmong calls))
+  pub meanwhile : (calls : List Call) → staysOpen reach calls ≡ true → enabledAid (reach calls) ≡ holder wanted previous fallback (ticksAmong calls)
   -- "At its close the enabled profile is the one asked for .. if its notification was confirmed before the tenth tick; failing that,
   -- the previous one if the roll-back was confirmed before the twentieth; failing that, the fall-back."
-  pub close : (calls : List Call) (call : Call) → staysOpen reach calls ≡ true → isQuiet (reach (calls ++ call ∷ []) .phase) ≡ true → Holds (reach (calls ++ call ∷ [])) (heir wanted previous fallback (confirms (reach calls) call) (ticksAmong calls))
+  pub close : (calls : List Call) (call : Call) → staysOpen reach calls ≡ true → isQuiet (reach (calls ++ call ∷ []) .phase) ≡ true → enabledAid (reach (calls ++ call ∷ [])) ≡ heir wanted previous fallback (confirms (reach calls) call) (ticksAmong calls)
   -- a tick closes it no sooner than it should
-  pub due : (calls : List Call) → staysOpen reach calls ≡ true → isQuiet (reach (calls ++ Tick ∷ []) .phase) ≡ true → ticksAmong calls + 1 ≡ lastTick previous fallback
+  pub due : (calls : List Call) → staysOpen reach calls ≡ true → isQuiet (reach (calls ++ Tick ∷ []) .phase) ≡ true → ticksAmong calls + 1 ≡ last
   -- "confirmed": the confirmation of the outstanding number closes it
   pub confirmed : (calls : List Call) (call : Call) → staysOpen reach calls ≡ true → confirms (reach calls) call ≡ true → isQuiet (reach (calls ++ call ∷ []) .phase) ≡ true
   -- "Nothing but ticks and the confirmation of the outstanding number moves this along or holds it up."
   pub still : (calls : List Call) (call : Call) → staysOpen reach calls ≡ true → (isTick call || confirms (reach calls) call) ≡ false → Unmoved (reach calls) (reach (calls ++ call ∷ []))
 
--- the place that an accepted enable or disable asks for: "on a disable, the fall-back"
-pub data Opens (c : Card) (call : Call) : ℕ → Type 0 where
-  enables : (aid : List ℕ) → asked c call ≡ on aid enable → taken c call ≡ true → Opens c call (placeOf c aid)
-  disables : (aid : List ℕ) → asked c call ≡ on aid disable → taken c call ≡ true → Opens c call (c .fallback)
+-- the profile that an accepted enable or disable asks for: "on a disable, the fall-back"
+pub data Opens (c : Card) (call : Call) : List ℕ → Type 0 where
+  enables : (aid : List ℕ) → asked c call ≡ on aid enable → taken c call ≡ true → Opens c call aid
+  disables : (aid : List ℕ) → asked c call ≡ on aid disable → taken c call ≡ true → Opens c call (fallbackAid c)
+
+-- left alone it closes at the thirtieth tick; a change away from the fall-back at the twentieth, when the fall-back is back
+abbrev pub lastTick : Card → ℕ
+lastTick c = cond (onFallback c) 20 30
 
 -- demand 3: of every sound Quiet card, so of the second and every later change too
 abbrev pub Demand3 : Type 0
 Demand3 =
-    (c : Card) (call : Call) (wanted : ℕ) → sound c ≡ true → isQuiet (c .phase) ≡ true → Opens c call wanted
-    → Change wanted (enabledPlace c) (c .fallback) (run (step c call .card))
+    (c : Card) (call : Call) (wanted : List ℕ) → sound c ≡ true → isQuiet (c .phase) ≡ true → Opens c call wanted
+    → Change wanted (enabledAid c) (fallbackAid c) (lastTick c) (run (step c call .card))
 
 -- "A change opened by a lost network ends on the fall-back, by the tenth tick."
-pub record LostChange (fallback : ℕ) (reach : List Call → Card) : Type 0 where
+pub record LostChange (fallback : List ℕ) (reach : List Call → Card) : Type 0 where
   pub opens : isQuiet (reach [] .phase) ≡ false
   pub ten : (calls : List Call) → staysOpen reach calls ≡ true → ticksAmong calls < 10
-  pub throughout : (calls : List Call) → staysOpen reach calls ≡ true → Holds (reach calls) fallback
-  pub close : (calls : List Call) (call : Call) → staysOpen reach calls ≡ true → isQuiet (reach (calls ++ call ∷ []) .phase) ≡ true → Holds (reach (calls ++ call ∷ [])) fallback
+  pub throughout : (calls : List Call) → staysOpen reach calls ≡ true → enabledAid (reach calls) ≡ fallback
+  pub close : (calls : List Call) (call : Call) → staysOpen reach calls ≡ true → isQuiet (reach (calls ++ call ∷ []) .phase) ≡ true → enabledAid (reach (calls ++ call ∷ [])) ≡ fallback
   pub due : (calls : List Call) → staysOpen reach calls ≡ true → isQuiet (reach (calls ++ Tick ∷ []) .phase) ≡ true → ticksAmong calls + 1 ≡ 10
 
 abbrev pub LostNetwork : Type 0
 LostNetwork =
     (c : Card) → sound c ≡ true → isQuiet (c .phase) ≡ true → onFallback c ≡ false
-    → LostChange (c .fallback) (run (step c Lost .card))
+    → LostChange (fallbackAid c) (run (step c Lost .card))
+
+-- the first call that closes a change, with what stands before it and after
+pub record FirstClose (reach : List Call → Card) (calls : List Call) : Type 0 where
+  pub before : List Call
+  pub call : Call
+  pub rest : List Call
+  pub split : calls ≡ before ++ call ∷ rest
+  pub open-before : staysOpen reach before ≡ true
+  pub quiet-after : isQuiet (reach (before ++ call ∷ []) .phase) ≡ true
+
+-- any list with thirty ticks holds one
+abbrev pub ThirtyTicksClose : Type 0
+ThirtyTicksClose =
+    (wanted previous fallback : List ℕ) (last : ℕ) (reach : List Call → Card) → Change wanted previous fallback last reach
+    → (calls : List Call) → 30 ≤ ticksAmong calls → FirstClose reach calls
 
 -- "Nothing but ticks and the confirmation of the outstanding number moves this along or holds it up", of any open change
 abbrev pub Frame : Type 0
 Frame =
     (c : Card) (call : Call) → sound c ≡ true → isQuiet (c .phase) ≡ false → (isTick call || confirms c call) ≡ false
     → Unmoved c (step c call .card)
-
--- `Holds` names one profile: no two places of a sound card are enabled
-abbrev pub OneEnabled : Type 0
-OneEnabled = (c : Card) (i j : ℕ) → sound c ≡ true → Holds c i → Holds c j → i ≡ j
 
 -- an accepted confirmation is of the outstanding number
 abbrev pub OnlyOutstanding : Type 0

@@ -3,16 +3,16 @@
 use Prim.Native.Nat.{ℕ}
 use mathlib.Core.Path.{_≡_}
 use mathlib.Core.List.{List, [], _∷_, _++_}
-use mathlib.Core.Bool.{true}
+use mathlib.Core.Bool.{true, false}
 use Rattle.status.specs.StatusWords.{isDone}
-use Rattle.card.specs.Cards.{isQuiet, enabledPlace}
+use Rattle.card.specs.Cards.{isQuiet, onFallback}
 use Rattle.card.specs.Ticks.{StepsTo}
 use Rattle.card.specs.Answers.{Outcome}
 use Rattle.card.specs.declared.Card.{Card}
-use Rattle.manager.specs.Calls.{Call}
+use Rattle.manager.specs.Calls.{Call, Call.Lost}
 use Rattle.manager.specs.Manager.{step}
 use Rattle.demands.specs.Inputs.{Inputs, freshOf}
-use Rattle.demands.specs.Change.{Opens, Change}
+use Rattle.demands.specs.Change.{enabledAid, fallbackAid, Opens, lastTick, Change, LostChange}
 
 -- it answers a fresh and every call on the card handed in, and remembers what it likes
 pub record Engine : Type 1 where
@@ -54,9 +54,15 @@ MeetsDemand2 e =
 -- of the first change and of every later one
 abbrev pub MeetsDemand3 : Engine → Type 0
 MeetsDemand3 e =
-    (x : Inputs) → isDone (freshOf x .status) ≡ true → (past : List Call) (call : Call) (wanted : ℕ)
+    (x : Inputs) → isDone (freshOf x .status) ≡ true → (past : List Call) (call : Call) (wanted : List ℕ)
     → isQuiet (cardAfter e x past .phase) ≡ true → Opens (cardAfter e x past) call wanted
-    → Change wanted (enabledPlace (cardAfter e x past)) (cardAfter e x past .fallback) (λ calls. cardAfter e x (past ++ call ∷ calls))
+    → Change wanted (enabledAid (cardAfter e x past)) (fallbackAid (cardAfter e x past)) (lastTick (cardAfter e x past)) (λ calls. cardAfter e x (past ++ call ∷ calls))
+
+abbrev pub MeetsLost : Engine → Type 0
+MeetsLost e =
+    (x : Inputs) → isDone (freshOf x .status) ≡ true → (past : List Call)
+    → isQuiet (cardAfter e x past .phase) ≡ true → onFallback (cardAfter e x past) ≡ false
+    → LostChange (fallbackAid (cardAfter e x past)) (λ calls. cardAfter e x (past ++ Lost ∷ calls))
 
 -- "it equals the count of the tick rule's steps to Quiet from the card handed back"
 abbrev pub MeetsCount : Engine → Type 0
@@ -68,6 +74,7 @@ pub record Meets (e : Engine) : Type 0 where
   pub fresh : (x : Inputs) → e .fresh x ≡ freshOf x
   pub demand2 : MeetsDemand2 e
   pub demand3 : MeetsDemand3 e
+  pub lost : MeetsLost e
   pub count : MeetsCount e
 
 -- the manager of the definitions: it remembers nothing

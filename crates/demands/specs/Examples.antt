@@ -7,17 +7,16 @@ use mathlib.Core.Bool.{Bool, true, _&&_}
 use lib.ListN.{replicate}
 use lib.Dec.{eqb}
 use Rattle.status.specs.StatusWords.{numberOf}
-use Rattle.isdp.specs.Aids.{sameBytes, aidOf}
+use Rattle.isdp.specs.Aids.{sameBytes}
 use Rattle.isdp.specs.LifeCycle.{disabled, enabled}
 use Rattle.isdp.specs.Place.{none, made}
-use Rattle.places.specs.Places.{at}
-use Rattle.card.specs.Cards.{enabledPlace}
 use Rattle.card.specs.Answers.{Outcome}
 use Rattle.card.specs.declared.Card.{Card}
 use Rattle.card.specs.declared.Phase.{Phase}
 use Rattle.card.specs.declared.Phase.the-variants.{Quiet, Trial, Back, Fallen}
 use Rattle.manager.specs.Calls.{Call, Call.Command, Call.Keyed, Call.Stored, Call.Finished, Call.Tick, Call.Lost}
 use Rattle.manager.specs.Manager.{step, run}
+use Rattle.demands.specs.Change.{enabledAid}
 use Rattle.demands.specs.Inputs.{Inputs, freshOf}
 
 abbrev pub aid : ℕ → List ℕ
@@ -126,9 +125,6 @@ examples =
     ∷ record { number = 11; start = two enabled disabled 65535; before = []; call = enable 2; word = 0x9000; response = []; enabled = 2; outstanding = 0 ∷ []; used = 0 }
     ∷ record { number = 12; start = fresh; before = []; call = Lost; word = 0x9000; response = []; enabled = 1; outstanding = []; used = 0 }
     ∷ []
-
-abbrev pub enabledAid : Card → List ℕ
-enabledAid c = aidOf (at (c .places) (enabledPlace c))
 
 abbrev pub answersAs : Example → Outcome → Bool
 answersAs e o =

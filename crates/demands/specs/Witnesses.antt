@@ -4,38 +4,38 @@ use Prim.Native.Nat.{ℕ}
 use mathlib.Core.Path.{_≡_}
 use mathlib.Core.List.{List, [], _∷_, _++_}
 use mathlib.Core.Bool.{Bool, true, false}
-use Rattle.card.specs.Cards.{isQuiet, enabledPlace, onFallback}
+use Rattle.card.specs.Cards.{isQuiet, onFallback}
 use Rattle.card.specs.Sound.{sound}
 use Rattle.card.specs.declared.Card.{Card}
 use Rattle.manager.specs.Calls.{Call, Call.Tick, Call.Lost}
 use Rattle.manager.specs.Manager.{step, run}
-use Rattle.demands.specs.Change.{confirms, staysOpen, ticksAmong, Opens}
-use Rattle.demands.specs.Examples.{fresh, load, enable, disable, confirm, ticks}
+use Rattle.demands.specs.Change.{enabledAid, fallbackAid, confirms, staysOpen, ticksAmong, Opens}
+use Rattle.demands.specs.Examples.{aid, fresh, load, enable, disable, confirm, ticks}
 
--- F at place 0 is the fall-back, 02 at place 1 is enabled by a change that is closed, 03 at place 2 is DISABLED
+-- F is the fall-back, 02 is enabled by a change that is closed, 03 is DISABLED
 unfoldable pub second : Card
 second = run fresh (load 2 0 ++ load 3 0 ++ enable 2 ∷ confirm 1 ∷ [])
 
--- after the opening come these calls, then the one that closes the change, confirmed or not, with so many ticks before it and this place enabled
-pub record Ends (opening : Call) (calls : List Call) (closing : Call) (confirmed : Bool) (seen place : ℕ) : Type 0 where
+-- after the opening come these calls, then the one that closes the change, confirmed or not, with so many ticks before it and this profile enabled
+pub record Ends (opening : Call) (calls : List Call) (closing : Call) (confirmed : Bool) (seen profile : ℕ) : Type 0 where
   pub open-before : staysOpen (run (step second opening .card)) calls ≡ true
   pub quiet-after : isQuiet (run (step second opening .card) (calls ++ closing ∷ []) .phase) ≡ true
   pub confirming : confirms (run (step second opening .card) calls) closing ≡ confirmed
   pub ticked : ticksAmong calls ≡ seen
-  pub enabled : enabledPlace (run (step second opening .card) (calls ++ closing ∷ [])) ≡ place
+  pub enabled : enabledAid (run (step second opening .card) (calls ++ closing ∷ [])) ≡ aid profile
 
 pub record Witnesses : Type 0 where
   pub still : sound second ≡ true
   pub quiet : isQuiet (second .phase) ≡ true
   pub away : onFallback second ≡ false
-  pub previous : enabledPlace second ≡ 1
-  pub fallback : second .fallback ≡ 0
-  pub enabling : Opens second (enable 3) 2
-  pub disabling : Opens second (disable 2) 0
+  pub previous : enabledAid second ≡ aid 2
+  pub fallback : fallbackAid second ≡ aid 1
+  pub enabling : Opens second (enable 3) (aid 3)
+  pub disabling : Opens second (disable 2) (aid 1)
   -- confirmed before the tenth tick, before the twentieth, not at all
-  pub wanted-stays : Ends (enable 3) (ticks 9) (confirm 2) true 9 2
-  pub previous-comes-back : Ends (enable 3) (ticks 10 ++ confirm 2 ∷ ticks 9) (confirm 3) true 19 1
-  pub fallback-at-last : Ends (enable 3) (ticks 29) Tick false 29 0
+  pub wanted-stays : Ends (enable 3) (ticks 9) (confirm 2) true 9 3
+  pub previous-comes-back : Ends (enable 3) (ticks 10 ++ confirm 2 ∷ ticks 9) (confirm 3) true 19 2
+  pub fallback-at-last : Ends (enable 3) (ticks 29) Tick false 29 1
   -- the same from a disable, and a lost network
-  pub disabled-stays : Ends (disable 2) (ticks 9) (confirm 2) true 9 0
-  pub lost-ends : Ends Lost (ticks 9) Tick false 9 0
+  pub disabled-stays : Ends (disable 2) (ticks 9) (confirm 2) true 9 1
+  pub lost-ends : Ends Lost (ticks 9) Tick false 9 1

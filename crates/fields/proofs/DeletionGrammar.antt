@@ -9,7 +9,7 @@ use lib.ListN.{length}
 use Rattle.tlv.specs.Tlv.{expectAt}
 use Rattle.tlv.specs.declared.Element.the-variants as element
 use Rattle.tlv.specs.Encoding.{window, Bytes, encodeElement}
-use Rattle.choice.proofs.Branches.{each-eq, eq!, ne!}
+use Rattle.choice.proofs.Branches.{each-eq, eq!, ne! }
 use Rattle.tlv.proofs.Inside.{Expected, expect-parts, expect-inside}
 use Rattle.tlv.proofs.Windows.{window-length}
 use Rattle.tlv.proofs.Written.{element-written}

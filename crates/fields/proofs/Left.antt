@@ -4,7 +4,7 @@ use mathlib.Core.Path.{_≡_, refl, sym, _∙_}
 use mathlib.Core.List.{List}
 use mathlib.Core.Bool.{Bool, false}
 use native.Mathlib.Omega.{arith}
-use Rattle.choice.proofs.Branches.{le!, nle!}
+use Rattle.choice.proofs.Branches.{le!, nle! }
 use Rattle.tlv.specs.Tlv.{tagAt}
 use Rattle.tlv.specs.declared.TagRead.the-variants as tag
 use Rattle.fields.specs.declared.Tags.{Tags}

@@ -9,7 +9,7 @@ use lib.ListN.{length}
 use Rattle.tlv.specs.Tlv.{tagAt}
 use Rattle.tlv.specs.declared.TagRead.the-variants as tag
 use Rattle.tlv.specs.Encoding.{window, Bytes, encodeTag}
-use Rattle.choice.proofs.Branches.{each-le, each-eq, le!, nle!, eq!, ne!}
+use Rattle.choice.proofs.Branches.{each-le, each-eq, le!, nle!, eq!, ne! }
 use Rattle.tlv.proofs.Inside.{tag-inside}
 use Rattle.tlv.proofs.Windows.{window-none, window-length, window-cut}
 use Rattle.tlv.proofs.Written.{tag-written}

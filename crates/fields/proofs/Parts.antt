@@ -7,7 +7,7 @@ use lib.ListN.{length}
 use Rattle.tlv.specs.Tlv.{byte}
 use Rattle.tlv.specs.declared.Element.the-variants as element
 use Rattle.tlv.specs.Encoding.{window, Bytes, encodeElement}
-use Rattle.choice.proofs.Branches.{each-lt, each-eq, nlt!, eq!}
+use Rattle.choice.proofs.Branches.{each-lt, each-eq, nlt!, eq! }
 use Rattle.tlv.proofs.Windows.{window-first, window-length, window-starts}
 use Rattle.tlv.proofs.Written.{element-written}
 use Rattle.tlv.proofs.ReadBack.{LegalTag, element-back}

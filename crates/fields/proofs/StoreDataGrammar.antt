@@ -10,7 +10,7 @@ use Rattle.tlv.specs.Tlv.{byte}
 use Rattle.tlv.specs.declared.Element.the-variants as element
 use Rattle.tlv.specs.declared.Part.{Part}
 use Rattle.tlv.specs.Encoding.{window, Bytes, encodeNumber, encodeTag, encodeLength, encodeElement}
-use Rattle.choice.proofs.Branches.{each-eq, lt!, eq!, ne!}
+use Rattle.choice.proofs.Branches.{each-eq, lt!, eq!, ne! }
 use Rattle.tlv.proofs.Windows.{window-starts}
 use Rattle.tlv.proofs.Written.{window-two}
 use Rattle.tlv.proofs.ReadBack.{one}

@@ -6,7 +6,7 @@ use mathlib.Core.List.{List}
 use native.Mathlib.Omega.{arith}
 use Rattle.tlv.specs.Tlv.{expectAt}
 use Rattle.tlv.specs.declared.Element.the-variants as element
-use Rattle.choice.proofs.Branches.{le!, nle!}
+use Rattle.choice.proofs.Branches.{le!, nle! }
 use Rattle.install.specs.declared.Protocols.{Protocols}
 use Rattle.install.specs.declared.Protocols.the-variants as protocols
 use Rattle.install.specs.Parameters.{protocolsWithin, protocolsAt}

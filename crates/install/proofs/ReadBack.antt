@@ -8,7 +8,7 @@ use native.Mathlib.Omega.{arith}
 use lib.ListN.{length, length-append}
 use Rattle.tlv.specs.declared.Element.the-variants as element
 use Rattle.tlv.specs.Encoding.{window, encodeLength, encodeElement}
-use Rattle.choice.proofs.Branches.{le!, nle!, nlt!, eq!, ne!}
+use Rattle.choice.proofs.Branches.{le!, nle!, nlt!, eq!, ne! }
 use Rattle.tlv.proofs.Inside.{expect-inside}
 use Rattle.tlv.proofs.Windows.{window-length, window-begins}
 use Rattle.tlv.proofs.ReadBack.{one, length-back, element-back}

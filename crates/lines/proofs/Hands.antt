@@ -11,7 +11,7 @@ use lib.Seq.{drop-drop, take-all, drop-length}
 use Rattle.choice.specs.Choice.{pick}
 use Rattle.text.specs.Words.{before, part}
 use Rattle.text.proofs.WordLists.{before-le}
-use Rattle.choice.proofs.Branches.{each, by-lt, by-le, lt!, nlt!}
+use Rattle.choice.proofs.Branches.{each, by-lt, by-le, lt!, nlt! }
 use Rattle.lines.specs.Lines.{Line, TooLong, lineOf, linesOf}
 use Rattle.lines.specs.Window.{windowOf, gives, found, idle, tailFrom, stopFrom, lineFrom, stepOf}
 use Rattle.lines.specs.Cuts.{handed, Settled}

@@ -9,7 +9,7 @@ use lib.ListN.{length, take, drop, length-append, drop-of-length-le}
 use lib.Seq.{take-append-le, take-append-add, drop-append-le, drop-append-add}
 use Rattle.text.specs.Words.{before}
 use Rattle.text.proofs.WordLists.{before-found, before-other, before-le}
-use Rattle.choice.proofs.Branches.{on-eq, on-lt, eq!, ne!, lt!}
+use Rattle.choice.proofs.Branches.{on-eq, on-lt, eq!, ne!, lt! }
 use Rattle.lines.specs.Lines.{Line, TooLong, lineOf, lastOf, linesOn, linesOf}
 
 module _ (b : ℕ) where

@@ -13,7 +13,7 @@ use Rattle.text.specs.declared.hex.Byte.the-variants as byte
 use Rattle.text.specs.declared.hex.HexRead.{HexRead}
 use Rattle.text.specs.declared.hex.HexRead.the-variants.{Bytes, NoRoom, Wrong}
 use Rattle.text.specs.Put.{put}
-use Rattle.choice.proofs.Branches.{each, by-lt, yes!, no!, lt!, nlt!}
+use Rattle.choice.proofs.Branches.{each, by-lt, yes!, no!, lt!, nlt! }
 use Rattle.text.proofs.PutLaws.{put-none, put-cons}
 use Rattle.text.proofs.Rest.{rest, rest-one, rest-two, rest-end}
 

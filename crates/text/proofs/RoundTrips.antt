@@ -13,7 +13,7 @@ use Rattle.text.specs.Hex.{nibbleOf, pairsOf, isHex, byteOf, spelled, he
 use Rattle.text.specs.Numbers.{digitsOn, decimalOf, digitsText, decimalText}
 use Rattle.text.specs.declared.hex.HexRead.the-variants.{Bytes}
 use Rattle.text.specs.declared.numbers.Number.the-variants.{Value}
-use Rattle.choice.proofs.Branches.{by-lt, yes!, no!, le!, nle!, nlt!}
+use Rattle.choice.proofs.Branches.{by-lt, yes!, no!, le!, nle!, nlt! }
 use Rattle.text.proofs.NumberLaws.{decimal-some}
 
 -- every element is a byte

@@ -9,7 +9,7 @@ use lib.Seq.{drop-cons}
 use lib.Dec.{eqb}
 use borrow.Author.Tests.{eq-eqb, ne-eqb}
 use Rattle.text.specs.Words.{before, leading, sameOf}
-use Rattle.choice.proofs.Branches.{eq!, ne!}
+use Rattle.choice.proofs.Branches.{eq!, ne! }
 
 module _ (b : ℕ) (s : List ℕ) (i : ℕ) where
   pub before-hit : i < length s → getD s i 0 ≡ b → before b (drop i s) ≡ 0

@@ -9,7 +9,7 @@ use lib.Seq.{drop-drop, length-take-le}
 use Rattle.text.specs.Words.{before, leading, part, closed, wordsOn, wordsOf, wordAt, wordFrom, fieldAt, onWord}
 use Rattle.text.specs.declared.words.Word.{Word}
 use Rattle.text.specs.declared.words.Word.the-variants.{Span, End}
-use Rattle.choice.proofs.Branches.{on-eq, by-eq, by-le, by-lt, eq!, ne!}
+use Rattle.choice.proofs.Branches.{on-eq, by-eq, by-le, by-lt, eq!, ne! }
 
 module _ (b : ℕ) where
   pub before-found : (c : ℕ) (cs : List ℕ) → c ≡ b → before b (c ∷ cs) ≡ 0

@@ -13,7 +13,7 @@ use Rattle.tlv.specs.declared.ListRead.the-variants as list
 use Rattle.choice.specs.Choice.{pick}
 use Rattle.tlv.specs.Tlv.{headAt}
 use Rattle.tlv.specs.Lists.{closed, elementOf, restOf, listOf, listWithin, listAt, elementAt}
-use Rattle.choice.proofs.Branches.{each-lt, each-eq, lt!, nlt!, eq!, ne!}
+use Rattle.choice.proofs.Branches.{each-lt, each-eq, lt!, nlt!, eq!, ne! }
 use Rattle.tlv.proofs.Inside.{head-inside, element-of}
 
 module _ (s : List ℕ) (at end level : ℕ) where

@@ -15,7 +15,7 @@ use Rattle.choice.specs.Choice.{pick}
 use Rattle.tlv.specs.Tlv.{headAt}
 use Rattle.tlv.specs.Lists.{closed, elementOf, restOf, listOf, listWithin, listAt, elementAt}
 use Rattle.tlv.specs.Filled.{Level, Filled, ended, primitive, constructed}
-use Rattle.choice.proofs.Branches.{each-lt, each-eq, nlt!, eq!, ne!}
+use Rattle.choice.proofs.Branches.{each-lt, each-eq, nlt!, eq!, ne! }
 use Rattle.tlv.proofs.Inside.{head-inside}
 use Rattle.tlv.proofs.Counts.{list-onward}
 

@@ -12,7 +12,7 @@ use Rattle.tlv.specs.declared.HeadRead.the-variants as head
 use Rattle.tlv.specs.declared.Element.the-variants as element
 use Rattle.tlv.specs.Tlv.{byte, isConstructed, tagAt, lengthAt, headAt, afterTag, afterLength, expectAt, expectOf}
 use Rattle.tlv.specs.Encoding.{window, encodeNumber, encodeTag, encodeLength, encodeElement}
-use Rattle.choice.proofs.Branches.{each-lt, le!, nle!, lt!, nlt!, eq!, ne!}
+use Rattle.choice.proofs.Branches.{each-lt, le!, nle!, lt!, nlt!, eq!, ne! }
 use Rattle.tlv.proofs.Windows.{window-starts, window-begins}
 
 -- the numbers that are tags: of one byte, or of two with the low five bits of the first all ones and the second below 80

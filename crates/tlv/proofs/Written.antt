@@ -12,7 +12,7 @@ use Rattle.tlv.specs.declared.LengthRead.the-variants as len
 use Rattle.tlv.specs.declared.Element.the-variants as element
 use Rattle.tlv.specs.Tlv.{byte, tagAt, lengthAt, expectAt}
 use Rattle.tlv.specs.Encoding.{window, Bytes, encodeTag, encodeLength, encodeElement}
-use Rattle.choice.proofs.Branches.{each-le, each-lt, each-eq, lt!, nlt!}
+use Rattle.choice.proofs.Branches.{each-le, each-lt, each-eq, lt!, nlt! }
 use Rattle.tlv.proofs.Inside.{expect-parts, expect-inside, head-parts, tag-inside, length-inside}
 use Rattle.tlv.proofs.Windows.{window-none, window-first, window-cut, window-length}
 

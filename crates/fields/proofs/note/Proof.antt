@@ -1,5 +1,5 @@
 use Rattle.fields.specs.GetStatus.{noted}
-use Rattle.choice.proofs.Branches.{eq!, ne!}
+use Rattle.choice.proofs.Branches.{eq!, ne! }
 use mathlib.Core.Path.{refl}
 use native.Mathlib.Omega.{arith}
 use Rattle.fields.proofs.note.Statement.{statement}

@@ -1,6 +1,6 @@
 use Rattle.tlv.proofs.Inside.{expect-inside}
 use Rattle.fields.specs.Delete.{deletionAt}
-use Rattle.choice.proofs.Branches.{eq!, ne!}
+use Rattle.choice.proofs.Branches.{eq!, ne! }
 use mathlib.Core.Path.{refl, sym, _∙_}
 use native.Mathlib.Omega.{arith}
 use borrow.Author.Needs.{needs}

@@ -1,6 +1,6 @@
 use Rattle.tlv.proofs.Inside.{expect-inside}
 use Rattle.fields.specs.GetStatus.{listingAt}
-use Rattle.choice.proofs.Branches.{lt!, nlt!, eq!, ne!}
+use Rattle.choice.proofs.Branches.{lt!, nlt!, eq!, ne! }
 use mathlib.Core.Path.{refl, sym, _∙_}
 use native.Mathlib.Omega.{arith}
 use borrow.Author.Needs.{needs}

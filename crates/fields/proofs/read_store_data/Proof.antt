@@ -1,6 +1,6 @@
 use Rattle.fields.proofs.Only.{alone-expected}
 use Rattle.fields.specs.StoreData.{namedBy, storeDataAt}
-use Rattle.choice.proofs.Branches.{eq!, ne!}
+use Rattle.choice.proofs.Branches.{eq!, ne! }
 use mathlib.Core.Path.{refl, sym, _∙_}
 use native.Mathlib.Omega.{arith}
 use borrow.Author.Needs.{needs}

@@ -1,7 +1,7 @@
 use Rattle.install.specs.Parameters.{grantOf}
 use native.Mathlib.Omega.{arith}
 use mathlib.Core.Path.{refl}
-use Rattle.choice.proofs.Branches.{lt!, nlt!, eq!, ne!}
+use Rattle.choice.proofs.Branches.{lt!, nlt!, eq!, ne! }
 use Rattle.install.proofs.grant.Statement.{statement}
 use Rattle.install.proofs.grant.Tie as tie
 

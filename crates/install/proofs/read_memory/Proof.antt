@@ -2,7 +2,7 @@ use Rattle.tlv.proofs.Inside.{expect-inside, expect-parts}
 use Rattle.install.specs.Parameters.{memoryAt}
 use native.Mathlib.Omega.{arith}
 use mathlib.Core.Path.{refl, sym, _∙_}
-use Rattle.choice.proofs.Branches.{eq!, ne!}
+use Rattle.choice.proofs.Branches.{eq!, ne! }
 use borrow.Author.Needs.{needs}
 use Rattle.install.proofs.read_memory.Statement.{statement}
 use Rattle.install.proofs.read_memory.Tie as tie

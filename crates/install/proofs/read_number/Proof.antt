@@ -1,7 +1,7 @@
 use Rattle.install.specs.Parameters.{numberAt}
 use native.Mathlib.Omega.{arith}
 use mathlib.Core.Path.{refl}
-use Rattle.choice.proofs.Branches.{eq!, ne!}
+use Rattle.choice.proofs.Branches.{eq!, ne! }
 use borrow.Author.Needs.{needs}
 use Rattle.install.proofs.read_number.Statement.{statement}
 use Rattle.install.proofs.read_number.Tie as tie

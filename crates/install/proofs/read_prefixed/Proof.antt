@@ -2,7 +2,7 @@ use Rattle.tlv.proofs.Inside.{length-inside}
 use Rattle.install.specs.Install.{prefixedAt}
 use native.Mathlib.Omega.{arith}
 use mathlib.Core.Path.{refl, sym, _∙_}
-use Rattle.choice.proofs.Branches.{lt!, nlt!}
+use Rattle.choice.proofs.Branches.{lt!, nlt! }
 use borrow.Author.Needs.{needs}
 use Rattle.install.proofs.read_prefixed.Statement.{statement}
 use Rattle.install.proofs.read_prefixed.Tie as tie

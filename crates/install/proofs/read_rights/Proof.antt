@@ -2,7 +2,7 @@ use Rattle.install.proofs.Inside.{prefixed-inside}
 use Rattle.install.specs.Install.{rightsAt}
 use native.Mathlib.Omega.{arith}
 use mathlib.Core.Path.{refl, sym, _∙_}
-use Rattle.choice.proofs.Branches.{eq!, ne!}
+use Rattle.choice.proofs.Branches.{eq!, ne! }
 use borrow.Author.Needs.{needs}
 use Rattle.install.proofs.read_rights.Statement.{statement}
 use Rattle.install.proofs.read_rights.Tie as tie

@@ -2,7 +2,7 @@
 use native.Mathlib.Omega.{arith}
 use mathlib.Core.Path.{refl}
 use Rattle.lines.specs.Window.{found}
-use Rattle.choice.proofs.Branches.{lt!, nlt!}
+use Rattle.choice.proofs.Branches.{lt!, nlt! }
 use borrow.Author.Needs.{needs}
 use Rattle.lines.proofs.found_at.Statement.{statement}
 use Rattle.lines.proofs.found_at.Tie as tie

@@ -2,7 +2,7 @@
 use native.Mathlib.Omega.{arith}
 use mathlib.Core.Path.{ap}
 use Rattle.lines.specs.Window.{lineFrom, stopFrom, gives}
-use Rattle.choice.proofs.Branches.{lt!, nlt!}
+use Rattle.choice.proofs.Branches.{lt!, nlt! }
 use borrow.Author.Needs.{needs}
 use Rattle.lines.proofs.line_from.Statement.{statement}
 use Rattle.lines.proofs.line_from.Tie as tie

@@ -1,7 +1,7 @@
 -- `step_from` meets its contract, by what `until`, `none_left` and `line_from` ensure.
 use native.Mathlib.Omega.{arith}
 use Rattle.lines.specs.Window.{stepOf, stopFrom}
-use Rattle.choice.proofs.Branches.{yes!, no!, le!, nle!}
+use Rattle.choice.proofs.Branches.{yes!, no!, le!, nle! }
 use borrow.Author.Needs.{needs}
 use Rattle.lines.proofs.step_from.Statement.{statement}
 use Rattle.lines.proofs.step_from.Tie as tie

@@ -2,7 +2,7 @@
 use native.Mathlib.Omega.{arith}
 use mathlib.Core.Path.{refl, ap}
 use Rattle.lines.specs.Window.{tailFrom, gives}
-use Rattle.choice.proofs.Branches.{yes!, no!, le!, nle!, lt!, nlt!}
+use Rattle.choice.proofs.Branches.{yes!, no!, le!, nle!, lt!, nlt! }
 use borrow.Author.Needs.{needs}
 use Rattle.lines.proofs.unended.Statement.{statement}
 use Rattle.lines.proofs.unended.Tie as tie

@@ -2,7 +2,7 @@ use Rattle.tlv.proofs.Counts.{list-onward}
 use Rattle.tlv.proofs.Inside.{head-inside, element-inside}
 use Rattle.tlv.specs.Lists.{listOf, restOf, elementAt}
 use borrow.Author.Needs.{needs}
-use Rattle.choice.proofs.Branches.{yes!, no!, lt!, nlt!, eq!, ne!}
+use Rattle.choice.proofs.Branches.{yes!, no!, lt!, nlt!, eq!, ne! }
 use mathlib.Core.Path.{refl, sym, _∙_}
 use native.Mathlib.Omega.{arith}
 use Prim.Native.Nat.{ℕ, _+_, _-_, _*_, _<_}

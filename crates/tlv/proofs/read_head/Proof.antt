@@ -1,6 +1,6 @@
 use Rattle.tlv.proofs.Inside.{length-inside}
 use Rattle.tlv.specs.Tlv.{headAt}
-use Rattle.choice.proofs.Branches.{le!, nle!}
+use Rattle.choice.proofs.Branches.{le!, nle! }
 use mathlib.Core.Path.{refl, sym, _∙_}
 use native.Mathlib.Omega.{arith}
 use borrow.Author.Needs.{needs}

@@ -1,6 +1,6 @@
 use Rattle.tlv.specs.Tlv.{lengthAt}
 use mir.Facts.{fits-8-64}
-use Rattle.choice.proofs.Branches.{le!, nle!, lt!, nlt!, eq!, ne!}
+use Rattle.choice.proofs.Branches.{le!, nle!, lt!, nlt!, eq!, ne! }
 use mathlib.Core.Path.{refl}
 use native.Mathlib.Omega.{arith}
 use borrow.Author.Needs.{needs}

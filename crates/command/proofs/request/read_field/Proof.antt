@@ -1,5 +1,5 @@
 use Rattle.command.specs.Requests.{fieldOf}
-use Rattle.choice.proofs.Branches.{eq!, ne!}
+use Rattle.choice.proofs.Branches.{eq!, ne! }
 use native.Mathlib.Omega.{arith}
 use mathlib.Core.Path.{refl}
 use borrow.Author.Needs.{needs}

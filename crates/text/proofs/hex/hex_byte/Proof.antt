@@ -2,7 +2,7 @@
 use native.Mathlib.Omega.{arith}
 use mathlib.Core.Path.{refl, ap}
 use Rattle.text.specs.declared.hex.Byte.the-variants.{Value}
-use Rattle.choice.proofs.Branches.{lt!, nlt!}
+use Rattle.choice.proofs.Branches.{lt!, nlt! }
 use Rattle.text.proofs.HexLaws.{byte-not, byte-two}
 use borrow.Author.Needs.{needs}
 use Rattle.text.proofs.hex.hex_byte.Statement.{statement}

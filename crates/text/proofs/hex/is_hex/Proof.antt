@@ -1,6 +1,6 @@
 -- `hex::is_hex` meets its contract, by what `same` and `pairs` ensure.
 use mathlib.Core.Path.{refl, sym, _∙_}
-use Rattle.choice.proofs.Branches.{yes!, no!}
+use Rattle.choice.proofs.Branches.{yes!, no! }
 use Rattle.text.proofs.HexLaws.{hex-none, hex-some}
 use borrow.Author.Needs.{needs}
 use Rattle.text.proofs.hex.is_hex.Statement.{statement}

@@ -1,6 +1,6 @@
 -- `hex::nibble` meets its contract. Each exit names the tests that lead to it.
 use native.Mathlib.Omega.{arith}
-use Rattle.choice.proofs.Branches.{le!, nle!, lt!, nlt!}
+use Rattle.choice.proofs.Branches.{le!, nle!, lt!, nlt! }
 use mathlib.Core.Path.{refl}
 use Rattle.text.specs.Hex.{nibbleOf}
 use borrow.Author.Needs.{needs}

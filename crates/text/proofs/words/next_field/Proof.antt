@@ -3,7 +3,7 @@ use native.Mathlib.Omega.{arith}
 use mathlib.Core.Path.{refl, ap}
 use Rattle.text.specs.Words.{fieldAt}
 use Rattle.text.specs.declared.words.Word.the-variants.{Span}
-use Rattle.choice.proofs.Branches.{lt!, nlt!}
+use Rattle.choice.proofs.Branches.{lt!, nlt! }
 use borrow.Author.Needs.{needs}
 use Rattle.text.proofs.words.next_field.Statement.{statement}
 use Rattle.text.proofs.words.next_field.Tie as tie

@@ -1,7 +1,7 @@
 -- `words::next_word` meets its contract, by what `past` and `until` ensure.
 use native.Mathlib.Omega.{arith}
 use mathlib.Core.Path.{refl, ap}
-use Rattle.choice.proofs.Branches.{le!, nle!}
+use Rattle.choice.proofs.Branches.{le!, nle! }
 use Rattle.text.specs.Words.{wordAt, wordFrom}
 use Rattle.text.specs.declared.words.Word.the-variants.{Span}
 use borrow.Author.Needs.{needs}

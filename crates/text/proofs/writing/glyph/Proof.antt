@@ -1,7 +1,7 @@
 -- `writing::glyph` meets its contract. Each exit names the test that leads to it.
 use native.Mathlib.Omega.{arith}
 use mathlib.Core.Path.{refl}
-use Rattle.choice.proofs.Branches.{lt!, nlt!}
+use Rattle.choice.proofs.Branches.{lt!, nlt! }
 use Rattle.text.specs.Hex.{glyphOf}
 use borrow.Author.Needs.{needs}
 use Rattle.text.proofs.writing.glyph.Statement.{statement}
