@@ -1,0 +1,91 @@
+-- What the definitions say of small cards, each by computing it: the example of the request, a refusal, and answers for a person.
+use mathlib.Core.Path.{_≡_, refl}
+use Prim.Native.Nat.{ℕ}
+use mathlib.Core.List.{List, [], _∷_, _++_}
+use lib.ListN.{replicate}
+use Rattle.choice.specs.Choice.{pick, isBelow, isSame}
+use Rattle.text.specs.Hex.{glyphOf, hexText, hexWord}
+use Rattle.text.specs.Numbers.{digitsText}
+use Rattle.status.specs.declared.Status.{Status}
+use Rattle.status.specs.declared.Status.the-variants.{Done, NotHeld, Unsound}
+use Rattle.isdp.specs.Aids.{padded, nameOf}
+use Rattle.isdp.specs.LifeCycle.{disabled, enabled, finish}
+use Rattle.isdp.specs.Place.{none, made}
+use Rattle.isdp.specs.declared.Isdp.{Isdp}
+use Rattle.card.specs.Cards.{withChange}
+use Rattle.card.specs.Fresh.{zeroCard, freshCard}
+use Rattle.card.specs.Notifications.{silent}
+use Rattle.card.specs.declared.Answer.{Answer}
+use Rattle.card.specs.declared.Card.{Card}
+use Rattle.card.specs.declared.Kind.the-variants.{Changed}
+use Rattle.card.specs.declared.Notification.{Notification}
+use Rattle.card.specs.declared.Phase.the-variants.{Trial}
+use Rattle.answers.specs.Letters.{text}
+use Rattle.answers.specs.Lines.{issuedWord, noticeWord, answerLine, reasonText, reasonLine}
+use Rattle.script.specs.declared.arguments.Reason.the-variants.{BadHex}
+use Rattle.answers.specs.Explained.{meaningOf, wordText, responseText, kindText, issuedText, noticeText, spaces, leadOf, columnText, stateText, markText, policyText, nameCells, figureCells, rowText, placeText, rowsText, widestOf, headText, tableText, openText, trialText, phaseText, explainedText}
+
+abbrev one : List ℕ
+one = 0xA0 ∷ 0x00 ∷ 0x00 ∷ 0x00 ∷ 0x01 ∷ []
+
+abbrev two : List ℕ
+two = 0xA0 ∷ 0x00 ∷ 0x00 ∷ 0x00 ∷ 0x02 ∷ []
+
+-- a card with the profile `one` and, at place 2, the profile `two`, which was enabled just now
+abbrev changed : Card
+changed =
+    withChange (freshCard (replicate 16 0) one 1048576 65536 4096 0) 1 (Trial 0 10 1)
+    (made one disabled 65536 4096 ∷ none ∷ record {
+      aid = padded two;
+      len = 5;
+      life = enabled;
+      quota = 2000;
+      used = 0;
+      policy = 4;
+    } ∷ [])
+
+abbrev answered : Status → Card → Notification → ℕ → Answer
+answered word card notification ticks =
+    record { status = word; card = card; length = 0; notification = notification; ticks = ticks }
+
+abbrev first-number : Notification
+first-number = record { kind = Changed; number = 1; eid = replicate 16 0; aid = record { bytes = padded two; len = 5 } }
+
+-- the example of the request
+pub enabled-line : answerLine (answered Done changed first-number 20) [] ≡ text "9000 - 02:0001:A000000002 20\n"
+unfolding answerLine noticeWord issuedWord hexText hexWord glyphOf digitsText pick isBelow padded
+enabled-line = refl
+
+pub refused-line : answerLine (answered NotHeld changed silent 20) [] ≡ text "6A88 - - 20\n"
+unfolding answerLine noticeWord hexText hexWord glyphOf digitsText pick isBelow
+refused-line = refl
+
+pub response-line : answerLine (answered Done changed silent 0) (0xE3 ∷ 0x0A ∷ []) ≡ text "9000 E30A - 0\n"
+unfolding answerLine noticeWord hexText hexWord glyphOf digitsText pick isBelow
+response-line = refl
+
+pub fault-line : reasonLine 12 BadHex ≡ text "line 12: bad hex\n"
+unfolding reasonLine reasonText digitsText pick isBelow
+fault-line = refl
+
+-- the same answers for a person
+pub enabled-explained : explainedText (answered Done changed first-number 20) []
+    ≡ text "90 00 done\n"
+    ++ text "notification 1: changed, A000000002 enabled\n"
+    ++ text "  place  AID         state           quota     used  fall-back  policy\n"
+    ++ text "      0  A000000001  DISABLED        65536     4096  yes        none\n"
+    ++ text "      2  A000000002  ENABLED          2000        0             deleted once disabled\n"
+    ++ text "phase trial: previous at place 0, ticks left 10, number 1\n"
+    ++ text "ticks to come 20\n"
+    ++ text "\n"
+unfolding explainedText wordText meaningOf responseText noticeText issuedText kindText tableText widestOf headText rowsText placeText rowText nameCells figureCells columnText leadOf spaces stateText markText policyText phaseText trialText openText hexText glyphOf digitsText pick isBelow isSame padded
+enabled-explained = refl
+
+pub unsound-explained : explainedText (answered Unsound zeroCard silent 0) []
+    ≡ text "6F 00 the card is not sound\n"
+    ++ text "  no profile is held\n"
+    ++ text "phase quiet\n"
+    ++ text "ticks to come 0\n"
+    ++ text "\n"
+unfolding explainedText wordText meaningOf responseText noticeText tableText widestOf headText rowsText placeText phaseText hexText glyphOf digitsText pick isBelow isSame
+unsound-explained = refl

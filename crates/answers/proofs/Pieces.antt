@@ -1,0 +1,72 @@
+-- What the code writes piece by piece is the text: each law says it of one choice, by the test that the code made, or of one
+-- turn of a loop. Assumes nothing.
+use mathlib.Core.Path.{_≡_, refl, ap, sym, _∙_}
+use Prim.Native.Nat.{ℕ, suc, _+_, _-_, _*_, _≤_, _<_, max}
+use native.Mathlib.Numerals.{add-one}
+use native.Mathlib.Omega.{arith}
+use mathlib.Core.List.{List, [], _∷_, _++_}
+use lib.ListN.{length, drop, getD, drop-of-length-le}
+use lib.Seq.{drop-cons}
+use Rattle.text.specs.Hex.{hexText}
+use Rattle.text.specs.Put.{Wrote}
+use Rattle.text.proofs.PutLaws.{length-put}
+use Rattle.isdp.specs.Aids.{aidOf}
+use Rattle.isdp.specs.declared.Isdp.{Isdp}
+use Rattle.places.proofs.Records.{unread}
+use Rattle.card.specs.declared.Kind.{Kind}
+use Rattle.card.specs.declared.Notification.{Notification}
+use Rattle.answers.specs.Letters.{text}
+use Rattle.answers.specs.Lines.{noticeBy, noticeWord}
+use Rattle.answers.specs.Explained.{responseText, noticeIn, noticeText, spaces, placeText, rowsText, widestOf}
+
+-- a buffer stays as long as it was
+pub wrote-size : {l m vs : List ℕ} {at r : ℕ} → Wrote l at vs r m → length m ≡ length l
+wrote-size {l} {m} {vs} {at} w = ap length (w .content) ∙ length-put l at vs
+
+-- the kind tells whether there is a notification
+pub notice-is : (n : Notification) {k : Kind} → n .kind ≡ k → noticeBy k n ≡ noticeWord n
+unfolding noticeWord
+notice-is n e = ap (λ (k : Kind). noticeBy k n) (sym e)
+
+pub notice-in : (n : Notification) {k : Kind} → n .kind ≡ k → noticeIn k n ≡ noticeText n
+unfolding noticeText
+notice-in n e = ap (λ (k : Kind). noticeIn k n) (sym e)
+
+-- the response has a line of its own where there is one
+pub response-none : (s : List ℕ) → length s ≡ 0 → [] ≡ responseText s
+unfolding responseText
+response-none [] h = refl
+response-none (b ∷ bs) h = absurd (omega arith)
+
+pub response-some : (s : List ℕ) → (length s ≡ 0 → ⊥) → text "response " ++ hexText s ++ text "\n" ≡ responseText s
+unfolding responseText
+response-some [] h = absurd (h refl)
+response-some (b ∷ bs) h = refl
+
+-- one space more is still to write, or none
+pub spaces-step : (count i : ℕ) → i < count → spaces (count - i) ≡ (32 ∷ []) ++ spaces (count - (i + 1))
+unfolding spaces
+spaces-step count i h = let e : count - i ≡ suc (count - (i + 1)) = omega arith in rw e
+
+pub spaces-end : (count : ℕ) → count ≡ 0 → spaces count ≡ []
+unfolding spaces
+spaces-end count h = rw h
+
+-- one turn of the loops over the places, and their ends
+module _ (l : List Isdp) (i : ℕ) where
+  pub widest-step : i < length l → widestOf (drop i l) ≡ max (length (aidOf (getD l i unread))) (widestOf (drop (i + 1) l))
+  unfolding widestOf
+  widest-step h = rw (drop-cons l i unread, add-one)
+
+  pub widest-end : length l ≤ i → widestOf (drop i l) ≡ 0
+  unfolding widestOf
+  widest-end h = rw (drop-of-length-le l h)
+
+  module _ (holder widest : ℕ) where
+    pub rows-step : i < length l → rowsText holder widest i (drop i l) ≡ placeText (getD l i unread) i holder widest ++ rowsText holder widest (i + 1) (drop (i + 1) l)
+    unfolding rowsText
+    rows-step h = rw (drop-cons l i unread, add-one)
+
+    pub rows-end : length l ≤ i → rowsText holder widest i (drop i l) ≡ []
+    unfolding rowsText
+    rows-end h = rw (drop-of-length-le l h)

@@ -1,0 +1,71 @@
+-- What the program writes of a call, on one line: SW RESPONSE NOTIFICATION TICKS. `9000 - 02:0001:A000000002 20` is
+-- a success without response that changed the profile and has 20 ticks still to come.
+use Prim.Native.Nat.{ℕ, _/_, _%_}
+use mathlib.Core.List.{List, [], _∷_, _++_}
+use lib.ListN.{take}
+use Rattle.text.specs.Hex.{hexText, hexWord}
+use Rattle.text.specs.Numbers.{digitsText, decimalText}
+use Rattle.status.specs.StatusWords.{numberOf}
+use Rattle.isdp.specs.declared.Aid.{Aid}
+use Rattle.card.specs.Notifications.{codeOf}
+use Rattle.card.specs.declared.Answer.{Answer}
+use Rattle.card.specs.declared.Kind.{Kind}
+use Rattle.card.specs.declared.Kind.the-variants.{Silent, Changed, RolledBack, FallenBack}
+use Rattle.card.specs.declared.Notification.{Notification}
+use Rattle.answers.specs.Letters.{text}
+use Rattle.script.specs.declared.arguments.Reason.{Reason}
+use Rattle.script.specs.declared.arguments.Reason.the-variants.{TooLong, UnknownWord, WordsMissing, TooManyWords, BadHex, BadNumber, BadPlace, BadPhase}
+
+-- one byte as two hex digits, and a number of two bytes as four
+abbrev pub hex8 : ℕ → List ℕ
+hex8 n = hexText (n ∷ [])
+
+abbrev pub hex16 : ℕ → List ℕ
+hex16 n = hexText (n / 256 ∷ n % 256 ∷ [])
+
+-- an AID, with its true length
+abbrev pub aidText : Aid → List ℕ
+aidText a = hexText (take (a .len) (a .bytes))
+
+-- KIND:NUMBER:AID
+unfoldable pub issuedWord : Notification → List ℕ
+issuedWord n = hex8 (codeOf (n .kind)) ++ text ":" ++ hex16 (n .number) ++ text ":" ++ aidText (n .aid)
+
+-- no notification is `-`
+abbrev pub noticeBy : Kind → Notification → List ℕ
+noticeBy Silent n = text "-"
+noticeBy Changed n = issuedWord n
+noticeBy RolledBack n = issuedWord n
+noticeBy FallenBack n = issuedWord n
+
+unfoldable pub noticeWord : Notification → List ℕ
+noticeWord n = noticeBy (n .kind) n
+
+unfoldable pub answerLine : Answer → List ℕ → List ℕ
+answerLine a response =
+    hex16 (numberOf (a .status))
+    ++ text " "
+    ++ hexWord response
+    ++ text " "
+    ++ noticeWord (a .notification)
+    ++ text " "
+    ++ decimalText (a .ticks)
+    ++ text "\n"
+
+-- a line has 85 bytes at the most and the response's digits, where the figures are of 64 bits
+abbrev pub mostLine : ℕ
+mostLine = 85
+
+-- a line of the script that cannot be read: what is wrong with it
+unfoldable pub reasonText : Reason → List ℕ
+reasonText TooLong = text "too long"
+reasonText UnknownWord = text "unknown word"
+reasonText WordsMissing = text "words missing"
+reasonText TooManyWords = text "too many words"
+reasonText BadHex = text "bad hex"
+reasonText BadNumber = text "bad number"
+reasonText BadPlace = text "bad place"
+reasonText BadPhase = text "bad phase"
+
+unfoldable pub reasonLine : ℕ → Reason → List ℕ
+reasonLine n reason = text "line " ++ decimalText n ++ text ": " ++ reasonText reason ++ text "\n"

@@ -1,0 +1,96 @@
+// One line for each call, `SW RESPONSE NOTIFICATION TICKS`, and `line N: ..` for a line of the script that cannot be read.
+use card::Answer;
+use card::Kind;
+use card::Notification;
+use isdp::Aid;
+use script::Reason;
+use text::put_byte;
+use text::put_bytes;
+use text::put_decimal;
+use text::put_hex;
+use text::put_hex_8;
+use text::put_hex_16;
+use text::put_hex_word;
+ghost use mathlib.Core.Path.{_≡_};
+ghost use Prim.Native.Nat.{_+_, _*_, _≤_};
+ghost use lib.ListN.{length};
+ghost use Rattle.text.specs.Put.{Wrote};
+ghost use Rattle.answers.specs.Lines.{aidText, issuedWord, noticeWord, answerLine, mostLine, reasonText, reasonLine};
+
+// An AID in hex, with its true length; a length over sixteen takes the whole array.
+pub fn put_aid(aid: Aid, buf: &mut [u8], at: usize) -> usize
+    ensures { λ r. ⌜ Wrote (now (buf .entry)) at (aidText aid) r (now (buf .exit)) ⌝ }
+{
+    let bytes = aid.bytes;
+    let n = aid.len;
+    if n > 16 {
+        return put_hex(buf, at, &bytes);
+    }
+    put_hex(buf, at, &bytes[..n])
+}
+
+fn put_issued(notification: Notification, buf: &mut [u8], at: usize) -> usize
+    ensures { λ r. ⌜ Wrote (now (buf .entry)) at (issuedWord notification) r (now (buf .exit)) ⌝ }
+{
+    let kind = notification.kind;
+    let aid = notification.aid;
+    let a = put_hex_8(buf, at, kind.code());
+    let b = put_byte(buf, a, b':');
+    let c = put_hex_16(buf, b, notification.number);
+    let d = put_byte(buf, c, b':');
+    put_aid(aid, buf, d)
+}
+
+fn put_notice(notification: Notification, buf: &mut [u8], at: usize) -> usize
+    ensures { λ r. ⌜ Wrote (now (buf .entry)) at (noticeWord notification) r (now (buf .exit)) ⌝ }
+{
+    let kind = notification.kind;
+    match kind {
+        Kind::Silent => put_byte(buf, at, b'-'),
+        Kind::Changed => put_issued(notification, buf, at),
+        Kind::RolledBack => put_issued(notification, buf, at),
+        Kind::FallenBack => put_issued(notification, buf, at),
+    }
+}
+
+// The line of an answer; the response is what the call left in its buffer.
+pub fn write_answer(answer: Answer, response: &[u8], buf: &mut [u8], at: usize) -> usize
+    ensures { λ r. ⌜ Wrote (now (buf .entry)) at (answerLine answer (now (response .entry))) r (now (buf .exit)) ⌝ }
+{
+    let status = answer.status;
+    let notification = answer.notification;
+    let a = put_hex_16(buf, at, status.number());
+    let b = put_byte(buf, a, b' ');
+    let c = put_hex_word(buf, b, response);
+    let d = put_byte(buf, c, b' ');
+    let e = put_notice(notification, buf, d);
+    let f = put_byte(buf, e, b' ');
+    let g = put_decimal(buf, f, answer.ticks as u64);
+    put_byte(buf, g, b'\n')
+}
+
+fn put_reason(reason: Reason, buf: &mut [u8], at: usize) -> usize
+    ensures { λ r. ⌜ Wrote (now (buf .entry)) at (reasonText reason) r (now (buf .exit)) ⌝ }
+{
+    match reason {
+        Reason::TooLong => put_bytes(buf, at, b"too long"),
+        Reason::UnknownWord => put_bytes(buf, at, b"unknown word"),
+        Reason::WordsMissing => put_bytes(buf, at, b"words missing"),
+        Reason::TooManyWords => put_bytes(buf, at, b"too many words"),
+        Reason::BadHex => put_bytes(buf, at, b"bad hex"),
+        Reason::BadNumber => put_bytes(buf, at, b"bad number"),
+        Reason::BadPlace => put_bytes(buf, at, b"bad place"),
+        Reason::BadPhase => put_bytes(buf, at, b"bad phase"),
+    }
+}
+
+// A line of the script that cannot be read, by its number, and what is wrong with it.
+pub fn write_reason(number: u64, reason: Reason, buf: &mut [u8], at: usize) -> usize
+    ensures { λ r. ⌜ Wrote (now (buf .entry)) at (reasonLine number reason) r (now (buf .exit)) ⌝ }
+{
+    let a = put_bytes(buf, at, b"line ");
+    let b = put_decimal(buf, a, number);
+    let c = put_bytes(buf, b, b": ");
+    let d = put_reason(reason, buf, c);
+    put_byte(buf, d, b'\n')
+}

@@ -1,0 +1,121 @@
+-- What a line of a script asks for: "words parted by spaces, .. `#` comments and empty lines passed over". The first word decides,
+-- then the number of words, then the words from left to right: the first that is wrong gives the reason.
+use Prim.Native.Nat.{ℕ}
+use mathlib.Core.List.{List, [], _∷_}
+use lib.ListN.{length, getD}
+use Rattle.choice.specs.Choice.{pick, isBelow, isSame}
+use Rattle.text.specs.Words.{sameOf, part, wordsOf, wordAt, onWord}
+use Rattle.lines.specs.Lines.{longest}
+use Rattle.script.specs.Arguments.{most32, most8, onBytes, onValue, bytesAt, valueAt, roomAt}
+use Rattle.script.specs.Records.{onReading, recordAt}
+use Rattle.script.specs.declared.arguments.Span.{Span}
+use Rattle.script.specs.declared.arguments.Reason.the-variants.{TooLong, UnknownWord, WordsMissing, TooManyWords}
+use Rattle.script.specs.declared.orders.Verb.{Verb}
+use Rattle.script.specs.declared.orders.Verb.the-variants as verb
+use Rattle.script.specs.declared.orders.Order.{Order}
+use Rattle.script.specs.declared.orders.Order.the-variants as order
+
+-- the first words, in ASCII
+abbrev pub fresh : List ℕ
+fresh = 102 ∷ 114 ∷ 101 ∷ 115 ∷ 104 ∷ []
+
+abbrev pub command : List ℕ
+command = 99 ∷ 111 ∷ 109 ∷ 109 ∷ 97 ∷ 110 ∷ 100 ∷ []
+
+abbrev pub keyed : List ℕ
+keyed = 107 ∷ 101 ∷ 121 ∷ 101 ∷ 100 ∷ []
+
+abbrev pub stored : List ℕ
+stored = 115 ∷ 116 ∷ 111 ∷ 114 ∷ 101 ∷ 100 ∷ []
+
+abbrev pub finished : List ℕ
+finished = 102 ∷ 105 ∷ 110 ∷ 105 ∷ 115 ∷ 104 ∷ 101 ∷ 100 ∷ []
+
+abbrev pub tick : List ℕ
+tick = 116 ∷ 105 ∷ 99 ∷ 107 ∷ []
+
+abbrev pub lost : List ℕ
+lost = 108 ∷ 111 ∷ 115 ∷ 116 ∷ []
+
+abbrev pub card : List ℕ
+card = 99 ∷ 97 ∷ 114 ∷ 100 ∷ []
+
+-- `#`
+abbrev pub hash : ℕ
+hash = 35
+
+unfoldable pub verbOf : List ℕ → Verb
+verbOf w =
+    pick (sameOf w fresh) verb.Fresh
+    (pick (sameOf w command) verb.Command
+    (pick (sameOf w keyed) verb.Keyed
+    (pick (sameOf w stored) verb.Stored
+    (pick (sameOf w finished) verb.Finished
+    (pick (sameOf w tick) verb.Tick
+    (pick (sameOf w lost) verb.Lost
+    (pick (sameOf w card) verb.Card verb.Unknown)))))))
+
+-- the order of a line of n words, where it should have from `least` to `most`
+unfoldable pub counted : ℕ → ℕ → ℕ → Order → Order
+counted least most n o = pick (isBelow n least) (order.Wrong WordsMissing) (pick (isBelow most n) (order.Wrong TooManyWords) o)
+
+-- CAPACITY QUOTA USED VOLATILE
+unfoldable pub freshWith : List ℕ → ℕ → Span → Span → Order
+freshWith s at eid aid =
+    onValue (valueAt most32 s at) order.Wrong λ capacity b.
+    onValue (valueAt most32 s b) order.Wrong λ quota c.
+    onValue (valueAt most32 s c) order.Wrong λ used d.
+    onValue (valueAt most32 s d) order.Wrong λ volatile e. order.Fresh eid aid capacity quota used volatile
+
+-- EID AID CAPACITY QUOTA USED VOLATILE
+unfoldable pub freshAt : List ℕ → ℕ → Order
+freshAt s at =
+    onBytes (bytesAt s at) order.Wrong λ eid.
+    onBytes (bytesAt s (eid .to)) order.Wrong λ aid. freshWith s (aid .to) eid aid
+
+-- VERDICT HEX, or VERDICT HEX LENGTH
+unfoldable pub commandAt : List ℕ → ℕ → Order
+commandAt s at =
+    onValue (valueAt most8 s at) order.Wrong λ verdict b.
+    onBytes (bytesAt s b) order.Wrong λ bytes.
+    onValue (roomAt s (bytes .to)) order.Wrong λ room e. order.Command verdict bytes room
+
+-- AID
+unfoldable pub keyedAt : List ℕ → ℕ → Order
+keyedAt s at = onBytes (bytesAt s at) order.Wrong λ aid. order.Keyed aid
+
+-- AID N
+unfoldable pub storedAt : List ℕ → ℕ → Order
+storedAt s at =
+    onBytes (bytesAt s at) order.Wrong λ aid.
+    onValue (valueAt most32 s (aid .to)) order.Wrong λ n e. order.Stored aid n
+
+-- AID POLICY
+unfoldable pub finishedAt : List ℕ → ℕ → Order
+finishedAt s at =
+    onBytes (bytesAt s at) order.Wrong λ aid.
+    onValue (valueAt most8 s (aid .to)) order.Wrong λ policy e. order.Finished aid policy
+
+-- EID CAPACITY VOLATILE LAST FALLBACK PHASE PLACE0 .. PLACE7
+unfoldable pub recordOrder : List ℕ → ℕ → Order
+recordOrder s at = onReading (recordAt s at .reading) order.Wrong order.Record
+
+-- by the first word, which ends at `at`, of n words
+unfoldable pub orderBy : Verb → ℕ → List ℕ → ℕ → Order
+orderBy verb.Fresh n s at = counted 7 7 n (freshAt s at)
+orderBy verb.Command n s at = counted 3 4 n (commandAt s at)
+orderBy verb.Keyed n s at = counted 2 2 n (keyedAt s at)
+orderBy verb.Stored n s at = counted 3 3 n (storedAt s at)
+orderBy verb.Finished n s at = counted 3 3 n (finishedAt s at)
+orderBy verb.Tick n s at = counted 1 1 n order.Tick
+orderBy verb.Lost n s at = counted 1 1 n order.Lost
+orderBy verb.Card n s at = counted 15 15 n (recordOrder s at)
+orderBy verb.Unknown n s at = order.Wrong UnknownWord
+
+-- "(a line has at most 4,096 bytes)"
+unfoldable pub orderOf : List ℕ → Order
+orderOf s =
+    pick (isBelow longest (length s)) (order.Wrong TooLong)
+    (onWord (wordAt s 0) order.Nothing λ a e.
+    pick (isSame (getD s a 0) hash) order.Nothing
+    (orderBy (verbOf (part s a e)) (length (wordsOf s)) s e))
