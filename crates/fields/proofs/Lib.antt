@@ -1,4 +1,5 @@
 -- The laws of the data fields.
+pub mod Alone
 pub mod Left
 pub mod Only
 pub mod Cases

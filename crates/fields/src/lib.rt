@@ -1,5 +1,6 @@
 // The data fields of STORE DATA, DELETE and GET STATUS. Every function reads a window of the whole command, from `at` up to `end`;
 // one that does not lie in it is wrong. An AID is handed on as its place in the command.
+use reader::only_element;
 use tlv::Element;
 use tlv::Part;
 use tlv::TagRead;
@@ -13,17 +14,15 @@ ghost use Rattle.fields.specs.StoreData.{dgiAt, numberAt, confirmationAt
 ghost use Rattle.fields.specs.Delete.{verificationAt, deletionAt};
 ghost use Rattle.fields.specs.GetStatus.{noted, listedAt, tagsAt, listingAt};
 
-// The element that the table has there, where it fills the window.
+// The element that the table has there, where it fills the window: the command up to `end` is read with a reader.
 fn read_alone(s: &[u8], at: usize, end: usize, tag: u16, low: usize, high: usize) -> Element
     ensures { λ r. ⌜ r ≡ aloneAt (now (s .entry)) at end tag low high ⌝ }
 {
-    let Element::Found { start, stop } = expect(s, at, end, tag, low, high) else {
-        return Element::Wrong;
-    };
-    if stop != end {
+    if s.len() < end {
         return Element::Wrong;
     }
-    Element::Found { start, stop }
+    let field = &s[..end];
+    only_element(field, at, tag, low, high)
 }
 
 // A DGI that fills the window: its number, and where its contents start.

@@ -1,9 +1,8 @@
 -- Every order fits its line. Each word's reader is taken apart once (`by-bytes`, `by-value`), and each order is a chain of them;
 -- a reason fits any line. The longest line has 4,096 bytes, so a byte string in it has at most 2,048.
-use Prim.Native.Nat.{ℕ, _+_, _-_, _/_, _≤_, _<_}
+use Prim.Native.Nat.{ℕ, _-_, _/_, _≤_, _<_}
 use mathlib.Core.Path.{_≡_, refl, sym, ap, subst}
 use mathlib.Core.List.{List}
-use mathlib.Core.Bool.{true, false}
 use native.Mathlib.Omega.{arith}
 use lib.ListN.{length, getD, drop, length-drop}
 use lib.Seq.{length-take-le}
@@ -18,7 +17,7 @@ use Rattle.text.proofs.WordLists.{word-inside}
 use Rattle.text.proofs.HexLaws.{hex-fits, spelled-length}
 use Rattle.lines.specs.Lines.{longest}
 use Rattle.script.specs.Arguments.{most32, most8, onBytes, onValue, bytesAt, valueAt, roomAt}
-use Rattle.script.specs.Records.{onReading, recordAt, recordOf, noRecord}
+use Rattle.script.specs.Records.{onReading, recordAt, recordOf}
 use Rattle.script.specs.Orders.{hash, verbOf, counted, freshWith, freshAt, commandAt, keyedAt, storedAt, finishedAt, recordOrder, orderBy, orderOf}
 use Rattle.script.specs.Fits.{Fits, OrderFits, OrdersFit}
 use Rattle.script.specs.declared.arguments.Span.{Span}

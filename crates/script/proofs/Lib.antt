@@ -3,3 +3,4 @@ pub mod Within
 pub mod Names
 pub mod PlaceList
 pub mod Fits
+pub mod Examples

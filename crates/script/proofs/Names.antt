@@ -1,9 +1,9 @@
 -- What `read_hex` leaves in sixteen zeros is the byte string with zeros after it, and the byte string itself where it has sixteen bytes.
 use Prim.Native.Nat.{ℕ, zero, suc, _-_, _/_, _≤_}
-use mathlib.Core.Path.{_≡_, refl, sym, ap, _∙_}
-use mathlib.Core.List.{List, [], _∷_, _++_}
+use mathlib.Core.Path.{_≡_, sym, ap, _∙_}
+use mathlib.Core.List.{List, _++_}
 use native.Mathlib.Omega.{arith}
-use lib.ListN.{length, take, drop, replicate}
+use lib.ListN.{length, drop, replicate}
 use lib.Seq.{take-all}
 use Rattle.text.specs.Put.{put}
 use Rattle.text.specs.Hex.{isHex, spelled, hexReadOf, hexLeft}

@@ -1,8 +1,8 @@
 -- "PHASE `Q`, `T:PREVIOUS:LEFT:NUMBER`, `B:LEFT:NUMBER` or `F:LEFT:NUMBER`; PLACE `-`, or `AID:STATE:QUOTA:USED:POLICY` (AID up to
 -- 16 bytes or `-`, STATE two hex digits)". A field after the last one is wrong.
 use Prim.Native.Nat.{ℕ, _+_}
-use mathlib.Core.List.{List, [], _∷_}
-use mathlib.Core.Bool.{Bool, true, false}
+use mathlib.Core.List.{List}
+use mathlib.Core.Bool.{true, false}
 use lib.ListN.{length}
 use Rattle.choice.specs.Choice.{pick, atMost}
 use Rattle.text.specs.Words.{sameOf, part, fieldAt, onWord}
@@ -15,8 +15,8 @@ use Rattle.text.specs.declared.hex.HexRead.the-variants as hexread
 use Rattle.isdp.specs.Sizes.{mostAid}
 use Rattle.isdp.specs.Aids.{padded}
 use Rattle.isdp.specs.Place.{none}
-use Rattle.card.specs.declared.Phase.{Phase}
 use Rattle.card.specs.declared.Phase.the-variants.{Quiet, Trial, Back, Fallen}
+use Rattle.script.specs.Ascii.{ascii}
 use Rattle.script.specs.Arguments.{most32, most16, most8, onNumber}
 use Rattle.script.specs.declared.fields.Field.{Field}
 use Rattle.script.specs.declared.fields.Field.the-variants as field
@@ -73,15 +73,15 @@ trialAt w at =
     onField (numberAt most8 w at) phased.Wrong λ previous b.
     onOpen (openAt w b) phased.Wrong λ left number. phased.Is (Trial previous left number)
 
--- Q 81, T 84, B 66, F 70
-unfoldable pub phaseOf : List ℕ → Phased
-phaseOf w =
-    pick (sameOf w (81 ∷ [])) (phased.Is Quiet)
+-- PHASE
+unfoldable pub spelledPhase : List ℕ → Phased
+spelledPhase w =
+    pick (sameOf w (ascii "Q")) (phased.Is Quiet)
     (onWord (fieldAt colon w 0) phased.Wrong λ a e.
-    pick (sameOf (part w a e) (84 ∷ [])) (trialAt w (e + 1))
+    pick (sameOf (part w a e) (ascii "T")) (trialAt w (e + 1))
     (onOpen (openAt w (e + 1)) phased.Wrong λ left number.
-    pick (sameOf (part w a e) (66 ∷ [])) (phased.Is (Back left number))
-    (pick (sameOf (part w a e) (70 ∷ [])) (phased.Is (Fallen left number)) phased.Wrong)))
+    pick (sameOf (part w a e) (ascii "B")) (phased.Is (Back left number))
+    (pick (sameOf (part w a e) (ascii "F")) (phased.Is (Fallen left number)) phased.Wrong)))
 
 -- QUOTA:USED:POLICY
 unfoldable pub sizesAt : List ℕ → ℕ → Sizes
@@ -102,9 +102,9 @@ placeWith w at aid len =
     onSizes (sizesAt w (e + 1)) noPlace λ quota used policy.
     record { ok = true; place = record { aid = aid; len = len; life = life; quota = quota; used = used; policy = policy } }
 
--- `-` 45
-unfoldable pub placeOf : List ℕ → Placed
-placeOf w =
-    pick (sameOf w (45 ∷ [])) (record { ok = true; place = none })
+-- PLACE
+unfoldable pub spelledPlace : List ℕ → Placed
+spelledPlace w =
+    pick (sameOf w (ascii "-")) (record { ok = true; place = none })
     (onWord (fieldAt colon w 0) noPlace λ a e.
     onRead (hexReadOf (part w a e) mostAid) noPlace λ n. placeWith w (e + 1) (padded (spelled (part w a e))) n)

@@ -1,4 +1,5 @@
 -- What a line of a script means.
+pub mod Ascii
 pub mod Arguments
 pub mod Fields
 pub mod Records

@@ -1,11 +1,12 @@
 -- What a line of a script asks for: "words parted by spaces, .. `#` comments and empty lines passed over". The first word decides,
 -- then the number of words, then the words from left to right: the first that is wrong gives the reason.
 use Prim.Native.Nat.{ℕ}
-use mathlib.Core.List.{List, [], _∷_}
+use mathlib.Core.List.{List}
 use lib.ListN.{length, getD}
 use Rattle.choice.specs.Choice.{pick, isBelow, isSame}
 use Rattle.text.specs.Words.{sameOf, part, wordsOf, wordAt, onWord}
 use Rattle.lines.specs.Lines.{longest}
+use Rattle.script.specs.Ascii.{ascii}
 use Rattle.script.specs.Arguments.{most32, most8, onBytes, onValue, bytesAt, valueAt, roomAt}
 use Rattle.script.specs.Records.{onReading, recordAt}
 use Rattle.script.specs.declared.arguments.Span.{Span}
@@ -15,45 +16,20 @@ use Rattle.script.specs.declared.orders.Verb.the-variants as verb
 use Rattle.script.specs.declared.orders.Order.{Order}
 use Rattle.script.specs.declared.orders.Order.the-variants as order
 
--- the first words, in ASCII
-abbrev pub fresh : List ℕ
-fresh = 102 ∷ 114 ∷ 101 ∷ 115 ∷ 104 ∷ []
-
-abbrev pub command : List ℕ
-command = 99 ∷ 111 ∷ 109 ∷ 109 ∷ 97 ∷ 110 ∷ 100 ∷ []
-
-abbrev pub keyed : List ℕ
-keyed = 107 ∷ 101 ∷ 121 ∷ 101 ∷ 100 ∷ []
-
-abbrev pub stored : List ℕ
-stored = 115 ∷ 116 ∷ 111 ∷ 114 ∷ 101 ∷ 100 ∷ []
-
-abbrev pub finished : List ℕ
-finished = 102 ∷ 105 ∷ 110 ∷ 105 ∷ 115 ∷ 104 ∷ 101 ∷ 100 ∷ []
-
-abbrev pub tick : List ℕ
-tick = 116 ∷ 105 ∷ 99 ∷ 107 ∷ []
-
-abbrev pub lost : List ℕ
-lost = 108 ∷ 111 ∷ 115 ∷ 116 ∷ []
-
-abbrev pub card : List ℕ
-card = 99 ∷ 97 ∷ 114 ∷ 100 ∷ []
-
 -- `#`
 abbrev pub hash : ℕ
 hash = 35
 
 unfoldable pub verbOf : List ℕ → Verb
 verbOf w =
-    pick (sameOf w fresh) verb.Fresh
-    (pick (sameOf w command) verb.Command
-    (pick (sameOf w keyed) verb.Keyed
-    (pick (sameOf w stored) verb.Stored
-    (pick (sameOf w finished) verb.Finished
-    (pick (sameOf w tick) verb.Tick
-    (pick (sameOf w lost) verb.Lost
-    (pick (sameOf w card) verb.Card verb.Unknown)))))))
+    pick (sameOf w (ascii "fresh")) verb.Fresh
+    (pick (sameOf w (ascii "command")) verb.Command
+    (pick (sameOf w (ascii "keyed")) verb.Keyed
+    (pick (sameOf w (ascii "stored")) verb.Stored
+    (pick (sameOf w (ascii "finished")) verb.Finished
+    (pick (sameOf w (ascii "tick")) verb.Tick
+    (pick (sameOf w (ascii "lost")) verb.Lost
+    (pick (sameOf w (ascii "card")) verb.Card verb.Unknown)))))))
 
 -- the order of a line of n words, where it should have from `least` to `most`
 unfoldable pub counted : ℕ → ℕ → ℕ → Order → Order

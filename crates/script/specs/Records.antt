@@ -12,7 +12,7 @@ use Rattle.isdp.specs.declared.Isdp.{Isdp}
 use Rattle.card.specs.Fresh.{zeroCard}
 use Rattle.card.specs.declared.Phase.{Phase}
 use Rattle.script.specs.Arguments.{most32, most16, most8, onValue, valueAt}
-use Rattle.script.specs.Fields.{onRead, phaseOf, placeOf}
+use Rattle.script.specs.Fields.{onRead, spelledPhase, spelledPlace}
 use Rattle.script.specs.declared.arguments.Reason.{Reason}
 use Rattle.script.specs.declared.arguments.Reason.the-variants.{WordsMissing, BadHex, BadPlace, BadPhase}
 use Rattle.script.specs.declared.fields.Phased.{Phased}
@@ -46,7 +46,7 @@ onReading reading.Fine g x = x
 unfoldable pub phaseAt : List ℕ → ℕ → PhaseRead
 phaseAt s at =
     onWord (wordAt s at) (phaseread.Wrong WordsMissing) λ a e.
-    onPhased (phaseOf (part s a e)) (phaseread.Wrong BadPhase) λ phase. phaseread.Is phase e
+    onPhased (spelledPhase (part s a e)) (phaseread.Wrong BadPhase) λ phase. phaseread.Is phase e
 
 -- CAPACITY VOLATILE LAST FALLBACK PHASE, and the place after them
 unfoldable pub headAt : List ℕ → ℕ → Head
@@ -65,7 +65,7 @@ unfoldable pub placesOn : ℕ → List ℕ → ℕ → List Isdp → Held
 placesOn zero s at before = record { reading = reading.Fine; places = before }
 placesOn (suc n) s at before =
     onWord (wordAt s at) (notHeld WordsMissing) λ a e.
-    pick (placeOf (part s a e) .ok) (placesOn n s e (before ++ (placeOf (part s a e) .place ∷ []))) (notHeld BadPlace)
+    pick (spelledPlace (part s a e) .ok) (placesOn n s e (before ++ (spelledPlace (part s a e) .place ∷ []))) (notHeld BadPlace)
 
 abbrev pub noRecord : Reason → Record
 noRecord why = record { reading = reading.Wrong why; card = zeroCard }

@@ -12,7 +12,7 @@ use text::next_field;
 use text::read_hex;
 use text::same;
 ghost use mathlib.Core.Path.{_≡_};
-ghost use Rattle.script.specs.Fields.{numberAt, openAt, trialAt, phaseOf, sizesAt, placeWith, placeOf, noPlace};
+ghost use Rattle.script.specs.Fields.{numberAt, openAt, trialAt, spelledPhase, sizesAt, placeWith, spelledPlace, noPlace};
 
 // `next` is the place of the field after it.
 pub enum Field {
@@ -79,7 +79,7 @@ fn trial_at(w: &[u8], at: usize) -> Phased
 }
 
 pub fn read_phase(w: &[u8]) -> Phased
-    ensures { λ r. ⌜ r ≡ phaseOf (now (w .entry)) ⌝ }
+    ensures { λ r. ⌜ r ≡ spelledPhase (now (w .entry)) ⌝ }
 {
     if same(w, b"Q") {
         return Phased::Is(Phase::Quiet);
@@ -173,7 +173,7 @@ fn place_with(w: &[u8], at: usize, aid: [u8; 16], len: usize) -> Placed
 }
 
 pub fn read_place(w: &[u8]) -> Placed
-    ensures { λ r. ⌜ r ≡ placeOf (now (w .entry)) ⌝ }
+    ensures { λ r. ⌜ r ≡ spelledPlace (now (w .entry)) ⌝ }
 {
     if same(w, b"-") {
         let place = Isdp::none();

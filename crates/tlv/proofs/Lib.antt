@@ -5,5 +5,6 @@ pub mod Counts
 pub mod Fills
 pub mod Examples
 pub mod Windows
+pub mod Fronts
 pub mod Written
 pub mod ReadBack

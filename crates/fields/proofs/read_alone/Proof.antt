@@ -1,32 +1,23 @@
-use Rattle.fields.specs.Alone.{aloneAt}
-use Rattle.choice.proofs.Branches.{eq!, ne! }
-use mathlib.Core.Path.{refl}
 use native.Mathlib.Omega.{arith}
 use borrow.Author.Needs.{needs}
+use mathlib.Core.Path.{sym, _∙_}
+use lib.Seq.{length-take-le}
+use Rattle.fields.proofs.Alone.{alone-none, alone-only}
 use Rattle.fields.proofs.read_alone.Statement.{statement}
 use Rattle.fields.proofs.read_alone.Tie as tie
 
-expect-requires : tie.Need-expect-requires
-expect-requires c κs = search needs
-
-enum-known-start : tie.Need-enum-known-start
-enum-known-start c = search needs
-
-enum-told : tie.Need-enum-told
-enum-told c = search needs
-
 returns : tie.Need-returns
-unfolding aloneAt
-returns c = rw (← c .before .before .expect .ensures) (rw (c .enum-told .given .1) refl)
+returns c = alone-none _ _ _ _ _ _ (omega arith)
+
+slice-aggregate-field : tie.Need-slice-aggregate-field
+slice-aggregate-field c = sym (length-take-le _ _ (omega arith))
+
+only-element-requires : tie.Need-only-element-requires
+only-element-requires c κs = search needs
 
 returns-2 : tie.Need-returns-2
-unfolding aloneAt
-returns-2 c = rw (← c .before .before .before .before .expect .ensures) (rw (c .before .before .start .given .1) (ne! _ (omega arith) refl))
-
-returns-3 : tie.Need-returns-3
-unfolding aloneAt
-returns-3 c = rw (← c .before .before .before .before .expect .ensures) (rw (c .before .before .start .given .1) (eq! _ (omega arith) refl))
+returns-2 c = c .only-element .ensures ∙ alone-only _ _ _ _ _ _ (omega arith)
 
 pub read-alone-spec : {M : Type 1} → statement M
 read-alone-spec =
-    tie.close (tie.spec expect-requires enum-known-start enum-told returns returns-2 returns-3)
+    tie.close (tie.spec returns slice-aggregate-field only-element-requires returns-2)

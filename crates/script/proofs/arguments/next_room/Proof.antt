@@ -1,3 +1,4 @@
+-- `arguments::next_room` meets its contract: where there is a word, it is `next_value` of it.
 use mathlib.Core.Path.{refl, sym, _∙_}
 use Rattle.script.specs.Arguments.{roomAt}
 use borrow.Author.Needs.{needs}

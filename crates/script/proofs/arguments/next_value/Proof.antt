@@ -1,3 +1,4 @@
+-- `arguments::next_value` meets its contract: each exit names the word and what its digits spell; the word lies inside the line.
 use mathlib.Core.Path.{refl, sym, _∙_}
 use Rattle.text.proofs.WordLists.{word-inside}
 use Rattle.script.specs.Arguments.{valueAt}

@@ -1,3 +1,4 @@
+-- `fields::next_number` meets its contract: each exit names the field and what its digits spell; the field lies inside the word, so the place after it fits.
 use mathlib.Core.Path.{refl, sym, _∙_}
 use Rattle.text.proofs.WordLists.{field-inside}
 use Rattle.script.specs.Fields.{numberAt}

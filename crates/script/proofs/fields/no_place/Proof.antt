@@ -1,3 +1,4 @@
+-- `fields::no_place` meets its contract, by what `Isdp::none` ensures.
 use mathlib.Core.Path.{refl}
 use borrow.Author.Needs.{needs}
 use Rattle.script.proofs.fields.no_place.Statement.{statement}

@@ -1,3 +1,4 @@
+-- `fields::open_at` meets its contract: the two numbers in turn, and the place after them. Both casts fit, by `number-within`.
 use mathlib.Core.Path.{refl, sym, _∙_}
 use native.Mathlib.Omega.{arith}
 use Rattle.choice.proofs.Branches.{le!, nle! }

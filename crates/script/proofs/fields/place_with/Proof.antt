@@ -1,3 +1,4 @@
+-- `fields::place_with` meets its contract: the state, then `sizes_at` after it.
 use mathlib.Core.Path.{refl, sym, _∙_}
 use Rattle.text.proofs.WordLists.{field-inside}
 use Rattle.script.specs.Fields.{placeWith}

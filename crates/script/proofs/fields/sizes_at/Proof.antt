@@ -1,3 +1,4 @@
+-- `fields::sizes_at` meets its contract: the three numbers in turn, and the place after them. The cast fits, by `number-within`.
 use mathlib.Core.Path.{refl, sym, _∙_}
 use native.Mathlib.Omega.{arith}
 use Rattle.choice.proofs.Branches.{le!, nle! }

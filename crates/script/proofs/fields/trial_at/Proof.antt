@@ -1,3 +1,4 @@
+-- `fields::trial_at` meets its contract: the first number, and `open_at` after it.
 use mathlib.Core.Path.{refl, sym, _∙_}
 use Rattle.script.specs.Fields.{trialAt}
 use borrow.Author.Needs.{needs}

@@ -1,3 +1,4 @@
+-- `orders::command_order` meets its contract: the verdict, the bytes and the length in turn. The cast fits, by `value-within`.
 use mathlib.Core.Path.{refl, sym, _∙_}
 use Rattle.script.proofs.Within.{value-within}
 use Rattle.script.specs.Orders.{commandAt}

@@ -1,4 +1,5 @@
-use mathlib.Core.Path.{refl, sym, _∙_}
+-- `orders::counted` meets its contract: each exit names its tests.
+use mathlib.Core.Path.{refl}
 use native.Mathlib.Omega.{arith}
 use Rattle.choice.proofs.Branches.{lt!, nlt! }
 use Rattle.script.specs.Orders.{counted}

@@ -1,3 +1,4 @@
+-- `orders::finished_order` meets its contract: the AID, then the policy. The cast fits, by `value-within`.
 use mathlib.Core.Path.{refl, sym, _∙_}
 use Rattle.script.proofs.Within.{value-within}
 use Rattle.script.specs.Orders.{finishedAt}

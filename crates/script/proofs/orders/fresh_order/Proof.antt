@@ -1,3 +1,4 @@
+-- `orders::fresh_order` meets its contract: the two byte strings, then `fresh_with`.
 use mathlib.Core.Path.{refl, sym, _∙_}
 use Rattle.script.specs.Orders.{freshAt}
 use borrow.Author.Needs.{needs}

@@ -1,3 +1,4 @@
+-- `orders::fresh_with` meets its contract: the four numbers in turn.
 use mathlib.Core.Path.{refl, sym, _∙_}
 use Rattle.script.specs.Orders.{freshWith}
 use borrow.Author.Needs.{needs}

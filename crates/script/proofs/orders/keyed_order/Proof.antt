@@ -1,3 +1,4 @@
+-- `orders::keyed_order` meets its contract, by what `next_bytes` ensures.
 use mathlib.Core.Path.{refl, sym, _∙_}
 use Rattle.script.specs.Orders.{keyedAt}
 use borrow.Author.Needs.{needs}

@@ -1,3 +1,4 @@
+-- `orders::order_by` meets its contract: each exit is one clause of `orderBy`.
 use mathlib.Core.Path.{refl}
 use Rattle.script.specs.Orders.{orderBy}
 use borrow.Author.Needs.{needs}

@@ -1,3 +1,4 @@
+-- `orders::read_line` meets its contract: each exit names its tests; the last is `order_by` of what `verb_of` and `count_words` ensure.
 use mathlib.Core.Path.{refl, sym, _∙_}
 use native.Mathlib.Omega.{arith}
 use Rattle.text.proofs.WordLists.{word-inside}

@@ -1,3 +1,4 @@
+-- `orders::record_order` meets its contract, by what `record_at` ensures.
 use mathlib.Core.Path.{refl}
 use Rattle.script.specs.Orders.{recordOrder}
 use borrow.Author.Needs.{needs}

@@ -1,3 +1,4 @@
+-- `orders::stored_order` meets its contract: the AID, then the number.
 use mathlib.Core.Path.{refl, sym, _∙_}
 use Rattle.script.specs.Orders.{storedAt}
 use borrow.Author.Needs.{needs}

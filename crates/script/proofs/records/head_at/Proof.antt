@@ -1,3 +1,4 @@
+-- `records::head_at` meets its contract: the four numbers in turn, then the phase. The cast to 16 bits fits, by `value-within`.
 use mathlib.Core.Path.{refl, sym, _∙_}
 use Rattle.script.proofs.Within.{value-within}
 use Rattle.script.specs.Records.{headAt}

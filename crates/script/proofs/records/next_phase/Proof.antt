@@ -1,3 +1,4 @@
+-- `records::next_phase` meets its contract: each exit names the word and the phase that it spells.
 use mathlib.Core.Path.{refl, sym, _∙_}
 use Rattle.text.proofs.WordLists.{word-inside}
 use Rattle.script.specs.Records.{phaseAt}

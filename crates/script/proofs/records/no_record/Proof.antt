@@ -1,3 +1,4 @@
+-- `records::no_record` meets its contract, by what `Card::zero` ensures.
 use mathlib.Core.Path.{refl}
 use borrow.Author.Needs.{needs}
 use Rattle.script.proofs.records.no_record.Statement.{statement}

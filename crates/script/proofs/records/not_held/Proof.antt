@@ -1,3 +1,4 @@
+-- `records::not_held` meets its contract, by what `Isdp::none` ensures.
 use mathlib.Core.Path.{refl}
 use borrow.Author.Needs.{needs}
 use Rattle.script.proofs.records.not_held.Statement.{statement}

@@ -1,3 +1,4 @@
+-- `records::read_record` meets its contract: `record_at` after the first word.
 use mathlib.Core.Path.{sym, _∙_}
 use Rattle.script.specs.Records.{recordOf}
 use borrow.Author.Needs.{needs}

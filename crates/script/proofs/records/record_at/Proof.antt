@@ -1,4 +1,5 @@
-use mathlib.Core.Path.{refl, sym, _∙_}
+-- `records::record_at` meets its contract: what `read_hex` leaves in sixteen zeros is the EID where it has sixteen bytes, by `eid-read`.
+use mathlib.Core.Path.{sym, _∙_}
 use Rattle.text.proofs.WordLists.{word-inside}
 use Rattle.choice.proofs.Branches.{eq!, ne! }
 use Rattle.script.proofs.Names.{record-as, eid-read}

@@ -1,3 +1,4 @@
+-- `records::record_with` meets its contract: the head, then the places.
 use mathlib.Core.Path.{refl, sym, _∙_}
 use Rattle.script.specs.Records.{recordWith}
 use borrow.Author.Needs.{needs}
