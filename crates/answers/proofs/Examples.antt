@@ -8,10 +8,9 @@ use Rattle.text.specs.Hex.{glyphOf, hexText, hexWord}
 use Rattle.text.specs.Numbers.{digitsText}
 use Rattle.status.specs.declared.Status.{Status}
 use Rattle.status.specs.declared.Status.the-variants.{Done, NotHeld, Unsound}
-use Rattle.isdp.specs.Aids.{padded, nameOf}
-use Rattle.isdp.specs.LifeCycle.{disabled, enabled, finish}
+use Rattle.isdp.specs.Aids.{padded}
+use Rattle.isdp.specs.LifeCycle.{disabled, enabled}
 use Rattle.isdp.specs.Place.{none, made}
-use Rattle.isdp.specs.declared.Isdp.{Isdp}
 use Rattle.card.specs.Cards.{withChange}
 use Rattle.card.specs.Fresh.{zeroCard, freshCard}
 use Rattle.card.specs.Notifications.{silent}

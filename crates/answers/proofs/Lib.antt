@@ -1,3 +1,6 @@
 -- Laws that several proofs cite, and the worked examples.
+pub mod Records
 pub mod Pieces
+pub mod Lengths
+pub mod Columns
 pub mod Examples

@@ -1,11 +1,12 @@
 -- What the program writes of a call for a person: the word and what it means, the response and the notification where there is one,
 -- the profiles as a table, the phase, and the ticks to come. The rows are said over a list of places of any length.
-use Prim.Native.Nat.{ℕ, suc, _*_, _-_, _/_, _%_, max}
+use mathlib.Core.Path.{_≡_}
+use Prim.Native.Nat.{ℕ, suc, _+_, _-_, _*_, _/_, _%_, _≤_, _<_, max}
 use mathlib.Core.List.{List, [], _∷_, _++_}
 use lib.ListN.{length, replicate}
 use Rattle.choice.specs.Choice.{pick, isBelow, isSame}
 use Rattle.text.specs.Hex.{hexText}
-use Rattle.text.specs.Numbers.{digitsText, decimalText}
+use Rattle.text.specs.Numbers.{decimalText}
 use Rattle.status.specs.StatusWords.{numberOf}
 use Rattle.status.specs.declared.Status.{Status}
 use Rattle.status.specs.declared.Status.the-variants.{Unsound, BufferShort, LengthWrong, ClassWrong, InstructionWrong, ParametersWrong, DataWrong, StateWrong, NotHeld, PolicyForbids, VerdictWrong, NoRoom, Done}
@@ -31,7 +32,7 @@ meaningOf ClassWrong = text "class not known"
 meaningOf InstructionWrong = text "instruction not known"
 meaningOf ParametersWrong = text "P1 or P2 wrong"
 meaningOf DataWrong = text "data field or values wrong, or AID already held"
-meaningOf StateWrong = text "wrong state: a change is open, none is, or the target's state"
+meaningOf StateWrong = text "a change is open, or none is, or the target's state is wrong"
 meaningOf NotHeld = text "target not held, or not the outstanding number"
 meaningOf PolicyForbids = text "the policy forbids it"
 meaningOf VerdictWrong = text "token verdict not 1"
@@ -135,10 +136,21 @@ rowText p place holder widest = nameCells p place widest ++ figureCells p place 
 unfoldable pub placeText : Isdp → ℕ → ℕ → ℕ → List ℕ
 placeText p place holder widest = pick (isSame (p .len) 0) [] (rowText p place holder widest)
 
+-- a row has 176 bytes at the most, where a number has 64 bits
+abbrev pub mostRow : ℕ
+mostRow = 176
+
 -- the rows of these places, the first of which has the number `place`
 unfoldable pub rowsText : ℕ → ℕ → ℕ → List Isdp → List ℕ
 rowsText holder widest place [] = []
 rowsText holder widest place (p ∷ ps) = placeText p place holder widest ++ rowsText holder widest (suc place) ps
+
+-- the rows stand under each other: each has the same width before its last column, whose text and line end follow
+abbrev pub Aligned : Type 0
+Aligned =
+    (p : Isdp) (place holder widest : ℕ) →
+    place < 10000000 → p .quota < 10000000 → p .used < 10000000 → length (aidOf p) ≤ widest →
+    length (rowText p place holder widest) ≡ widest * 2 + 54 + length (policyText (p .policy)) + 1
 
 -- the bytes of the longest AID; 0 where no place is held
 unfoldable pub widestOf : List Isdp → ℕ
@@ -154,6 +166,10 @@ headText widest =
 
 unfoldable pub tableText : Card → List ℕ
 tableText c = headText (widestOf (c .places)) ++ rowsText (c .fallback) (widestOf (c .places)) 0 (c .places)
+
+-- the head and eight rows
+abbrev pub mostTable : ℕ
+mostTable = 8 * mostRow + 93
 
 -- the phase
 unfoldable pub openText : ℕ → ℕ → List ℕ
@@ -179,3 +195,7 @@ explainedText a response =
     ++ text "ticks to come "
     ++ decimalText (a .ticks)
     ++ text "\n\n"
+
+-- for eight places it has 1,818 bytes at the most beside the digits of the response
+abbrev pub mostExplained : ℕ
+mostExplained = 1818

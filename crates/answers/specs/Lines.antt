@@ -4,7 +4,7 @@ use Prim.Native.Nat.{ℕ, _/_, _%_}
 use mathlib.Core.List.{List, [], _∷_, _++_}
 use lib.ListN.{take}
 use Rattle.text.specs.Hex.{hexText, hexWord}
-use Rattle.text.specs.Numbers.{digitsText, decimalText}
+use Rattle.text.specs.Numbers.{decimalText}
 use Rattle.status.specs.StatusWords.{numberOf}
 use Rattle.isdp.specs.declared.Aid.{Aid}
 use Rattle.card.specs.Notifications.{codeOf}
@@ -52,9 +52,9 @@ answerLine a response =
     ++ decimalText (a .ticks)
     ++ text "\n"
 
--- a line has 85 bytes at the most and the response's digits, where the figures are of 64 bits
+-- a line has 69 bytes at the most beside the digits of the response, where a number has 64 bits
 abbrev pub mostLine : ℕ
-mostLine = 85
+mostLine = 69
 
 -- a line of the script that cannot be read: what is wrong with it
 unfoldable pub reasonText : Reason → List ℕ
@@ -69,3 +69,6 @@ reasonText BadPhase = text "bad phase"
 
 unfoldable pub reasonLine : ℕ → Reason → List ℕ
 reasonLine n reason = text "line " ++ decimalText n ++ text ": " ++ reasonText reason ++ text "\n"
+
+abbrev pub mostFault : ℕ
+mostFault = 42

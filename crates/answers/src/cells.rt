@@ -5,6 +5,7 @@ use text::put_bytes;
 use text::put_decimal;
 use text::put_hex_8;
 ghost use mathlib.Core.Path.{_≡_};
+ghost use Prim.Native.Nat.{_≤_};
 ghost use lib.ListN.{length};
 ghost use Rattle.text.specs.Put.{Wrote};
 ghost use Rattle.isdp.specs.Aids.{aidOf};
@@ -105,7 +106,7 @@ pub fn put_policy(policy: u8, buf: &mut [u8], at: usize) -> usize
 
 // The bytes of a place's AID, sixteen at the most.
 pub fn aid_size(p: Isdp) -> u8
-    ensures { λ r. ⌜ r ≡ length (aidOf p) ⌝ }
+    ensures { λ r. ⌜ (r ≡ length (aidOf p)) × (r ≤ 16) ⌝ }
 {
     let n = p.len;
     if n > 16 {

@@ -11,9 +11,10 @@ use text::put_bytes;
 use text::put_decimal;
 use text::put_hex;
 use text::put_hex_8;
-ghost use mathlib.Core.Path.{_≡_};
+ghost use Prim.Native.Nat.{_+_, _*_, _≤_};
+ghost use lib.ListN.{length};
 ghost use Rattle.text.specs.Put.{Wrote};
-ghost use Rattle.answers.specs.Explained.{meaningOf, wordText, responseText, kindText, issuedText, noticeText, openText, trialText, phaseText, explainedText};
+ghost use Rattle.answers.specs.Explained.{meaningOf, wordText, responseText, kindText, issuedText, noticeText, openText, trialText, phaseText, explainedText, mostExplained};
 
 fn put_meaning(status: Status, buf: &mut [u8], at: usize) -> usize
     ensures { λ r. ⌜ Wrote (now (buf .entry)) at (meaningOf status) r (now (buf .exit)) ⌝ }
@@ -32,7 +33,7 @@ fn put_meaning(status: Status, buf: &mut [u8], at: usize) -> usize
             put_bytes(
                 buf,
                 at,
-                b"wrong state: a change is open, none is, or the target's state",
+                b"a change is open, or none is, or the target's state is wrong",
             )
         }
         Status::NotHeld => put_bytes(buf, at, b"target not held, or not the outstanding number"),
@@ -153,7 +154,7 @@ fn put_phase(phase: Phase, buf: &mut [u8], at: usize) -> usize
 
 // The answer for a person; the response is what the call left in its buffer.
 pub fn write_explained(answer: Answer, response: &[u8], buf: &mut [u8], at: usize) -> usize
-    ensures { λ r. ⌜ Wrote (now (buf .entry)) at (explainedText answer (now (response .entry))) r (now (buf .exit)) ⌝ }
+    ensures { λ r. ⌜ Wrote (now (buf .entry)) at (explainedText answer (now (response .entry))) r (now (buf .exit)) × (length (explainedText answer (now (response .entry))) ≤ length (now (response .entry)) * 2 + mostExplained) ⌝ }
 {
     let status = answer.status;
     let notification = answer.notification;

@@ -1,9 +1,9 @@
 // One line for each call, `SW RESPONSE NOTIFICATION TICKS`, and `line N: ..` for a line of the script that cannot be read.
+use script::Reason;
 use card::Answer;
 use card::Kind;
 use card::Notification;
 use isdp::Aid;
-use script::Reason;
 use text::put_byte;
 use text::put_bytes;
 use text::put_decimal;
@@ -15,7 +15,7 @@ ghost use mathlib.Core.Path.{_≡_};
 ghost use Prim.Native.Nat.{_+_, _*_, _≤_};
 ghost use lib.ListN.{length};
 ghost use Rattle.text.specs.Put.{Wrote};
-ghost use Rattle.answers.specs.Lines.{aidText, issuedWord, noticeWord, answerLine, mostLine, reasonText, reasonLine};
+ghost use Rattle.answers.specs.Lines.{aidText, issuedWord, noticeWord, answerLine, mostLine, reasonText, reasonLine, mostFault};
 
 // An AID in hex, with its true length; a length over sixteen takes the whole array.
 pub fn put_aid(aid: Aid, buf: &mut [u8], at: usize) -> usize
@@ -55,7 +55,7 @@ fn put_notice(notification: Notification, buf: &mut [u8], at: usize) -> usize
 
 // The line of an answer; the response is what the call left in its buffer.
 pub fn write_answer(answer: Answer, response: &[u8], buf: &mut [u8], at: usize) -> usize
-    ensures { λ r. ⌜ Wrote (now (buf .entry)) at (answerLine answer (now (response .entry))) r (now (buf .exit)) ⌝ }
+    ensures { λ r. ⌜ Wrote (now (buf .entry)) at (answerLine answer (now (response .entry))) r (now (buf .exit)) × (length (answerLine answer (now (response .entry))) ≤ length (now (response .entry)) * 2 + mostLine) ⌝ }
 {
     let status = answer.status;
     let notification = answer.notification;
@@ -86,7 +86,7 @@ fn put_reason(reason: Reason, buf: &mut [u8], at: usize) -> usize
 
 // A line of the script that cannot be read, by its number, and what is wrong with it.
 pub fn write_reason(number: u64, reason: Reason, buf: &mut [u8], at: usize) -> usize
-    ensures { λ r. ⌜ Wrote (now (buf .entry)) at (reasonLine number reason) r (now (buf .exit)) ⌝ }
+    ensures { λ r. ⌜ Wrote (now (buf .entry)) at (reasonLine number reason) r (now (buf .exit)) × (length (reasonLine number reason) ≤ mostFault) ⌝ }
 {
     let a = put_bytes(buf, at, b"line ");
     let b = put_decimal(buf, a, number);

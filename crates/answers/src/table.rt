@@ -12,10 +12,10 @@ use places::PLACES;
 use text::put_byte;
 use text::put_bytes;
 ghost use mathlib.Core.Path.{_≡_};
-ghost use Prim.Native.Nat.{_-_, _*_};
+ghost use Prim.Native.Nat.{_-_, _*_, _≤_};
 ghost use lib.ListN.{length};
 ghost use Rattle.text.specs.Put.{Wrote};
-ghost use Rattle.answers.specs.Explained.{spaces, nameCells, figureCells, rowText, placeText, rowsText, widestOf, headText, tableText};
+ghost use Rattle.answers.specs.Explained.{spaces, nameCells, figureCells, rowText, placeText, rowsText, widestOf, headText, tableText, mostTable};
 
 // The spaces after an AID of n bytes in a column for the widest.
 fn put_gap(widest: u8, n: u8, buf: &mut [u8], at: usize) -> usize
@@ -68,7 +68,7 @@ fn put_place(p: Isdp, place: usize, holder: usize, widest: u8, buf: &mut [u8], a
 
 // The bytes of the longest AID.
 fn widest(places: [Isdp; PLACES]) -> u8
-    ensures { λ r. ⌜ r ≡ widestOf places ⌝ }
+    ensures { λ r. ⌜ (r ≡ widestOf places) × (r ≤ 16) ⌝ }
 {
     let mut m = 0;
     let mut i = 0;
@@ -122,7 +122,7 @@ fn put_rows(places: [Isdp; PLACES], holder: usize, wide: u8, buf: &mut [u8], at:
 }
 
 pub fn put_table(card: Card, buf: &mut [u8], at: usize) -> usize
-    ensures { λ r. ⌜ Wrote (now (buf .entry)) at (tableText card) r (now (buf .exit)) ⌝ }
+    ensures { λ r. ⌜ Wrote (now (buf .entry)) at (tableText card) r (now (buf .exit)) × (length (tableText card) ≤ mostTable) ⌝ }
 {
     let places = card.places;
     let wide = widest(places);

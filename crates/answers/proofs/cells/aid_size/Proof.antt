@@ -7,13 +7,13 @@ use Rattle.answers.proofs.cells.aid_size.Statement.{statement}
 use Rattle.answers.proofs.cells.aid_size.Tie as tie
 
 returns : tie.Need-returns
-returns c = let n : length (c .before .args .p .aid) ≡ 16 = search needs in omega (arith, length-take (c .before .args .p .len) (c .before .args .p .aid))
+returns c = let n : length (c .before .args .p .aid) ≡ 16 = search needs in (omega (arith, length-take (c .before .args .p .len) (c .before .args .p .aid)), omega arith)
 
 cast-result : tie.Need-cast-result
 cast-result c = search needs
 
 returns-2 : tie.Need-returns-2
-returns-2 c = let n : length (c .before .args .p .aid) ≡ 16 = search needs in omega (arith, length-take (c .before .args .p .len) (c .before .args .p .aid))
+returns-2 c = let n : length (c .before .args .p .aid) ≡ 16 = search needs in (omega (arith, length-take (c .before .args .p .len) (c .before .args .p .aid)), omega arith)
 
 pub aid-size-spec : {M : Type 1} → statement M
 aid-size-spec = tie.close (tie.spec returns cast-result returns-2)

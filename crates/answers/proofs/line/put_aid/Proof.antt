@@ -19,13 +19,17 @@ same-length : tie.Need-same-length
 same-length c = search needs
 
 returns : tie.Need-returns
-returns c = let s = c .before .before .before .before .before .before .before .before in let n : length (s .args .aid .bytes) ≡ 16 = search needs in wrote-as _ (ap hexText (sym (take-all (s .args .aid .len) (s .args .aid .bytes) (omega arith)))) (c .before .before .put-hex .ensures)
+returns c = let s = c .before .before .before .before .before .before .before .before in
+    let n : length (s .args .aid .bytes) ≡ 16 = search needs in
+    wrote-as _ (ap hexText (sym (take-all (s .args .aid .len) (s .args .aid .bytes) (omega arith)))) (c .before .before .put-hex .ensures)
 
 array-share-prefix-bytes : tie.Need-array-share-prefix-bytes
 array-share-prefix-bytes c = let n : length (c .before .before .before .before .args .aid .bytes) ≡ 16 = search needs in omega arith
 
 slice-aggregate-put-hex-2 : tie.Need-slice-aggregate-put-hex-2
-slice-aggregate-put-hex-2 c = let s = c .before .before .before .before .before in let n : length (s .args .aid .bytes) ≡ 16 = search needs in sym (length-take-le _ (s .args .aid .bytes) (omega arith))
+slice-aggregate-put-hex-2 c = let s = c .before .before .before .before .before in
+    let n : length (s .args .aid .bytes) ≡ 16 = search needs in
+    sym (length-take-le _ (s .args .aid .bytes) (omega arith))
 
 put-hex-requires-2 : tie.Need-put-hex-requires-2
 put-hex-requires-2 c κs = search needs

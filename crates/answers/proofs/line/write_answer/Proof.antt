@@ -1,8 +1,12 @@
 -- `line::write_answer`: the words one after the other, a space between them.
-use mathlib.Core.Path.{ap}
-use Rattle.answers.specs.Lines.{hex16, answerLine}
+use Rattle.answers.proofs.Records.{wide}
 use Rattle.text.proofs.PutLaws.{wrote-then, wrote-as}
 use Rattle.answers.proofs.Pieces.{wrote-size}
+use mathlib.Core.Path.{_≡_, ap}
+use native.Mathlib.Omega.{arith}
+use lib.ListN.{length}
+use Rattle.answers.specs.Lines.{hex16, answerLine}
+use Rattle.answers.proofs.Lengths.{line-length}
 use borrow.Author.Needs.{needs}
 use Rattle.answers.proofs.line.write_answer.Statement.{statement}
 use Rattle.answers.proofs.line.write_answer.Tie as tie
@@ -42,7 +46,9 @@ same-length c = wrote-size (wrote-then (wrote-then (wrote-then (wrote-then (wrot
 
 returns : tie.Need-returns
 unfolding answerLine
-returns c = wrote-then (wrote-then (wrote-then (wrote-then (wrote-then (wrote-then (wrote-then (wrote-as _ (ap hex16 (c .before .before .before .before .before .before .before .before .before .before .before .before .before .before .before .before .before .before .before .before .before .before .before .before .before .before .before .before .before .before .before .before .number .ensures)) (c .before .before .before .before .before .before .before .before .before .before .before .before .before .before .before .before .before .before .before .before .before .before .before .before .before .before .before .before .before .before .before .put-hex-16 .ensures)) (c .before .before .before .before .before .before .before .before .before .before .before .before .before .before .before .before .before .before .before .before .before .before .before .before .before .before .before .put-byte .ensures)) (c .before .before .before .before .before .before .before .before .before .before .before .before .before .before .before .before .before .before .before .before .before .before .before .put-hex-word .ensures)) (c .before .before .before .before .before .before .before .before .before .before .before .before .before .before .before .before .before .before .before .put-byte2 .ensures)) (c .before .before .before .before .before .before .before .before .before .before .before .before .before .before .before .put-notice .ensures)) (c .before .before .before .before .before .before .before .before .before .before .before .put-byte3 .ensures)) (c .before .before .before .before .before .before .put-decimal .ensures)) (c .before .before .put-byte4 .ensures)
+returns c = let s = c .before .before .before .before .before .before .before .before .before .before .before .before .before .before .before .before .before .before .before .before .before .before .before .before .before .before .before .before .before .before .before .before .before .before .before .before .before in
+    let n : length (s .args .answer .notification .aid .bytes) ≡ 16 = wide (s .args .answer) _ (s .good .0) in
+    (wrote-then (wrote-then (wrote-then (wrote-then (wrote-then (wrote-then (wrote-then (wrote-as _ (ap hex16 (c .before .before .before .before .before .before .before .before .before .before .before .before .before .before .before .before .before .before .before .before .before .before .before .before .before .before .before .before .before .before .before .before .number .ensures)) (c .before .before .before .before .before .before .before .before .before .before .before .before .before .before .before .before .before .before .before .before .before .before .before .before .before .before .before .before .before .before .before .put-hex-16 .ensures)) (c .before .before .before .before .before .before .before .before .before .before .before .before .before .before .before .before .before .before .before .before .before .before .before .before .before .before .before .put-byte .ensures)) (c .before .before .before .before .before .before .before .before .before .before .before .before .before .before .before .before .before .before .before .before .before .before .before .put-hex-word .ensures)) (c .before .before .before .before .before .before .before .before .before .before .before .before .before .before .before .before .before .before .before .put-byte2 .ensures)) (c .before .before .before .before .before .before .before .before .before .before .before .before .before .before .before .put-notice .ensures)) (c .before .before .before .before .before .before .before .before .before .before .before .put-byte3 .ensures)) (c .before .before .before .before .before .before .put-decimal .ensures)) (c .before .before .put-byte4 .ensures), line-length (s .args .answer) _ (omega arith))
 
 pub write-answer-spec : {M : Type 1} → statement M
 write-answer-spec =

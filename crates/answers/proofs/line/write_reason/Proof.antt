@@ -1,6 +1,7 @@
 -- `line::write_reason`: the parts one after the other are the line.
 use Rattle.text.proofs.PutLaws.{wrote-then}
 use Rattle.answers.specs.Lines.{reasonLine}
+use Rattle.answers.proofs.Lengths.{fault-length}
 use borrow.Author.Needs.{needs}
 use Rattle.answers.proofs.line.write_reason.Statement.{statement}
 use Rattle.answers.proofs.line.write_reason.Tie as tie
@@ -31,7 +32,7 @@ same-length c = search needs
 
 returns : tie.Need-returns
 unfolding reasonLine
-returns c = wrote-then (wrote-then (wrote-then (wrote-then (c .before .before .before .before .before .before .before .before .before .before .before .before .before .before .before .before .before .before .before .put-bytes .ensures) (c .before .before .before .before .before .before .before .before .before .before .before .before .before .before .before .put-decimal .ensures)) (c .before .before .before .before .before .before .before .before .before .before .put-bytes2 .ensures)) (c .before .before .before .before .before .before .put-reason .ensures)) (c .before .before .put-byte .ensures)
+returns c = (wrote-then (wrote-then (wrote-then (wrote-then (c .before .before .before .before .before .before .before .before .before .before .before .before .before .before .before .before .before .before .before .put-bytes .ensures) (c .before .before .before .before .before .before .before .before .before .before .before .before .before .before .before .put-decimal .ensures)) (c .before .before .before .before .before .before .before .before .before .before .put-bytes2 .ensures)) (c .before .before .before .before .before .before .put-reason .ensures)) (c .before .before .put-byte .ensures), fault-length _ _)
 
 pub write-reason-spec : {M : Type 1} → statement M
 write-reason-spec =

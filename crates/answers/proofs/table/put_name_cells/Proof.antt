@@ -1,9 +1,9 @@
 -- `table::put_name_cells`: the cells one after the other.
+use Rattle.text.proofs.PutLaws.{wrote-then, wrote-as}
 use mathlib.Core.Path.{ap}
 use Prim.Native.Nat.{ℕ, _-_, _*_}
 use Rattle.answers.specs.Lines.{aidText}
 use Rattle.answers.specs.Explained.{spaces, nameCells}
-use Rattle.text.proofs.PutLaws.{wrote-then, wrote-as}
 use borrow.Author.Needs.{needs}
 use Rattle.answers.proofs.table.put_name_cells.Statement.{statement}
 use Rattle.answers.proofs.table.put_name_cells.Tie as tie
@@ -34,7 +34,7 @@ same-length c = search needs
 
 returns : tie.Need-returns
 unfolding nameCells
-returns c = wrote-then (wrote-then (wrote-then (c .before .before .before .before .before .before .before .before .before .before .before .before .before .before .before .put-column .ensures) (c .before .before .before .before .before .before .before .before .before .before .put-bytes .ensures)) (wrote-as _ (ap aidText (c .before .before .before .before .before .before .before .before .before .before .before .before .before .before .before .before .before .name .ensures)) (c .before .before .before .before .before .before .put-aid .ensures))) (wrote-as _ (ap (λ (n : ℕ). spaces ((c .before .before .before .before .before .before .before .before .before .before .before .before .before .before .before .before .before .before .before .before .args .widest - n) * 2)) (c .before .before .before .before .before .before .before .before .before .before .before .before .before .before .before .before .before .before .aid-size .ensures)) (c .before .before .put-gap .ensures))
+returns c = wrote-then (wrote-then (wrote-then (c .before .before .before .before .before .before .before .before .before .before .before .before .before .before .before .put-column .ensures) (c .before .before .before .before .before .before .before .before .before .before .put-bytes .ensures)) (wrote-as _ (ap aidText (c .before .before .before .before .before .before .before .before .before .before .before .before .before .before .before .before .before .name .ensures)) (c .before .before .before .before .before .before .put-aid .ensures))) (wrote-as _ (ap (λ (n : ℕ). spaces ((c .before .before .before .before .before .before .before .before .before .before .before .before .before .before .before .before .before .before .before .before .args .widest - n) * 2)) (c .before .before .before .before .before .before .before .before .before .before .before .before .before .before .before .before .before .before .aid-size .ensures .0)) (c .before .before .put-gap .ensures))
 
 pub put-name-cells-spec : {M : Type 1} → statement M
 put-name-cells-spec =

@@ -36,13 +36,20 @@ loop-less : tie.Need-loop-less Inv-loop μ-loop
 loop-less c = search needs
 
 loop-again : tie.Need-loop-again Inv-loop μ-loop
-loop-again c = let s = c .before .before .before .before .before .before .before .before in let n : length (s .args .t1) ≡ mostPlaces = search needs in let o = c .before .before .before .before .before .before .loop in let e = rows-step (s .args .t1) (o .i) (s .args .holder) (s .args .wide) (omega arith) in (omega arith, writing-goes _ (writing-as _ e (o .inv .1)) (c .before .before .put-place .ensures))
+loop-again c = let s = c .before .before .before .before .before .before .before .before in
+    let n : length (s .args .t1) ≡ mostPlaces = search needs in
+    let o = c .before .before .before .before .before .before .loop in
+    let e = rows-step (s .args .t1) (o .i) (s .args .holder) (s .args .wide) (omega arith) in
+    (omega arith, writing-goes _ (writing-as _ e (o .inv .1)) (c .before .before .put-place .ensures))
 
 same-length : tie.Need-same-length Inv-loop μ-loop
 same-length c = c .before .loop .inv .1 .size
 
 returns : tie.Need-returns Inv-loop μ-loop
-returns c = let s = c .before .before .before in let n : length (s .args .t1) ≡ mostPlaces = search needs in let e = rows-end (s .args .t1) (c .before .loop .i) (s .args .holder) (s .args .wide) (omega arith) in writing-ends (writing-as _ e (c .before .loop .inv .1))
+returns c = let s = c .before .before .before in
+    let n : length (s .args .t1) ≡ mostPlaces = search needs in
+    let e = rows-end (s .args .t1) (c .before .loop .i) (s .args .holder) (s .args .wide) (omega arith) in
+    writing-ends (writing-as _ e (c .before .loop .inv .1))
 
 pub put-rows-spec : {M : Type 1} → statement M
 put-rows-spec =

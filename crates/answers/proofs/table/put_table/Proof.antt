@@ -1,8 +1,13 @@
--- `table::put_table`: the head, then the rows.
-use mathlib.Core.Path.{ap}
-use Prim.Native.Nat.{ℕ}
-use Rattle.answers.specs.Explained.{rowsText, headText, tableText}
+-- `table::put_table`: the head, then the rows; a card of the code has eight places.
 use Rattle.text.proofs.PutLaws.{wrote-then, wrote-as}
+use mathlib.Core.Path.{_≡_, ap}
+use Prim.Native.Nat.{ℕ, _≤_}
+use native.Mathlib.Omega.{arith}
+use lib.ListN.{length}
+use Rattle.isdp.specs.Sizes.{mostPlaces}
+use Rattle.card.proofs.Records.{full}
+use Rattle.answers.specs.Explained.{rowsText, widestOf, headText, tableText}
+use Rattle.answers.proofs.Lengths.{table-length}
 use borrow.Author.Needs.{needs}
 use Rattle.answers.proofs.table.put_table.Statement.{statement}
 use Rattle.answers.proofs.table.put_table.Tie as tie
@@ -21,7 +26,10 @@ same-length c = search needs
 
 returns : tie.Need-returns
 unfolding tableText
-returns c = wrote-then (wrote-as _ (ap headText (c .before .before .before .before .before .before .before .before .widest .ensures)) (c .before .before .before .before .before .before .put-head .ensures)) (wrote-as _ (ap (λ (w : ℕ). rowsText (c .before .before .before .before .before .before .before .before .before .before .before .args .card .fallback) w 0 (c .before .before .before .before .before .before .before .before .before .before .before .args .card .places)) (c .before .before .before .before .before .before .before .before .widest .ensures)) (c .before .before .put-rows .ensures))
+returns c = let s = c .before .before .before .before .before .before .before .before .before .before .before in
+    let n : length (s .args .card .places) ≡ mostPlaces = full (s .args .card) _ (s .good .0) in
+    let h : widestOf (s .args .card .places) ≤ 16 = omega (arith, c .before .before .before .before .before .before .before .before .widest .ensures) in
+    (wrote-then (wrote-as _ (ap headText (c .before .before .before .before .before .before .before .before .widest .ensures .0)) (c .before .before .before .before .before .before .put-head .ensures)) (wrote-as _ (ap (λ (w : ℕ). rowsText (c .before .before .before .before .before .before .before .before .before .before .before .args .card .fallback) w 0 (c .before .before .before .before .before .before .before .before .before .before .before .args .card .places)) (c .before .before .before .before .before .before .before .before .widest .ensures .0)) (c .before .before .put-rows .ensures)), omega (arith, table-length (s .args .card) h))
 
 pub put-table-spec : {M : Type 1} → statement M
 put-table-spec =

@@ -12,13 +12,13 @@ use Rattle.answers.proofs.table.widest.Statement.{statement}
 use Rattle.answers.proofs.table.widest.Tie as tie
 
 abbrev Inv-loop : tie.InvT-loop
-Inv-loop places m₀ i₀ m i = (i ≤ mostPlaces) × (max m (widestOf (drop i places)) ≡ widestOf places)
+Inv-loop places m₀ i₀ m i = (i ≤ mostPlaces) × ((max m (widestOf (drop i places)) ≡ widestOf places) × (m ≤ 16))
 
 abbrev μ-loop : tie.MeasureT-loop
 μ-loop places m₀ i₀ m i = mostPlaces - i
 
 loop-holds : tie.Need-loop-holds Inv-loop μ-loop
-loop-holds c = (omega arith, omega arith)
+loop-holds c = (omega arith, (omega arith, omega arith))
 
 mul-aid-size : tie.Need-mul-aid-size Inv-loop μ-loop
 mul-aid-size c = search needs
@@ -36,10 +36,16 @@ loop-less : tie.Need-loop-less Inv-loop μ-loop
 loop-less c = search needs
 
 loop-again : tie.Need-loop-again Inv-loop μ-loop
-loop-again c = let s = c .before .before .before .before .before in let n : length (s .args .t1) ≡ mostPlaces = search needs in let e = widest-step (s .args .t1) (c .before .before .before .before .loop .i) (omega arith) in ⊎-elim (λ w. let h = w .0 .taken in (omega arith, omega arith)) (λ w. let h = w .0 .left in (omega arith, omega arith)) (c .if1 .came)
+loop-again c = let s = c .before .before .before .before .before in
+    let n : length (s .args .t1) ≡ mostPlaces = search needs in
+    let e = widest-step (s .args .t1) (c .before .before .before .before .loop .i) (omega arith) in
+    ⊎-elim (λ w. let h = w .0 .taken in (omega arith, (omega arith, omega arith))) (λ w. let h = w .0 .left in (omega arith, (omega arith, omega arith))) (c .if1 .came)
 
 returns : tie.Need-returns Inv-loop μ-loop
-returns c = let s = c .before .before in let n : length (s .args .t1) ≡ mostPlaces = search needs in let e = widest-end (s .args .t1) (c .before .loop .i) (omega arith) in omega arith
+returns c = let s = c .before .before in
+    let n : length (s .args .t1) ≡ mostPlaces = search needs in
+    let e = widest-end (s .args .t1) (c .before .loop .i) (omega arith) in
+    (omega arith, omega arith)
 
 pub widest-spec : {M : Type 1} → statement M
 widest-spec =
