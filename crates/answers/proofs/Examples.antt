@@ -10,7 +10,7 @@ use Rattle.status.specs.declared.Status.{Status}
 use Rattle.status.specs.declared.Status.the-variants.{Done, NotHeld, Unsound}
 use Rattle.isdp.specs.Aids.{padded}
 use Rattle.isdp.specs.LifeCycle.{disabled, enabled}
-use Rattle.isdp.specs.Place.{none, made}
+use Rattle.isdp.specs.Place.{vacant, made}
 use Rattle.card.specs.Cards.{withChange}
 use Rattle.card.specs.Fresh.{zeroCard, freshCard}
 use Rattle.card.specs.Notifications.{silent}
@@ -24,18 +24,18 @@ use Rattle.answers.specs.Lines.{issuedWord, noticeWord, answerLine, reas
 use Rattle.script.specs.declared.arguments.Reason.the-variants.{BadHex}
 use Rattle.answers.specs.Explained.{meaningOf, wordText, responseText, kindText, issuedText, noticeText, spaces, leadOf, columnText, stateText, markText, policyText, nameCells, figureCells, rowText, placeText, rowsText, widestOf, headText, tableText, openText, trialText, phaseText, explainedText}
 
-abbrev one : List ℕ
-one = 0xA0 ∷ 0x00 ∷ 0x00 ∷ 0x00 ∷ 0x01 ∷ []
+abbrev aid-01 : List ℕ
+aid-01 = 0xA0 ∷ 0x00 ∷ 0x00 ∷ 0x00 ∷ 0x01 ∷ []
 
-abbrev two : List ℕ
-two = 0xA0 ∷ 0x00 ∷ 0x00 ∷ 0x00 ∷ 0x02 ∷ []
+abbrev aid-02 : List ℕ
+aid-02 = 0xA0 ∷ 0x00 ∷ 0x00 ∷ 0x00 ∷ 0x02 ∷ []
 
--- a card with the profile `one` and, at place 2, the profile `two`, which was enabled just now
+-- a card with the profile `aid-01` and, at place 2, the profile `aid-02`, which was enabled just now
 abbrev changed : Card
 changed =
-    withChange (freshCard (replicate 16 0) one 1048576 65536 4096 0) 1 (Trial 0 10 1)
-    (made one disabled 65536 4096 ∷ none ∷ record {
-      aid = padded two;
+    withChange (freshCard (replicate 16 0) aid-01 1048576 65536 4096 0) 1 (Trial 0 10 1)
+    (made aid-01 disabled 65536 4096 ∷ vacant ∷ record {
+      aid = padded aid-02;
       len = 5;
       life = enabled;
       quota = 2000;
@@ -48,7 +48,7 @@ answered word card notification ticks =
     record { status = word; card = card; length = 0; notification = notification; ticks = ticks }
 
 abbrev first-number : Notification
-first-number = record { kind = Changed; number = 1; eid = replicate 16 0; aid = record { bytes = padded two; len = 5 } }
+first-number = record { kind = Changed; number = 1; eid = replicate 16 0; aid = record { bytes = padded aid-02; len = 5 } }
 
 -- the example of the request
 pub enabled-line : answerLine (answered Done changed first-number 20) [] ≡ text "9000 - 02:0001:A000000002 20\n"

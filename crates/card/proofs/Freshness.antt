@@ -14,7 +14,7 @@ use Rattle.status.proofs.Tables.{passed}
 use Rattle.isdp.specs.Sizes.{mostPlaces, leastAid, eidSize, mostCapacity}
 use Rattle.isdp.specs.Aids.{aidOk, noAid}
 use Rattle.isdp.specs.LifeCycle.{enabled, isEnabled}
-use Rattle.isdp.specs.Place.{none, made, isFor, zeros, placeOk, clash}
+use Rattle.isdp.specs.Place.{vacant, made, isFor, zeros, placeOk, clash}
 use Rattle.isdp.specs.declared.Isdp.{Isdp}
 use Rattle.isdp.proofs.Bools.{and-l, and-r}
 use Rattle.isdp.proofs.Alike.{clash-none}
@@ -26,15 +26,15 @@ use Rattle.card.specs.Fresh.{zeroCard, freshCard, freshOk, freshOutcome}
 use Rattle.card.proofs.Sounds.{Sound, whole}
 use Rattle.card.proofs.Outcomes.{took, accepted-card}
 
-rest-ok : (k : ℕ) → allOf (placeOk k) (replicate (mostPlaces - 1) none) ≡ true
+rest-ok : (k : ℕ) → allOf (placeOk k) (replicate (mostPlaces - 1) vacant) ≡ true
 unfolding allOf placeOk zeros
 rest-ok k = refl
 
-rest-apart : distinct (replicate (mostPlaces - 1) none) ≡ true
+rest-apart : distinct (replicate (mostPlaces - 1) vacant) ≡ true
 unfolding distinct anyOf clash isFor
 rest-apart = refl
 
-rest-clash : (p : Isdp) → anyOf (clash p) (replicate (mostPlaces - 1) none) ≡ false
+rest-clash : (p : Isdp) → anyOf (clash p) (replicate (mostPlaces - 1) vacant) ≡ false
 unfolding anyOf
 rest-clash p = rw (clash-none p)
 
@@ -46,11 +46,11 @@ distinct-two : (p : Isdp) (ps : List Isdp) → anyOf (clash p) ps ≡ false → 
 unfolding distinct
 distinct-two p ps e f = rw (e, f)
 
-one-on : (aid : List ℕ) (quota used : ℕ) → countOf isEnabled (made aid enabled quota used ∷ replicate (mostPlaces - 1) none) ≡ 1
+one-on : (aid : List ℕ) (quota used : ℕ) → countOf isEnabled (made aid enabled quota used ∷ replicate (mostPlaces - 1) vacant) ≡ 1
 unfolding countOf
 one-on aid quota used = refl
 
-room-of : (aid : List ℕ) (quota used k : ℕ) → quota ≤ k → quotas (made aid enabled quota used ∷ replicate (mostPlaces - 1) none) ≤ k
+room-of : (aid : List ℕ) (quota used k : ℕ) → quota ≤ k → quotas (made aid enabled quota used ∷ replicate (mostPlaces - 1) vacant) ≤ k
 unfolding quotas
 room-of aid quota used k h = omega arith
 
@@ -69,8 +69,8 @@ fresh-parts eid aid capacity quota used volatile f =
       numbered = omega arith;
       some = leb-true 1 capacity (and-l _ _ h1);
       most = leb-true capacity mostCapacity (and-l _ _ h2);
-      each = all-two (placeOk capacity) p (replicate (mostPlaces - 1) none) (made-ok capacity aid enabled quota used refl (and-l _ _ a) (and-r (leb leastAid (length aid)) _ a) (and-l _ _ h3) (and-l _ _ h4) (and-r (leb quota capacity) _ h4)) (rest-ok capacity);
-      apart = distinct-two p (replicate (mostPlaces - 1) none) (rest-clash p) rest-apart;
+      each = all-two (placeOk capacity) p (replicate (mostPlaces - 1) vacant) (made-ok capacity aid enabled quota used refl (and-l _ _ a) (and-r (leb leastAid (length aid)) _ a) (and-l _ _ h3) (and-l _ _ h4) (and-r (leb quota capacity) _ h4)) (rest-ok capacity);
+      apart = distinct-two p (replicate (mostPlaces - 1) vacant) (rest-clash p) rest-apart;
       one = one-on aid quota used;
       resort = refl;
       room = room-of aid quota used capacity (leb-true quota capacity (and-l _ _ h4));

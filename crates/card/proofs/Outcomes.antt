@@ -12,7 +12,7 @@ use Rattle.status.proofs.Tables.{done-is}
 use Rattle.card.specs.Sound.{sound}
 use Rattle.card.specs.Ticks.{ticksToCome, ticksByPhase}
 use Rattle.card.specs.Notifications.{silent}
-use Rattle.card.specs.Answers.{Outcome, Work, refusedAt, acceptedAt, refused, accepted, decide, soundRow, outcome, known}
+use Rattle.card.specs.Answers.{Outcome, Work, refusedAt, acceptedAt, refused, accepted, settle, soundRow, outcome, known}
 use Rattle.card.specs.declared.Card.{Card}
 use Rattle.card.specs.declared.Step.{Step}
 use Rattle.card.proofs.Counts.{counted}
@@ -23,7 +23,7 @@ unfolding accepted refused
 status-case c w s rsp true e = sym (done-is w e)
 status-case c w s rsp false e = refl
 
-pub decided : (c : Card) (w : Status) (s : Step) (rsp : List ℕ) → decide c w (accepted s rsp) .status ≡ w
+pub decided : (c : Card) (w : Status) (s : Step) (rsp : List ℕ) → settle c w (accepted s rsp) .status ≡ w
 decided c w s rsp = status-case c w s rsp (isDone w) refl
 
 -- "Every refusal returns the card as given .., no response, no notification"
@@ -37,7 +37,7 @@ unfolding accepted refused
 refusal-case c w s rsp true e n = absurd (false≢true (sym n ∙ e))
 refusal-case c w s rsp false e n = record { same-card = refl; no-response = refl; no-notification = refl }
 
-pub refuses : (c : Card) (w : Status) (s : Step) (rsp : List ℕ) → isDone w ≡ false → Refusal c (decide c w (accepted s rsp))
+pub refuses : (c : Card) (w : Status) (s : Step) (rsp : List ℕ) → isDone w ≡ false → Refusal c (settle c w (accepted s rsp))
 refuses c w s rsp n = refusal-case c w s rsp (isDone w) refl n
 
 -- what holds of the card as given and of the accepted one holds of the card handed back
@@ -46,7 +46,7 @@ unfolding accepted refused
 card-case P c w s rsp true e f g = f e
 card-case P c w s rsp false e f g = g
 
-pub decide-card : (P : Card → Type 0) (c : Card) (w : Status) (s : Step) (rsp : List ℕ) → (isDone w ≡ true → P (s .card)) → P c → P (decide c w (accepted s rsp) .card)
+pub decide-card : (P : Card → Type 0) (c : Card) (w : Status) (s : Step) (rsp : List ℕ) → (isDone w ≡ true → P (s .card)) → P c → P (settle c w (accepted s rsp) .card)
 decide-card P c w s rsp f g = card-case P c w s rsp (isDone w) refl f g
 
 -- an accepted call takes its step
@@ -55,7 +55,7 @@ unfolding accepted refused
 took-case c w s rsp true e h = (e, refl)
 took-case c w s rsp false e h = absurd (false≢true (sym e ∙ h))
 
-pub took : (c : Card) (w : Status) (s : Step) (rsp : List ℕ) → isDone (decide c w (accepted s rsp) .status) ≡ true → (isDone w ≡ true) × (decide c w (accepted s rsp) ≡ accepted s rsp)
+pub took : (c : Card) (w : Status) (s : Step) (rsp : List ℕ) → isDone (settle c w (accepted s rsp) .status) ≡ true → (isDone w ≡ true) × (settle c w (accepted s rsp) ≡ accepted s rsp)
 took c w s rsp h = took-case c w s rsp (isDone w) refl h
 
 pub accepted-card : (s : Step) (rsp : List ℕ) → accepted s rsp .card ≡ s .card
@@ -68,7 +68,7 @@ unfolding accepted refused
 ticks-case c w s rsp true e f = rw (f e)
 ticks-case c w s rsp false e f = refl
 
-pub decide-ticks : (c : Card) (w : Status) (s : Step) (rsp : List ℕ) → (isDone w ≡ true → sound (s .card) ≡ true) → decide c w (accepted s rsp) .ticks ≡ cond (sound (decide c w (accepted s rsp) .card)) (ticksToCome (decide c w (accepted s rsp) .card)) 0
+pub decide-ticks : (c : Card) (w : Status) (s : Step) (rsp : List ℕ) → (isDone w ≡ true → sound (s .card) ≡ true) → settle c w (accepted s rsp) .ticks ≡ cond (sound (settle c w (accepted s rsp) .card)) (ticksToCome (settle c w (accepted s rsp) .card)) 0
 decide-ticks c w s rsp f = ticks-case c w s rsp (isDone w) refl f
 
 -- a card known to be sound

@@ -11,7 +11,7 @@ use lib.Dec.{eqb}
 use borrow.Author.Tests.{eqb-false, not-true}
 use Rattle.isdp.specs.LifeCycle.{disabled, isEnabled, isFinished}
 use Rattle.isdp.specs.Policy.{onceDisabled}
-use Rattle.isdp.specs.Place.{none, placeOk}
+use Rattle.isdp.specs.Place.{vacant, placeOk}
 use Rattle.isdp.specs.declared.Isdp.{Isdp}
 use Rattle.isdp.proofs.Bools.{and-r}
 use Rattle.isdp.proofs.Placed.{none-ok}
@@ -39,7 +39,7 @@ module _ (c : Card) (i : ℕ) (x : Isdp) (s : Sound c) (n : at (c .places) i .li
   off-before = not-on (eqb (at (c .places) i .life) disabled) (isEnabled (at (c .places) i)) d
 
   pub other : (j : ℕ) → isFinished (at (c .places) j .life) ≡ true → at (set (c .places) i x) j ≡ at (c .places) j
-  other j w = getD-set-other (c .places) i j x none (apart (c .places) i j d w)
+  other j w = getD-set-other (c .places) i j x vacant (apart (c .places) i j d w)
 
   phase-kept : (p : Phase) → Phased p c → Phased p (withPlaces c (set (c .places) i x))
   phase-kept Quiet h = tt
@@ -65,21 +65,21 @@ module _ (c : Card) (i : ℕ) (x : Isdp) (s : Sound c) (n : at (c .places) i .li
       }
 
 -- deletion of a DISABLED profile that is not the fall-back, where no change is open afterwards
-pub deletes : (c : Card) (p : ℕ) → Sound c → at (c .places) p .life ≡ disabled → eqb p (c .fallback) ≡ false → Sound (withChange c (c .last) Quiet (set (c .places) p none))
+pub deletes : (c : Card) (p : ℕ) → Sound c → at (c .places) p .life ≡ disabled → eqb p (c .fallback) ≡ false → Sound (withChange c (c .last) Quiet (set (c .places) p vacant))
 deletes c p s h n =
     let l = c .places in
     let k = within l p (λ z. let w : _≡_ {A = ℕ} 0 disabled = sym z ∙ h in omega arith) in
     record {
       named = s .named;
-      full = length-set l p none ∙ s .full;
+      full = length-set l p vacant ∙ s .full;
       numbered = s .numbered;
       some = s .some;
       most = s .most;
-      each = set-all (placeOk (c .capacity)) none (none-ok (c .capacity)) l p (s .each);
+      each = set-all (placeOk (c .capacity)) vacant (none-ok (c .capacity)) l p (s .each);
       apart = clear-distinct l p (s .apart);
-      one = set-count isEnabled none l p (rw h) ∙ s .one;
-      resort = rw (getD-set-other l p (c .fallback) none none (λ q. eqb-false p (c .fallback) n (sym q))) (s .resort);
-      room = let q = set-quotas none l p k in let r = s .room in omega arith;
+      one = set-count isEnabled vacant l p (rw h) ∙ s .one;
+      resort = rw (getD-set-other l p (c .fallback) vacant vacant (λ q. eqb-false p (c .fallback) n (sym q))) (s .resort);
+      room = let q = set-quotas vacant l p k in let r = s .room in omega arith;
       phased = tt;
     }
 

@@ -57,8 +57,8 @@ refused c word = refusedAt (cond (sound c) (ticksToCome c) 0) c word
 unfoldable pub accepted : Step → List ℕ → Outcome
 accepted s response = acceptedAt (ticksToCome (s .card)) s response
 
-abbrev pub decide : Card → Status → Outcome → Outcome
-decide c word o = cond (isDone word) o (refused c word)
+abbrev pub settle : Card → Status → Outcome → Outcome
+settle c word o = cond (isDone word) o (refused c word)
 
 -- "6F 00: the card is not sound (every call but fresh)"
 abbrev pub soundRow : Card → Row
@@ -71,7 +71,7 @@ pub record Work : Type 0 where
   pub response : List ℕ
 
 abbrev pub outcome : Card → Work → Outcome
-outcome c w = decide c (wordOf (soundRow c ∷ w .rows)) (accepted (w .step) (w .response))
+outcome c w = settle c (wordOf (soundRow c ∷ w .rows)) (accepted (w .step) (w .response))
 
 -- the same for a card known to be sound: the row 6F 00 is not asked, and the ticks are figured by the phase
 abbrev pub known : Card → Work → Outcome

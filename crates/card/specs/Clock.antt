@@ -5,7 +5,7 @@ use lib.ListN.{set}
 use lib.Dec.{ltb, eqb}
 use Rattle.isdp.specs.Sizes.{wait, lastNumber}
 use Rattle.isdp.specs.Policy.{onceDisabled}
-use Rattle.isdp.specs.Place.{none}
+use Rattle.isdp.specs.Place.{vacant}
 use Rattle.places.specs.Places.{at, enableAt}
 use Rattle.card.specs.Cards.{isQuiet, enabledPlace, onFallback, withChange, withPhase}
 use Rattle.card.specs.declared.Card.{Card}
@@ -61,7 +61,7 @@ dropped c i = onceDisabled (at (c .places) i .policy) && not (eqb i (c .fallback
 
 abbrev pub trialClosed : Card → ℕ → Card
 trialClosed c previous =
-    cond (dropped c previous) (withChange c (c .last) Quiet (set (c .places) previous none)) (withPhase c Quiet)
+    cond (dropped c previous) (withChange c (c .last) Quiet (set (c .places) previous vacant)) (withPhase c Quiet)
 
 -- "Confirmation: closes the change. In Trial the previous profile is then deleted .."
 abbrev pub confirmIn : Phase → Card → Card

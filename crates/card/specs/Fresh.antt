@@ -10,9 +10,9 @@ use Rattle.status.specs.declared.Status.the-variants.{DataWrong}
 use Rattle.isdp.specs.Sizes.{mostPlaces, eidSize, mostCapacity}
 use Rattle.isdp.specs.Aids.{aidOk, noAid}
 use Rattle.isdp.specs.LifeCycle.{enabled}
-use Rattle.isdp.specs.Place.{none, made}
+use Rattle.isdp.specs.Place.{vacant, made}
 use Rattle.card.specs.Steps.{stepTo}
-use Rattle.card.specs.Answers.{Outcome, accepted, decide}
+use Rattle.card.specs.Answers.{Outcome, accepted, settle}
 use Rattle.card.specs.declared.Card.{Card}
 use Rattle.card.specs.declared.Phase.the-variants.{Quiet}
 
@@ -26,7 +26,7 @@ zeroCard =
       last = 0;
       fallback = 0;
       phase = Quiet;
-      places = replicate mostPlaces none;
+      places = replicate mostPlaces vacant;
     }
 
 abbrev pub freshCard : List ℕ → List ℕ → ℕ → ℕ → ℕ → ℕ → Card
@@ -38,7 +38,7 @@ freshCard eid aid capacity quota used volatile =
       last = 0;
       fallback = 0;
       phase = Quiet;
-      places = made aid enabled quota used ∷ replicate (mostPlaces - 1) none;
+      places = made aid enabled quota used ∷ replicate (mostPlaces - 1) vacant;
     }
 
 abbrev pub freshOk : List ℕ → List ℕ → ℕ → ℕ → ℕ → Bool
@@ -50,5 +50,5 @@ freshOk eid aid capacity quota used =
 
 unfoldable pub freshOutcome : List ℕ → List ℕ → ℕ → ℕ → ℕ → ℕ → Outcome
 freshOutcome eid aid capacity quota used volatile =
-    decide zeroCard (wordOf (row (not (freshOk eid aid capacity quota used)) DataWrong ∷ []))
+    settle zeroCard (wordOf (row (not (freshOk eid aid capacity quota used)) DataWrong ∷ []))
     (accepted (stepTo zeroCard (freshCard eid aid capacity quota used volatile) noAid) [])

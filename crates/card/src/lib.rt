@@ -13,10 +13,11 @@ ghost use mathlib.Core.Bool.{true, not, cond, _&&_};
 ghost use Prim.Native.Nat.{_+_, _*_, _-_, _<_, _≤_};
 ghost use lib.ListN.{length, set};
 ghost use lib.Dec.{leb, ltb, eqb};
+ghost use Rattle.card.specs.declared.Phase.the-variants.{Trial, Back, Fallen};
 ghost use Rattle.card.specs.Cards.{withPhase, withPlaces, isQuiet, placeOf, enabledPlace, freePlace, freeIn, mayBeDeleted, withFallback};
 ghost use Rattle.places.specs.Places.{at, foundOf};
 ghost use Rattle.card.specs.Sound.{openOk, phaseOk, sound};
-ghost use Rattle.card.specs.Clock.{nextOf, moved, opened, fallen, tickOf, lostOf, dropped, trialClosed, outstanding};
+ghost use Rattle.card.specs.Clock.{nextOf, moved, opened, fallen, tickIn, tickOf, lostOf, dropped, trialClosed, outstanding};
 ghost use Rattle.card.specs.Ticks.{ticksByPhase};
 ghost use Rattle.card.specs.Notifications.{silent, kindOf, codeOf, issued, noticeOf};
 ghost use Rattle.card.specs.Answers.{handed, refusedAt, answerAt};
@@ -409,6 +410,60 @@ impl Card {
         )
     }
 
+    // A tick in Trial.
+    fn trial_ticked(self, previous: usize, left: u8, number: u16) -> Card
+        ensures { λ r. ⌜ r ≡ tickIn (Trial previous left number) self ⌝ }
+    {
+        if left > 1 {
+            let fewer = left - 1;
+            return self.with_phase(Phase::Trial {
+                previous,
+                left: fewer,
+                number,
+            });
+        }
+        let n = next(self.last);
+        self.moved(
+            previous,
+            Phase::Back {
+                left: Card::WAIT,
+                number: n,
+            },
+        )
+    }
+
+    // A tick in Back.
+    fn back_ticked(self, left: u8, number: u16) -> Card
+        ensures { λ r. ⌜ r ≡ tickIn (Back left number) self ⌝ }
+    {
+        if left > 1 {
+            let fewer = left - 1;
+            return self.with_phase(Phase::Back {
+                left: fewer,
+                number,
+            });
+        }
+        let p = self.profile(self.fallback);
+        if p.life == Isdp::ENABLED {
+            return self.with_phase(Phase::Quiet);
+        }
+        self.fallen()
+    }
+
+    // A tick in Fallen.
+    fn fallen_ticked(self, left: u8, number: u16) -> Card
+        ensures { λ r. ⌜ r ≡ tickIn (Fallen left number) self ⌝ }
+    {
+        if left > 1 {
+            let fewer = left - 1;
+            return self.with_phase(Phase::Fallen {
+                left: fewer,
+                number,
+            });
+        }
+        self.with_phase(Phase::Quiet)
+    }
+
     // The card after a tick.
     fn ticked(self) -> Card
         ensures { λ r. ⌜ r ≡ tickOf self ⌝ }
@@ -420,48 +475,9 @@ impl Card {
                 previous,
                 left,
                 number,
-            } => {
-                if left > 1 {
-                    let fewer = left - 1;
-                    return self.with_phase(Phase::Trial {
-                        previous,
-                        left: fewer,
-                        number,
-                    });
-                }
-                let n = next(self.last);
-                self.moved(
-                    previous,
-                    Phase::Back {
-                        left: Card::WAIT,
-                        number: n,
-                    },
-                )
-            }
-            Phase::Back { left, number } => {
-                if left > 1 {
-                    let fewer = left - 1;
-                    return self.with_phase(Phase::Back {
-                        left: fewer,
-                        number,
-                    });
-                }
-                let p = self.profile(self.fallback);
-                if p.life == Isdp::ENABLED {
-                    return self.with_phase(Phase::Quiet);
-                }
-                self.fallen()
-            }
-            Phase::Fallen { left, number } => {
-                if left > 1 {
-                    let fewer = left - 1;
-                    return self.with_phase(Phase::Fallen {
-                        left: fewer,
-                        number,
-                    });
-                }
-                self.with_phase(Phase::Quiet)
-            }
+            } => self.trial_ticked(previous, left, number),
+            Phase::Back { left, number } => self.back_ticked(left, number),
+            Phase::Fallen { left, number } => self.fallen_ticked(left, number),
         }
     }
 

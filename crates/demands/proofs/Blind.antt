@@ -10,7 +10,7 @@ use lib.Dec.{eqb}
 use borrow.Author.Tests.{eqb-true, eqb-false, not-true}
 use Rattle.isdp.specs.Aids.{sameBytes, aidOf}
 use Rattle.isdp.specs.LifeCycle.{personalized, withLife, withUsed, finish}
-use Rattle.isdp.specs.Place.{none, held, isFor}
+use Rattle.isdp.specs.Place.{vacant, held, isFor}
 use Rattle.isdp.specs.declared.Isdp.{Isdp}
 use Rattle.isdp.proofs.Bools.{and-r}
 use Rattle.isdp.proofs.Alike.{same-true, same-self}
@@ -113,7 +113,7 @@ module _ (a : List ℕ) (i u : ℕ) (c : Card) (b : isFor a (at (c .places) i) �
 
   -- what a place set anew leaves of the difference
   set-for : (j : ℕ) (x : Isdp) → (j ≡ i → ⊥) → isFor a (at (set (c .places) j x) i) ≡ true
-  set-for j x n = rw (getD-set-other (c .places) j i x none (λ e. n (sym e))) b
+  set-for j x n = rw (getD-set-other (c .places) j i x vacant (λ e. n (sym e))) b
 
   moved-near : (j : ℕ) (p : Phase) → Near a i (moved c j p) (moved (reuseAt i u c) j p)
   moved-near j p = apart u (reuse-moved i u c j p) (lives-for a i (enable-lives (c .places) j) b)
@@ -123,11 +123,11 @@ module _ (a : List ℕ) (i u : ℕ) (c : Card) (b : isFor a (at (c .places) i) �
   other-near j x p n = apart u (ap (withChange c (c .last) p) (set-other (c .places) i u j x n)) (set-for j x n)
 
   -- a deletion, of this place or of another
-  cleared-case : (j : ℕ) (p : Phase) (t : Bool) → eqb j i ≡ t → Near a i (withChange c (c .last) p (set (c .places) j none)) (withChange c (c .last) p (set (useAt (c .places) i u) j none))
-  cleared-case j p true e = same (rw (eqb-true j i e) (ap (withChange c (c .last) p) (set-over (c .places) i u none)))
-  cleared-case j p false e = other-near j none p (eqb-false j i e)
+  cleared-case : (j : ℕ) (p : Phase) (t : Bool) → eqb j i ≡ t → Near a i (withChange c (c .last) p (set (c .places) j vacant)) (withChange c (c .last) p (set (useAt (c .places) i u) j vacant))
+  cleared-case j p true e = same (rw (eqb-true j i e) (ap (withChange c (c .last) p) (set-over (c .places) i u vacant)))
+  cleared-case j p false e = other-near j vacant p (eqb-false j i e)
 
-  cleared-near : (j : ℕ) (p : Phase) → Near a i (withChange c (c .last) p (set (c .places) j none)) (withChange c (c .last) p (set (useAt (c .places) i u) j none))
+  cleared-near : (j : ℕ) (p : Phase) → Near a i (withChange c (c .last) p (set (c .places) j vacant)) (withChange c (c .last) p (set (useAt (c .places) i u) j vacant))
   cleared-near j p = cleared-case j p (eqb j i) refl
 
   -- another life cycle, of this place or of another
@@ -135,7 +135,7 @@ module _ (a : List ℕ) (i u : ℕ) (c : Card) (b : isFor a (at (c .places) i) �
   alive-case j v true e =
       rw (eqb-true j i e)
       (apart u (ap (withPlaces c) (set-used (c .places) i u v))
-      (rw (getD-set-same (c .places) i (withLife (at (c .places) i) v) none (held-within (c .places) i held-there)) (is-for-life a (at (c .places) i) v ∙ b)))
+      (rw (getD-set-same (c .places) i (withLife (at (c .places) i) v) vacant (held-within (c .places) i held-there)) (is-for-life a (at (c .places) i) v ∙ b)))
   alive-case j v false e = rw (use-other (c .places) i u j (eqb-false j i e)) (other-near j _ (c .phase) (eqb-false j i e))
 
   choose-near : (t : Bool) (x y x' y' : Card) → Near a i x x' → Near a i y y' → Near a i (cond t x y) (cond t x' y')

@@ -11,7 +11,7 @@ use Rattle.status.specs.Rows.{row, wordOf}
 use Rattle.status.proofs.Tables.{Passed, passed}
 use Rattle.isdp.specs.Aids.{nameOf}
 use Rattle.isdp.specs.LifeCycle.{selectable, personalized, isEnabled}
-use Rattle.isdp.specs.Place.{none}
+use Rattle.isdp.specs.Place.{vacant}
 use Rattle.isdp.specs.declared.Isdp.{Isdp}
 use Rattle.isdp.proofs.Bools.{and-l, or-l, or-r}
 use Rattle.places.specs.Places.{at}
@@ -153,7 +153,7 @@ calm : (c : Card) → Closed c (withPhase c Quiet)
 calm c = record { quiet = refl; enabled = λ i. refl; named = λ i e. refl; fallback = refl }
 
 -- the place that is emptied is not enabled
-clear-named : (l : List Isdp) (q i : ℕ) → isEnabled (at (set l q none) i) ≡ true → nameOf (at (set l q none) i) ≡ nameOf (at l i)
+clear-named : (l : List Isdp) (q i : ℕ) → isEnabled (at (set l q vacant) i) ≡ true → nameOf (at (set l q vacant) i) ≡ nameOf (at l i)
 clear-named [] q i e = refl
 clear-named (p ∷ ps) zero zero e = absurd (false≢true e)
 clear-named (p ∷ ps) zero (suc i) e = refl
@@ -164,7 +164,7 @@ confirm-closes : (c : Card) (p : Phase) → Phased p c → Closed c (confirmIn p
 confirm-closes c Quiet h = calm c
 confirm-closes c (Trial q l m) h =
     choose (Closed c) (dropped c q) _ _
-    (λ b. record { quiet = refl; enabled = set-enabled none (c .places) q (rw (h .1)); named = clear-named (c .places) q; fallback = refl })
+    (λ b. record { quiet = refl; enabled = set-enabled vacant (c .places) q (rw (h .1)); named = clear-named (c .places) q; fallback = refl })
     (λ b. calm c)
 confirm-closes c (Back l m) h = calm c
 confirm-closes c (Fallen l m) h = calm c

@@ -14,7 +14,7 @@ use Rattle.status.proofs.Tables.{Passed, passed}
 use Rattle.isdp.specs.Sizes.{mostPlaces, eidSize}
 use Rattle.isdp.specs.Aids.{aidOk, aidOf, noAid, nameOf}
 use Rattle.isdp.specs.LifeCycle.{selectable, disabled, enabled}
-use Rattle.isdp.specs.Place.{none, held, isFor, placeOk}
+use Rattle.isdp.specs.Place.{vacant, held, isFor, placeOk}
 use Rattle.isdp.specs.declared.Isdp.{Isdp}
 use Rattle.isdp.proofs.Bools.{and-l, and-r, or-l}
 use Rattle.isdp.proofs.Placed.{placed}
@@ -120,10 +120,10 @@ module _ (c : Card) (s : Sound c) (ms : List Made) (t : Tally ms (c .places)) wh
       placed (c .capacity) (at (c .places) q) (ne-eqb _ _ n)
       (all-at (placeOk (c .capacity)) (c .places) q (within (c .places) q n) (s .each)) .there
 
-  trial-case : (q : ℕ) (b : Bool) → dropped c q ≡ b → at (c .places) q .life ≡ disabled → Tally (afterConfirm (deletedResponse (cond b (nameOf (at (c .places) q)) noAid)) ms) (cond b (withChange c (c .last) Quiet (set (c .places) q none)) (withPhase c Quiet) .places)
+  trial-case : (q : ℕ) (b : Bool) → dropped c q ≡ b → at (c .places) q .life ≡ disabled → Tally (afterConfirm (deletedResponse (cond b (nameOf (at (c .places) q)) noAid)) ms) (cond b (withChange c (c .last) Quiet (set (c .places) q vacant)) (withPhase c Quiet) .places)
   trial-case q true e h =
       let k = previous-held q h in
-      subst (λ l. Tally l (set (c .places) q none)) (sym (gone-named (at (c .places) q) k))
+      subst (λ l. Tally l (set (c .places) q vacant)) (sym (gone-named (at (c .places) q) k))
       (delete-tally ms (c .places) q (aidOf (at (c .places) q)) (bears-own (at (c .places) q) k) (s .apart) t)
   trial-case q false e h = unfold deletedResponse in t
 

@@ -14,7 +14,7 @@ use Rattle.status.specs.declared.Status.the-variants.{Done}
 use Rattle.isdp.specs.Sizes.{mostPlaces, eidSize}
 use Rattle.isdp.specs.Aids.{sameBytes, padded}
 use Rattle.isdp.specs.LifeCycle.{disabled, enabled}
-use Rattle.isdp.specs.Place.{none, made, isFor, clash, zeros, placeOk}
+use Rattle.isdp.specs.Place.{vacant, made, isFor, clash, zeros, placeOk}
 use Rattle.isdp.proofs.Bools.{and-l, and-r}
 use Rattle.places.specs.Places.{seek, quotas, allOf, anyOf, countOf, distinct, allOff, enableAt}
 use Rattle.card.specs.Sound.{phaseOk, sound}
@@ -94,7 +94,7 @@ trial =
       last = 1;
       fallback = 0;
       phase = Trial 1 10 1;
-      places = made (aidEnding 1) enabled 100 0 ∷ made (aidEnding 2) disabled 100 1 ∷ replicate (mostPlaces - 2) none;
+      places = made (aidEnding 1) enabled 100 0 ∷ made (aidEnding 2) disabled 100 1 ∷ replicate (mostPlaces - 2) vacant;
     }
 
 pub ticks-met : TicksMet
@@ -161,7 +161,7 @@ pair first second =
       last = 0;
       fallback = 0;
       phase = Quiet;
-      places = made (aidEnding 1) first 100 0 ∷ made (aidEnding 2) second 100 1 ∷ replicate (mostPlaces - 2) none;
+      places = made (aidEnding 1) first 100 0 ∷ made (aidEnding 2) second 100 1 ∷ replicate (mostPlaces - 2) vacant;
     }
 
 -- the DGI 3A03 or 3A04 with 02

@@ -18,7 +18,7 @@ use Rattle.places.specs.Places.{at, seek, anyOf, distinct}
 use Rattle.card.specs.Cards.{placeOf, profileOf, withPlaces}
 use Rattle.card.specs.Sound.{sound}
 use Rattle.card.proofs.Sounds.{parts}
-use Rattle.card.specs.Answers.{Outcome, accepted, refused, decide}
+use Rattle.card.specs.Answers.{Outcome, accepted, refused, settle}
 use Rattle.card.specs.declared.Card.{Card}
 use Rattle.card.specs.declared.Step.{Step}
 use Rattle.command.specs.Framing.{lengthWrong, classWrong, instructionWrong, parametersWrong, shapeWrong}
@@ -107,7 +107,7 @@ unfolding accepted refused
 alike-case a i u c w s t rsp true e f b n r = (rw (n, near-ticks a i (s .card) (t .card) r), r)
 alike-case a i u c w s t rsp false e f b n r = (rw (e, f, near-ticks a i c (reuseAt i u c) (apart u refl b)), apart u refl b)
 
-outcome-alike : (d : Card) (w v : Status) (x y : Asked) (rsp : List ℕ) → w ≡ v → x ≡ y → responseOf d y ≡ rsp → decide d w (accepted (stepOf d x) (responseOf d x)) ≡ decide d v (accepted (stepOf d y) rsp)
+outcome-alike : (d : Card) (w v : Status) (x y : Asked) (rsp : List ℕ) → w ≡ v → x ≡ y → responseOf d y ≡ rsp → settle d w (accepted (stepOf d x) (responseOf d x)) ≡ settle d v (accepted (stepOf d y) rsp)
 outcome-alike d w v x y rsp e f g = rw (e, f, g)
 
 step-alike : (a : List ℕ) (i u : ℕ) (c : Card) (call : Call) → sound c ≡ true → sound (reuseAt i u c) ≡ true → isFor a (at (c .places) i) ≡ true → not (fills a call) ≡ true → Alike a i (step c call) (step (reuseAt i u c) call)

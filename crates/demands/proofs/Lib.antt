@@ -7,6 +7,7 @@ pub mod OpeningAnswers
 pub mod CreateWritten
 pub mod Create
 pub mod Unique
+pub mod Small
 pub mod HypothesesMet
 pub mod Frames
 pub mod Changes

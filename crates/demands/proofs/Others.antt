@@ -11,7 +11,7 @@ use lib.Dec.{ltb, eqb}
 use borrow.Author.Tests.{eqb-true, eqb-false, eq-eqb}
 use Rattle.status.specs.StatusWords.{isDone}
 use Rattle.isdp.specs.LifeCycle.{withLife}
-use Rattle.isdp.specs.Place.{none, held}
+use Rattle.isdp.specs.Place.{vacant, held}
 use Rattle.isdp.specs.declared.Isdp.{Isdp}
 use Rattle.isdp.proofs.Bools.{and-l, and-r}
 use Rattle.places.specs.Places.{at, seek, isFree}
@@ -89,7 +89,7 @@ lively {l} {m} j r =
       policy = ap (λ (x : Isdp). x .policy) e;
     }
 
-cleared : (l : List Isdp) (i : ℕ) → at (set l i none) i ≡ none
+cleared : (l : List Isdp) (i : ℕ) → at (set l i vacant) i ≡ vacant
 cleared [] i = refl
 cleared (p ∷ ps) zero = refl
 cleared (p ∷ ps) (suc i) = cleared ps i
@@ -99,7 +99,7 @@ module _ (c : Card) (j : ℕ) where
   Kept d = AsItWas (at (c .places) j) (at (d .places) j)
 
   sets-other : (i : ℕ) (x : Isdp) → (i ≡ j → ⊥) → AsItWas (at (c .places) j) (at (set (c .places) i x) j)
-  sets-other i x n = equal _ _ (getD-set-other (c .places) i j x none (λ e. n (sym e)))
+  sets-other i x n = equal _ _ (getD-set-other (c .places) i j x vacant (λ e. n (sym e)))
 
   act : (aid : List ℕ) (a : Act) → eqb (placeOf c aid) j ≡ false → Kept (actStep c aid a .card)
   act aid enable n = lively j (enable-lives (c .places) (placeOf c aid))
@@ -117,7 +117,7 @@ module _ (c : Card) (j : ℕ) where
 
   confirms : (p : Phase) → leavesIn p c j ≡ false → Kept (confirmIn p c)
   confirms Quiet n = same _
-  confirms (Trial q l m) n = choose Kept (dropped c q) _ _ (λ b. sets-other q none (apart q n b)) (λ b. same _)
+  confirms (Trial q l m) n = choose Kept (dropped c q) _ _ (λ b. sets-other q vacant (apart q n b)) (λ b. same _)
   confirms (Back l m) n = same _
   confirms (Fallen l m) n = same _
 
@@ -132,14 +132,14 @@ module _ (c : Card) (j : ℕ) where
   asks tick h t n = lively j (tick-lives c)
   asks lost h t n = lively j (lost-lives c)
 
-  gone : (p : Phase) → leavesIn p c j ≡ true → at (confirmIn p c .places) j ≡ none
+  gone : (p : Phase) → leavesIn p c j ≡ true → at (confirmIn p c .places) j ≡ vacant
   gone Quiet e = absurd (false≢true e)
   gone (Trial q l m) e =
       rw (and-r (eqb q j) _ e, eqb-true q j (and-l (eqb q j) _ e)) (cleared (c .places) j)
   gone (Back l m) e = absurd (false≢true e)
   gone (Fallen l m) e = absurd (false≢true e)
 
-  asks-gone : (a : Asked) → leaves c a j ≡ true → at (stepOf c a .card .places) j ≡ none
+  asks-gone : (a : Asked) → leaves c a j ≡ true → at (stepOf c a .card .places) j ≡ vacant
   unfolding confirmStep confirmOf
   asks-gone unread e = absurd (false≢true e)
   asks-gone (create aid quota) e = absurd (false≢true e)

@@ -11,7 +11,7 @@ use lib.Dec.{leb, eqb}
 use borrow.Author.Tests.{not-true, eqb-true, ne-eqb, leb-true}
 use Rattle.isdp.specs.Sizes.{leastAid, mostAid}
 use Rattle.isdp.specs.Aids.{sameBytes, aidOk, padded, aidOf}
-use Rattle.isdp.specs.Place.{none, made, held, isFor, clash, placeOk}
+use Rattle.isdp.specs.Place.{vacant, made, held, isFor, clash, placeOk}
 use Rattle.isdp.specs.declared.Isdp.{Isdp}
 use Rattle.isdp.proofs.Bools.{and-l, and-r, both, or-l, or-r}
 use Rattle.isdp.proofs.Alike.{same-true, same-self, clash-none}
@@ -107,7 +107,7 @@ bearers-clash a p q e f =
     let z : aidOf p ≡ a = same-true (aidOf p) a (and-r (held p) _ e) in
     rw (and-l (held p) _ e, z) f
 
-any-at : (t : Isdp → Bool) (l : List Isdp) (i : ℕ) → t none ≡ false → anyOf t l ≡ false → t (at l i) ≡ false
+any-at : (t : Isdp → Bool) (l : List Isdp) (i : ℕ) → t vacant ≡ false → anyOf t l ≡ false → t (at l i) ≡ false
 unfolding anyOf
 any-at t [] i n e = n
 any-at t (p ∷ ps) zero n e = or-l (t p) _ e
@@ -150,7 +150,7 @@ pub not-before : (a : List ℕ) (p : Isdp) (ps : List Isdp) (t : ℕ) (b : Bool)
 not-before a p ps t true e f n = absurd (false≢true (sym (any-at (clash p) ps t (clash-none p) n) ∙ bearers-clash a p (at ps t) e f))
 not-before a p ps t false e f n = refl
 
-sum-clear : (w : Weight) (a : List ℕ) (l : List Isdp) (t : ℕ) → isFor a (at l t) ≡ true → distinct l ≡ true → sumHeld (mask a w) l ≡ sumHeld w (set l t none)
+sum-clear : (w : Weight) (a : List ℕ) (l : List Isdp) (t : ℕ) → isFor a (at l t) ≡ true → distinct l ≡ true → sumHeld (mask a w) l ≡ sumHeld w (set l t vacant)
 unfolding sumHeld distinct
 sum-clear w a [] t e d = refl
 sum-clear w a (p ∷ ps) zero e d =
@@ -161,7 +161,7 @@ sum-clear w a (p ∷ ps) (suc t) e d =
     let b = not-before a p ps t (isFor a p) refl e n in
     rw (mask-one w a p b, sum-clear w a ps t e (and-r (not (anyOf (clash p) ps)) _ d))
 
-pub delete-tally : (ms : List Made) (l : List Isdp) (t : ℕ) (a : List ℕ) → isFor a (at l t) ≡ true → distinct l ≡ true → Tally ms l → Tally (without a ms) (set l t none)
+pub delete-tally : (ms : List Made) (l : List Isdp) (t : ℕ) (a : List ℕ) → isFor a (at l t) ≡ true → distinct l ≡ true → Tally ms l → Tally (without a ms) (set l t vacant)
 delete-tally ms l t a e d tally w = sum-without w a ms ∙ tally (mask a w) ∙ sum-clear w a l t e d
 
 -- the weight that is the quota itself: a place not held has none

@@ -6,6 +6,7 @@ pub mod Ticks
 pub mod OpeningAnswers
 pub mod Create
 pub mod Unique
+pub mod Small
 pub mod Change
 pub mod Inputs
 pub mod Examples

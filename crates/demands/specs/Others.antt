@@ -5,7 +5,7 @@ use mathlib.Core.Path.{_≡_}
 use mathlib.Core.Bool.{Bool, true, false, _&&_}
 use lib.Dec.{eqb}
 use Rattle.status.specs.StatusWords.{isDone}
-use Rattle.isdp.specs.Place.{none, held}
+use Rattle.isdp.specs.Place.{vacant, held}
 use Rattle.isdp.specs.declared.Isdp.{Isdp}
 use Rattle.places.specs.Places.{at}
 use Rattle.card.specs.Cards.{placeOf}
@@ -69,7 +69,7 @@ OthersUntouched =
 abbrev pub SaveTheDeletion : Type 0
 SaveTheDeletion =
     (c : Card) (call : Call) (place : ℕ) → deletesAt c call place ≡ true →
-    at (step c call .card .places) place ≡ none
+    at (step c call .card .places) place ≡ vacant
 
 -- the target at place 2 and the other profile at place 0; at the confirmation the profile at place 1 goes
 pub record OthersMet : Type 0 where

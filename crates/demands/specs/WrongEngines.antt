@@ -12,7 +12,7 @@ use Rattle.status.specs.declared.Status.the-variants.{PolicyForbids}
 use Rattle.isdp.specs.Sizes.{wait}
 use Rattle.isdp.specs.Aids.{noAid}
 use Rattle.isdp.specs.Policy.{forbidsDisabling}
-use Rattle.isdp.specs.Place.{none}
+use Rattle.isdp.specs.Place.{vacant}
 use Rattle.places.specs.Places.{at}
 use Rattle.card.specs.Cards.{isQuiet, enabledPlace, withPlaces, withPhase}
 use Rattle.card.specs.Clock.{nextOf, outstanding, dropped}
@@ -173,7 +173,7 @@ previousDeletedAtEnable =
     plain
     (λ c call.
     cond ((asksEnable (asked c call) && taken c call) && dropped c (enabledPlace c))
-    (withCard (step c call) (withPlaces (step c call .card) (set (step c call .card .places) (enabledPlace c) none)))
+    (withCard (step c call) (withPlaces (step c call .card) (set (step c call .card .places) (enabledPlace c) vacant)))
     (step c call))
 
 -- "A second enable during Trial that restarts the ten ticks."

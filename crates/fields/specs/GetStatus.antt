@@ -1,5 +1,6 @@
--- Document 01, 'Reading a command': "GET STATUS: 4F of length 0 (all) or one AID (5 to 16 bytes); then optionally 5C listing any of 4F,
--- 9F70, 53. Repeats count once; an empty list is allowed" (000, Table 27). With no 5C both optional tags are shown.
+-- Document 01, 'Reading a command': "GET STATUS: 4F of length 0 (all) or one AID (5 to 16 bytes), held exactly; then optionally 5C
+-- listing any of 4F, 9F70, 53. Unknown listed tag: 6A 80. Repeats count once; an empty list is allowed." (000, Table 27) "Held exactly"
+-- is asked of the card, by its rows. With no 5C both optional tags are shown.
 use Prim.Native.Nat.{ℕ, zero, suc, _-_}
 use mathlib.Core.List.{List}
 use mathlib.Core.Bool.{Bool, true, false}

@@ -7,7 +7,7 @@ use mathlib.Core.Bool.{Bool, true, false, _&&_, and-false, false≢true}
 use lib.Dec.{eqb}
 use borrow.Author.Tests.{eqb-true, eqb-false, eq-eqb, ne-eqb}
 use Rattle.isdp.specs.Aids.{sameBytes, aidOf}
-use Rattle.isdp.specs.Place.{none, held, isFor, clash}
+use Rattle.isdp.specs.Place.{vacant, held, isFor, clash}
 use Rattle.isdp.specs.declared.Isdp.{Isdp}
 use Rattle.isdp.proofs.Bools.{and-l, and-r}
 
@@ -49,11 +49,11 @@ module _ (x p : Isdp) (e : x .aid ≡ p .aid) (f : x .len ≡ p .len) where
   unfolding clash isFor
   clash-right q = rw (e, f)
 
-pub clash-none : (p : Isdp) → clash p none ≡ false
+pub clash-none : (p : Isdp) → clash p vacant ≡ false
 unfolding clash isFor
 clash-none p = and-false (held p)
 
-pub none-clash : (q : Isdp) → clash none q ≡ false
+pub none-clash : (q : Isdp) → clash vacant q ≡ false
 unfolding clash
 none-clash q = refl
 

@@ -12,7 +12,7 @@ use Rattle.isdp.specs.Sizes.{leastAid, mostAid}
 use Rattle.isdp.specs.Aids.{padded}
 use Rattle.isdp.specs.Policy.{policyOk}
 use Rattle.isdp.specs.LifeCycle.{disabled, isEnabled, withLife, off}
-use Rattle.isdp.specs.Place.{none, made, held, zeros, lifeOk, emptyOk, heldOk, placeOk}
+use Rattle.isdp.specs.Place.{vacant, made, held, zeros, lifeOk, emptyOk, heldOk, placeOk}
 use Rattle.isdp.specs.declared.Isdp.{Isdp}
 use Rattle.isdp.proofs.Bools.{and-l, and-r}
 
@@ -80,7 +80,7 @@ pub off-ok : (k : ℕ) (p : Isdp) → placeOk k p ≡ true → placeOk k (off p)
 off-ok k p o = off-ok-case k p (isEnabled p) refl o
 
 -- a place not held, and a profile made anew
-pub none-ok : (k : ℕ) → placeOk k none ≡ true
+pub none-ok : (k : ℕ) → placeOk k vacant ≡ true
 unfolding placeOk zeros
 none-ok k = refl
 

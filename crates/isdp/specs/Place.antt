@@ -11,8 +11,8 @@ use Rattle.isdp.specs.LifeCycle.{selectable, personalized, disabled, ena
 use Rattle.isdp.specs.declared.Isdp.{Isdp}
 
 -- a place that is not held
-abbrev pub none : Isdp
-none = record { aid = replicate mostAid 0; len = 0; life = 0; quota = 0; used = 0; policy = 0 }
+abbrev pub vacant : Isdp
+vacant = record { aid = replicate mostAid 0; len = 0; life = 0; quota = 0; used = 0; policy = 0 }
 
 -- a new profile: its policy is empty
 abbrev pub made : List ℕ → ℕ → ℕ → ℕ → Isdp

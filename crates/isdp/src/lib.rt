@@ -8,7 +8,7 @@ ghost use lib.Dec.{leb, ltb, eqb};
 ghost use Rattle.isdp.specs.Aids.{sameBytes, aidOk, padded, noAid, nameOf};
 ghost use Rattle.isdp.specs.Policy.{policyOk, forbidsDisabling, forbidsDeletion, onceDisabled};
 ghost use Rattle.isdp.specs.LifeCycle.{isEnabled, withLife, withUsed, finish, off};
-ghost use Rattle.isdp.specs.Place.{none, made, isFor, zeros, lifeOk, emptyOk, heldOk, placeOk, clash};
+ghost use Rattle.isdp.specs.Place.{vacant, made, isFor, zeros, lifeOk, emptyOk, heldOk, placeOk, clash};
 
 pub struct Isdp {
     pub aid: [u8; 16],
@@ -184,7 +184,7 @@ pub fn clashes(p: Isdp, q: Isdp) -> bool
 impl Isdp {
     // A place that is not held.
     pub fn none() -> Isdp
-        ensures { λ r. ⌜ r ≡ none ⌝ }
+        ensures { λ r. ⌜ r ≡ vacant ⌝ }
     {
         let aid = [0u8; 16];
         Isdp {

@@ -4,3 +4,4 @@ pub mod Buffers
 pub mod Readings
 pub mod Kept
 pub mod Runs
+pub mod Short

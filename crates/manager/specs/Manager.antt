@@ -3,7 +3,7 @@
 use Prim.Native.Nat.{ℕ}
 use mathlib.Core.List.{List, [], _∷_}
 use Rattle.status.specs.Rows.{wordOf}
-use Rattle.card.specs.Answers.{Outcome, Work, accepted, decide, outcome}
+use Rattle.card.specs.Answers.{Outcome, Work, accepted, settle, outcome}
 use Rattle.card.specs.declared.Card.{Card}
 use Rattle.steps.specs.Steps.{stepOf, responseOf}
 use Rattle.manager.specs.Calls.{Call, asked}
@@ -18,7 +18,7 @@ work c call =
       response = responseOf c (asked c call);
     }
 
--- the answer: `decide c (wordOf (table c call)) (accepted step response)`
+-- the answer: `settle c (wordOf (table c call)) (accepted step response)`
 unfoldable pub step : Card → Call → Outcome
 step c call = outcome c (work c call)
 

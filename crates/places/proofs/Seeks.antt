@@ -1,4 +1,4 @@
--- What a search by number finds. The number of places stands for "none", and past the last place there is `none`. Assumes nothing.
+-- What a search by number finds. The number of places stands for "none", and past the last place there is `vacant`. Assumes nothing.
 use mathlib.Core.Path.{_≡_, refl, _∙_}
 use Prim.Native.Nat.{ℕ, suc, _+_, _≤_, _<_}
 use native.Mathlib.Omega.{arith}
@@ -9,18 +9,18 @@ use lib.Dec.{ltb}
 use borrow.Author.Tests.{ltb-true, ltb-false}
 use Rattle.isdp.specs.Sizes.{mostPlaces}
 use Rattle.isdp.specs.LifeCycle.{isEnabled}
-use Rattle.isdp.specs.Place.{none, held, isFor}
+use Rattle.isdp.specs.Place.{vacant, held, isFor}
 use Rattle.isdp.specs.declared.Isdp.{Isdp}
 use Rattle.isdp.proofs.Bools.{and-l}
 use Rattle.places.specs.Places.{at, seek, foundOf, anyOf, countOf}
 use Rattle.places.specs.declared.Found.{Found}
 use Rattle.places.specs.declared.Found.the-variants.{At, Nothing}
 
-seek-case : (t : Isdp → Bool) (p : Isdp) (ps : List Isdp) (b : Bool) → t p ≡ b → t none ≡ false → t (at ps (seek t ps)) ≡ anyOf t ps → t (at (p ∷ ps) (cond b 0 (suc (seek t ps)))) ≡ (b || anyOf t ps)
+seek-case : (t : Isdp → Bool) (p : Isdp) (ps : List Isdp) (b : Bool) → t p ≡ b → t vacant ≡ false → t (at ps (seek t ps)) ≡ anyOf t ps → t (at (p ∷ ps) (cond b 0 (suc (seek t ps)))) ≡ (b || anyOf t ps)
 seek-case t p ps true e n r = e
 seek-case t p ps false e n r = r
 
-pub seek-at : (t : Isdp → Bool) → t none ≡ false → (l : List Isdp) → t (at l (seek t l)) ≡ anyOf t l
+pub seek-at : (t : Isdp → Bool) → t vacant ≡ false → (l : List Isdp) → t (at l (seek t l)) ≡ anyOf t l
 unfolding seek anyOf
 seek-at t n [] = n
 seek-at t n (p ∷ ps) = seek-case t p ps (t p) refl n (seek-at t n ps)
@@ -64,8 +64,8 @@ pub found-miss : (n : ℕ) → foundOf n ≡ Nothing → mostPlaces ≤ n
 found-miss n r = miss-case n (ltb n mostPlaces) refl r
 
 -- past the last place there is none
-pub past : (l : List Isdp) (n : ℕ) → length l ≤ n → at l n ≡ none
-past l n h = List·getD-eq-default l none {n = n} h
+pub past : (l : List Isdp) (n : ℕ) → length l ≤ n → at l n ≡ vacant
+past l n h = List·getD-eq-default l vacant {n = n} h
 
 most-case : (b : Bool) (n m : ℕ) → n ≤ m → cond b 0 (suc n) ≤ suc m
 most-case true n m h = omega arith

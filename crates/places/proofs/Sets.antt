@@ -7,7 +7,7 @@ use mathlib.Core.Bool.{Bool, true, false, not}
 use lib.ListN.{length, set}
 use borrow.Author.Tests.{not-true}
 use Rattle.isdp.specs.LifeCycle.{isEnabled}
-use Rattle.isdp.specs.Place.{none, clash}
+use Rattle.isdp.specs.Place.{vacant, clash}
 use Rattle.isdp.specs.declared.Isdp.{Isdp}
 use Rattle.isdp.proofs.Bools.{and-l, and-r, both, or-l, or-r}
 use Rattle.isdp.proofs.Alike.{clash-left, clash-right, clash-none, none-clash}
@@ -78,9 +78,9 @@ unfolding anyOf
 any-never t n [] = refl
 any-never t n (p ∷ ps) = rw (n p, any-never t n ps)
 
-pub clear-distinct : (l : List Isdp) (i : ℕ) → distinct l ≡ true → distinct (set l i none) ≡ true
+pub clear-distinct : (l : List Isdp) (i : ℕ) → distinct l ≡ true → distinct (set l i vacant) ≡ true
 clear-distinct l i e =
-    set-distinct none l i (any-never (clash none) none-clash l) (any-never (λ p. clash p none) clash-none l) e
+    set-distinct vacant l i (any-never (clash vacant) none-clash l) (any-never (λ p. clash p vacant) clash-none l) e
 
 pub all-at : (t : Isdp → Bool) (l : List Isdp) (i : ℕ) → i < length l → allOf t l ≡ true → t (at l i) ≡ true
 unfolding allOf

@@ -7,14 +7,14 @@ use lib.ListN.{getD}
 use lib.Dec.{ltb}
 use Rattle.isdp.specs.Sizes.{mostPlaces}
 use Rattle.isdp.specs.LifeCycle.{enabled, withLife, off}
-use Rattle.isdp.specs.Place.{none, held, clash}
+use Rattle.isdp.specs.Place.{vacant, held, clash}
 use Rattle.isdp.specs.declared.Isdp.{Isdp}
 use Rattle.places.specs.declared.Found.{Found}
 use Rattle.places.specs.declared.Found.the-variants.{At, Nothing}
 
 -- the place at a number; past the last one there is a place that is not held
 abbrev pub at : List Isdp → ℕ → Isdp
-at l i = getD l i none
+at l i = getD l i vacant
 
 -- the number of the first place that passes the test; the number of places if none does
 unfoldable pub seek : (Isdp → Bool) → List Isdp → ℕ

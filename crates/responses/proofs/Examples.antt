@@ -7,7 +7,7 @@ use mathlib.Core.Bool.{true, false}
 use lib.ListN.{length}
 use Rattle.isdp.specs.Aids.{padded, noAid}
 use Rattle.isdp.specs.LifeCycle.{disabled, enabled}
-use Rattle.isdp.specs.Place.{none, made}
+use Rattle.isdp.specs.Place.{vacant, made}
 use Rattle.places.specs.Places.{quotas, countOf}
 use Rattle.card.specs.Cards.{withPlaces}
 use Rattle.card.specs.Fresh.{freshCard}
@@ -33,7 +33,7 @@ module _ (eid : List ℕ) (capacity quota used volatile : ℕ) where
 
   -- a free place between two held ones has no row, and the one that is not the fall-back has 53 00
   abbrev pub gap : Card
-  gap = withPlaces (freshCard eid aid-01 capacity quota used volatile) (made aid-01 enabled quota used ∷ none ∷ made aid-02 disabled quota used ∷ [])
+  gap = withPlaces (freshCard eid aid-01 capacity quota used volatile) (made aid-01 enabled quota used ∷ vacant ∷ made aid-02 disabled quota used ∷ [])
 
   pub two-rows : statusResponse gap false true ≡ 0xE3 ∷ 0x0A ∷ 0x4F ∷ 0x05 ∷ 0xA0 ∷ 0x00 ∷ 0x00 ∷ 0x00 ∷ 0x01 ∷ 0x53 ∷ 0x01 ∷ 0x01 ∷ 0xE3 ∷ 0x0A ∷ 0x4F ∷ 0x05 ∷ 0xA0 ∷ 0x00 ∷ 0x00 ∷ 0x00 ∷ 0x02 ∷ 0x53 ∷ 0x01 ∷ 0x00 ∷ []
   unfolding statusResponse rowsFrom rowOf statusRow statusBody padded

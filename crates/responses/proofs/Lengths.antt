@@ -9,7 +9,7 @@ use lib.ListN.{length, take, length-append, length-take}
 use lib.Dec.{leb, eqb}
 use borrow.Author.Tests.{leb-true, le-leb, eqb-true}
 use Rattle.isdp.specs.Sizes.{mostPlaces, mostAid, eidSize, mostCapacity, lastNumber}
-use Rattle.isdp.specs.Place.{none, held, placeOk}
+use Rattle.isdp.specs.Place.{vacant, held, placeOk}
 use Rattle.isdp.specs.declared.Isdp.{Isdp}
 use Rattle.isdp.specs.declared.Aid.{Aid}
 use Rattle.places.specs.Places.{at, allOf}
@@ -47,7 +47,7 @@ unfolding statusResponse
 status-length c life fallback e = rows-length (c .fallback) 0 life fallback (c .places) e
 
 -- a test that every place passes is passed by the place at any number, where a place that is not held passes it too
-all-at : (t : Isdp → Bool) (l : List Isdp) (i : ℕ) → allOf t l ≡ true → t none ≡ true → t (at l i) ≡ true
+pub all-at : (t : Isdp → Bool) (l : List Isdp) (i : ℕ) → allOf t l ≡ true → t vacant ≡ true → t (at l i) ≡ true
 unfolding allOf
 all-at t [] i e n = n
 all-at t (p ∷ ps) zero e n = and-l (t p) (allOf t ps) e

@@ -8,7 +8,7 @@ use Rattle.text.specs.Words.{before, leading, sameOf, wordsOn, wordsOf, wordFro
 use Rattle.text.specs.Numbers.{digitsOn, decimalOf}
 use Rattle.text.specs.Hex.{nibbleOf, pairsOf, isHex, byteOf, spelled, hexByteOf, hexReadOf}
 use Rattle.isdp.specs.Aids.{padded}
-use Rattle.isdp.specs.Place.{none}
+use Rattle.isdp.specs.Place.{vacant}
 use Rattle.card.specs.declared.Phase.the-variants.{Trial}
 use Rattle.script.specs.Ascii.{ascii}
 use Rattle.script.specs.Arguments.{bytesAt, valueAt, roomAt}
@@ -63,6 +63,6 @@ handed-in : recordOf (ascii "card 89001012012341234012345678901224 1000 20 7 1 T
     ≡ fine (0x89 ∷ 0x00 ∷ 0x10 ∷ 0x12 ∷ 0x01 ∷ 0x23 ∷ 0x41 ∷ 0x23 ∷ 0x40 ∷ 0x12 ∷ 0x34 ∷ 0x56 ∷ 0x78 ∷ 0x90 ∷ 0x12 ∷ 0x24 ∷ []) 1000 20 7 1 (Trial 0 10 7)
     (record { aid = 0xA0 ∷ 0 ∷ 0 ∷ 0 ∷ 1 ∷ replicate 11 0; len = 5; life = 0x1F; quota = 500; used = 9; policy = 1 }
     ∷ record { aid = 0xA0 ∷ 0 ∷ 0 ∷ 0 ∷ 2 ∷ replicate 11 0; len = 5; life = 0x3F; quota = 400; used = 0; policy = 255 }
-    ∷ replicate 6 none)
+    ∷ replicate 6 vacant)
 unfolding recordOf bytesAt valueAt roomAt numberAt openAt trialAt spelledPhase sizesAt placeWith spelledPlace phaseAt headAt placesOn recordWith recordAt pick atMost isBelow isSame before leading sameOf wordFrom wordAt fieldAt digitsOn decimalOf nibbleOf pairsOf isHex byteOf spelled hexByteOf hexReadOf padded
 handed-in = refl

@@ -14,7 +14,7 @@ use Rattle.text.specs.declared.hex.HexRead.{HexRead}
 use Rattle.text.specs.declared.hex.HexRead.the-variants as hexread
 use Rattle.isdp.specs.Sizes.{mostAid}
 use Rattle.isdp.specs.Aids.{padded}
-use Rattle.isdp.specs.Place.{none}
+use Rattle.isdp.specs.Place.{vacant}
 use Rattle.card.specs.declared.Phase.the-variants.{Quiet, Trial, Back, Fallen}
 use Rattle.script.specs.Ascii.{ascii}
 use Rattle.script.specs.Arguments.{most32, most16, most8, onNumber}
@@ -92,7 +92,7 @@ sizesAt w at =
     pick (atMost d (length w)) sizes.Wrong (sizes.Are quota used policy)
 
 abbrev pub noPlace : Placed
-noPlace = record { ok = false; place = none }
+noPlace = record { ok = false; place = vacant }
 
 -- STATE:QUOTA:USED:POLICY
 unfoldable pub placeWith : List ℕ → ℕ → List ℕ → ℕ → Placed
@@ -105,6 +105,6 @@ placeWith w at aid len =
 -- PLACE
 unfoldable pub spelledPlace : List ℕ → Placed
 spelledPlace w =
-    pick (sameOf w (ascii "-")) (record { ok = true; place = none })
+    pick (sameOf w (ascii "-")) (record { ok = true; place = vacant })
     (onWord (fieldAt colon w 0) noPlace λ a e.
     onRead (hexReadOf (part w a e) mostAid) noPlace λ n. placeWith w (e + 1) (padded (spelled (part w a e))) n)

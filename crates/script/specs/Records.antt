@@ -7,7 +7,7 @@ use Rattle.choice.specs.Choice.{pick, isSame}
 use Rattle.text.specs.Words.{part, wordAt, onWord}
 use Rattle.text.specs.Hex.{hexReadOf, spelled}
 use Rattle.isdp.specs.Sizes.{mostPlaces, eidSize}
-use Rattle.isdp.specs.Place.{none}
+use Rattle.isdp.specs.Place.{vacant}
 use Rattle.isdp.specs.declared.Isdp.{Isdp}
 use Rattle.card.specs.Fresh.{zeroCard}
 use Rattle.card.specs.declared.Phase.{Phase}
@@ -58,7 +58,7 @@ headAt s at =
     onPhase (phaseAt s e) head.Wrong λ phase next. head.Is capacity volatile last fallback phase next
 
 abbrev pub notHeld : Reason → Held
-notHeld why = record { reading = reading.Wrong why; places = replicate mostPlaces none }
+notHeld why = record { reading = reading.Wrong why; places = replicate mostPlaces vacant }
 
 -- n places more, where `before` was read
 unfoldable pub placesOn : ℕ → List ℕ → ℕ → List Isdp → Held

@@ -12,7 +12,7 @@ use borrow.Author.Tests.{eqb-true, ne-eqb, le-leb, leb-true, not-true}
 use Rattle.isdp.specs.Sizes.{leastAid, mostAid}
 use Rattle.isdp.specs.Aids.{sameBytes, padded, aidOf, aidOk}
 use Rattle.isdp.specs.LifeCycle.{selectable, isEnabled}
-use Rattle.isdp.specs.Place.{none, made, held, isFor, clash, zeros, lifeOk, emptyOk, heldOk, placeOk}
+use Rattle.isdp.specs.Place.{vacant, made, held, isFor, clash, zeros, lifeOk, emptyOk, heldOk, placeOk}
 use Rattle.isdp.specs.declared.Isdp.{Isdp}
 use Rattle.isdp.proofs.Bools.{and-l, and-r, or-l, or-r}
 use Rattle.isdp.proofs.Alike.{same-sym}
@@ -30,7 +30,7 @@ not-held : (p : Isdp) (aid : List ℕ) → held p ≡ false → isFor aid p ≡ 
 unfolding isFor
 not-held p aid h = rw h
 
-none-for : (aid : List ℕ) → isFor aid none ≡ false
+none-for : (aid : List ℕ) → isFor aid vacant ≡ false
 unfolding isFor
 none-for aid = refl
 
@@ -102,7 +102,7 @@ creates c aid quota s q ok low fits free k =
       each = set-all (placeOk (c .capacity)) x (made-ok (c .capacity) aid selectable quota 0 refl (and-l _ _ ok) (and-r (leb leastAid (length aid)) _ ok) (le-leb 1 quota low) (le-leb quota (c .capacity) (omega arith)) (le-leb 0 quota (omega arith))) l t (s .each);
       apart = set-distinct x l t (any-less (clash x) (isFor aid) (new-first aid quota ok) l a) (any-less (λ p. clash p x) (isFor aid) (new-second aid quota ok) l a) (s .apart);
       one = set-count isEnabled x l t (rw life) ∙ s .one;
-      resort = rw (getD-set-other l t (c .fallback) x none n) (s .resort);
+      resort = rw (getD-set-other l t (c .fallback) x vacant n) (s .resort);
       room = let r = set-quotas x l t k in omega arith;
       phased = rw q tt;
     }

@@ -15,7 +15,7 @@ use Rattle.isdp.specs.Sizes.{mostPlaces, wait}
 use Rattle.isdp.specs.Aids.{aidOk}
 use Rattle.isdp.specs.Policy.{policyOk}
 use Rattle.isdp.specs.LifeCycle.{disabled, enabled, personalized, isEnabled, isFinished}
-use Rattle.isdp.specs.Place.{none}
+use Rattle.isdp.specs.Place.{vacant}
 use Rattle.isdp.proofs.Bools.{and-l, and-r, or-l, or-r}
 use Rattle.places.specs.Places.{at}
 use Rattle.places.proofs.Lives.{enable-at, within}
@@ -78,9 +78,9 @@ refalls : (c : Card) (i : ℕ) → Sound c → c .phase ≡ Quiet → isFinished
 refalls c i s q d = record { named = s .named; full = s .full; numbered = s .numbered; some = s .some; most = s .most; each = s .each; apart = s .apart; one = s .one; resort = d; room = s .room; phased = rw q tt }
 
 -- a deletion while no change is open
-clears : (c : Card) (i : ℕ) → Sound c → c .phase ≡ Quiet → at (c .places) i .life ≡ disabled → eqb i (c .fallback) ≡ false → Sound (withPlaces c (set (c .places) i none))
+clears : (c : Card) (i : ℕ) → Sound c → c .phase ≡ Quiet → at (c .places) i .life ≡ disabled → eqb i (c .fallback) ≡ false → Sound (withPlaces c (set (c .places) i vacant))
 clears c i s q d n =
-    subst (λ (p : Phase). Sound (withChange c (c .last) p (set (c .places) i none))) (sym q) (deletes c i s d n)
+    subst (λ (p : Phase). Sound (withChange c (c .last) p (set (c .places) i vacant))) (sym q) (deletes c i s d n)
 
 -- what an enabling leaves: place t enabled, Trial, and the place enabled before as the previous one
 pub record Opened (c : Card) (t : ℕ) (d : Card) : Type 0 where
@@ -104,7 +104,7 @@ module _ (c : Card) (aid : List ℕ) (s : sound c ≡ true) where
       let h = not-false _ (p .1 .1 .1 .0) in
       opened-at c (c .fallback) s (fallback-life c (placeOf c aid) (parts c s) (and-l (isEnabled (profileOf c aid)) _ h) (not-true _ (and-r (isEnabled (profileOf c aid)) _ h)))
 
-  delete-kept : not (isQuiet (c .phase)) ≡ false → not (eqb (profileOf c aid .life) disabled && not (eqb (placeOf c aid) (c .fallback))) ≡ false → sound (withPlaces c (set (c .places) (placeOf c aid) none)) ≡ true
+  delete-kept : not (isQuiet (c .phase)) ≡ false → not (eqb (profileOf c aid .life) disabled && not (eqb (placeOf c aid) (c .fallback))) ≡ false → sound (withPlaces c (set (c .places) (placeOf c aid) vacant)) ≡ true
   delete-kept q d =
       let h = not-false _ d in
       whole _ (clears c (placeOf c aid) (parts c s) (quietly (c .phase) q) (eqb-true _ _ (and-l (eqb (profileOf c aid .life) disabled) _ h)) (not-true _ (and-r (eqb (profileOf c aid .life) disabled) _ h)))

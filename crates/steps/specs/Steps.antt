@@ -6,7 +6,7 @@ use mathlib.Core.Path.{_≡_}
 use lib.ListN.{set}
 use Rattle.isdp.specs.Aids.{noAid}
 use Rattle.isdp.specs.LifeCycle.{selectable, personalized, withLife, withUsed, finish}
-use Rattle.isdp.specs.Place.{none, made}
+use Rattle.isdp.specs.Place.{vacant, made}
 use Rattle.card.specs.Cards.{placeOf, profileOf, freePlace, withPlaces, withFallback}
 use Rattle.card.specs.Clock.{opened}
 use Rattle.card.specs.Steps.{stepTo, tickStep, lostStep, confirmStep}
@@ -30,8 +30,8 @@ actStep c aid enable = stepTo c (opened c (placeOf c aid)) noAid
 -- "Disable: .. The fall-back is enabled; Trial."
 actStep c aid disable = stepTo c (opened c (c .fallback)) noAid
 -- "Delete", "Master delete is the same without policy, with the token verdict"
-actStep c aid delete = rewritten c aid none
-actStep c aid (masterDelete verdict) = rewritten c aid none
+actStep c aid delete = rewritten c aid vacant
+actStep c aid (masterDelete verdict) = rewritten c aid vacant
 -- "Set fall-back: .. Naming the holder changes nothing"
 actStep c aid setFallBack = stepTo c (withFallback c (placeOf c aid)) noAid
 actStep c aid (status life fallback) = still c

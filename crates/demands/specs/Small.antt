@@ -1,0 +1,34 @@
+-- Document 01, two short promises over every card: "Naming the holder changes nothing", and which calls an open change never refuses.
+use Prim.Native.Nat.{ℕ}
+use mathlib.Core.Path.{_≡_}
+use mathlib.Core.List.{List}
+use mathlib.Core.Bool.{Bool, false}
+use Rattle.card.specs.Cards.{placeOf}
+use Rattle.card.specs.declared.Card.{Card}
+use Rattle.steps.specs.Asked.{Act.setFallBack, Act.status, Act.keyed, Act.stored, Act.finished, Asked, Asked.on, Asked.statusOfAll, Asked.getData, Asked.tick, Asked.lost}
+use Rattle.steps.specs.Conditions.{changeWrong}
+use Rattle.manager.specs.Calls.{Call, asked}
+use Rattle.manager.specs.Manager.{step}
+
+-- set fall-back names the profile that is the fall-back: the card after is the card before, whole
+abbrev pub HolderNamed : Type 0
+HolderNamed =
+    (c : Card) (call : Call) (aid : List ℕ)
+    → asked c call ≡ on aid setFallBack
+    → placeOf c aid ≡ c .fallback
+    → step c call .card ≡ c
+
+-- the row of an open change is not met by a call that asks this, whatever the card
+abbrev pub Allowed : Asked → Type 0
+Allowed a = (c : Card) (call : Call) → asked c call ≡ a → changeWrong c (asked c call) ≡ false
+
+-- "69 85: a change is open, for create, enable, disable, delete, master delete, set fall-back"; for none of these
+pub record AllowedWhileOpen : Type 0 where
+  pub keyed-allowed : (aid : List ℕ) → Allowed (on aid keyed)
+  pub stored-allowed : (aid : List ℕ) (n : ℕ) → Allowed (on aid (stored n))
+  pub finished-allowed : (aid : List ℕ) (policy : ℕ) → Allowed (on aid (finished policy))
+  pub status-of-all-allowed : (life fallback : Bool) → Allowed (statusOfAll life fallback)
+  pub status-of-one-allowed : (aid : List ℕ) (life fallback : Bool) → Allowed (on aid (status life fallback))
+  pub get-data-allowed : Allowed getData
+  pub tick-allowed : Allowed tick
+  pub lost-allowed : Allowed lost
