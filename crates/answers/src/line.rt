@@ -1,9 +1,9 @@
 // One line for each call, `SW RESPONSE NOTIFICATION TICKS`, and `line N: ..` for a line of the script that cannot be read.
-use script::Reason;
 use card::Answer;
 use card::Kind;
 use card::Notification;
 use isdp::Aid;
+use script::Reason;
 use text::put_byte;
 use text::put_bytes;
 use text::put_decimal;

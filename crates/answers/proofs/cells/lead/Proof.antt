@@ -1,7 +1,7 @@
 -- `cells::lead`: each exit names the tests that lead there.
 use mathlib.Core.Path.{refl}
 use native.Mathlib.Omega.{arith}
-use Rattle.choice.proofs.Branches.{lt!, nlt!}
+use Rattle.choice.proofs.Branches.{lt!, nlt! }
 use Rattle.answers.specs.Explained.{leadOf}
 use Rattle.answers.proofs.cells.lead.Statement.{statement}
 use Rattle.answers.proofs.cells.lead.Tie as tie

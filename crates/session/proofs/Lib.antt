@@ -1,0 +1,4 @@
+-- Laws that several proofs cite: words of a line, the bytes they spell, outcomes without a response.
+pub mod Words
+pub mod Spelled
+pub mod Silent

@@ -1,0 +1,57 @@
+use mathlib.Core.Path.{_≡_, ap, sym, _∙_}
+use mathlib.Core.List.{[]}
+use borrow.Author.Tests.{not-true, not-false}
+use Rattle.status.specs.Rows.{wordOf}
+use Rattle.isdp.specs.Aids.{noAid}
+use Rattle.card.specs.Steps.{stepTo}
+use Rattle.card.specs.Answers.{handed}
+use Rattle.card.proofs.Outcomes.{checked, stopped}
+use borrow.Author.Needs.{needs}
+use Rattle.session.proofs.handed_in.Statement.{statement}
+use Rattle.session.proofs.handed_in.Tie as tie
+use Rattle.session.proofs.handed_in.Reads as reads
+use Rattle.session.proofs.handed_in.Lts as lts
+use Rattle.card.proofs.Card.is_sound.Reads as is-sound-reads
+use Rattle.card.proofs.Card.step_to.Reads as step-to-reads
+use Rattle.card.proofs.Card.unsound.Reads as unsound-reads
+use Rattle.card.proofs.Step.answer.Reads as answer-reads
+use Rattle.isdp.proofs.Aid.none.Reads as none-reads
+
+is-sound-requires : tie.Need-is-sound-requires
+is-sound-requires c κs = search needs
+
+unsound-requires : tie.Need-unsound-requires
+unsound-requires c κs = search needs
+
+returns : tie.Need-returns
+returns c = let e = c .before in
+    let s = e .before .before in
+    c .unsound .ensures ∙ ap handed (sym (stopped (s .args .card) (record { rows = []; step = stepTo (s .args .card) (s .args .card) noAid; response = [] }) (sym (e .before .is-sound .ensures) ∙ not-true _ (e .if1 .taken))))
+
+none-requires : tie.Need-none-requires
+none-requires c κs = search needs
+
+step-to-requires : tie.Need-step-to-requires
+step-to-requires c κs = search needs
+
+answer-requires : tie.Need-answer-requires
+answer-requires c κs = search needs
+
+returns-2 : tie.Need-returns-2
+unfolding wordOf
+returns-2 c = let e = c .before .before .before in
+    let s = e .before .before in
+    let g = sym (e .before .is-sound .ensures) ∙ not-false _ (e .if1 .left) in
+    rw (checked (s .args .card) (record { rows = []; step = stepTo (s .args .card) (s .args .card) noAid; response = [] }) g (λ z. g)) (rw (c .answer .ensures, c .before .step-to .ensures))
+
+pub handed-in-spec : {M : Type 1} → statement M
+handed-in-spec =
+    tie.close
+    (tie.spec
+    is-sound-requires
+    unsound-requires
+    returns
+    none-requires
+    step-to-requires
+    answer-requires
+    returns-2)

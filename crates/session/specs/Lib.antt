@@ -1,0 +1,2 @@
+-- What a line of a script makes of a card, and the text that answers it.
+pub mod Session

@@ -1,0 +1,60 @@
+"""Builds command bytes as document 01 and the tables of 000 lay them out."""
+
+
+def length(value):
+    n = len(value) // 2
+    assert n <= 255
+    return f"{n:02X}" if n < 0x80 else f"81{n:02X}"
+
+
+def tlv(tag, value=""):
+    return tag + length(value) + value
+
+
+def apdu(header, data, le=""):
+    n = len(data) // 2
+    assert 1 <= n <= 255, n
+    return header.replace(" ", "") + f"{n:02X}" + data + le
+
+
+F, B = "A000000001", "A000000002"
+AID16 = "A0000005591010FFFFFFFF8900001000"
+LOAD = "A0000005591010FFFFFFFF8900000D00"
+MODULE = "A0000005591010FFFFFFFF8900000E00"
+C9 = "C90481020370"
+
+
+def ef(quota, digits=8):
+    return tlv("EF", tlv("83", f"{quota:0{digits}X}"))
+
+
+def fields(load=LOAD, module=MODULE, aid=B, priv="80C000", params=None, token="00"):
+    params = C9 + ef(50) if params is None else params
+    return "".join(length(x) + x for x in (load, module, aid, priv, params)) + token
+
+
+def create(le="", **kw):
+    return apdu("80E60C00", fields(**kw), le)
+
+
+def store(dgi, body, p1="88", le="", cla="80"):
+    return apdu(f"{cla}E2{p1}00", dgi + f"{len(body) // 2:02X}" + body, le)
+
+
+def delete(data, le=""):
+    return apdu("80E40040", data, le)
+
+
+def status(data, le=""):
+    return apdu("80F24002", data, le)
+
+
+def four_f(aid=B):
+    return tlv("4F", aid)
+
+
+def b6(a="01", b="02", c="03", d="04"):
+    return tlv("B6", tlv("42", a) + tlv("45", b) + tlv("5F20", c) + tlv("93", d))
+
+
+TOKEN = tlv("9E", "55" * 16)

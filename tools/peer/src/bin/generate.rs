@@ -1,0 +1,773 @@
+//! `generate SEED CALLS [bad]`: writes one script of about CALLS calls, the same for the same seed.
+//! It plays each line on the peer's own card as it writes it, so that most calls meet a card on
+//! which they matter; with `bad`, the script ends in a line that cannot be read.
+
+// The generator needs only part of each module it shares with the peer.
+#![allow(dead_code)]
+
+#[path = "../card.rs"]
+mod card;
+#[path = "../manager.rs"]
+mod manager;
+#[path = "../read.rs"]
+mod read;
+#[path = "../script.rs"]
+mod script;
+#[path = "../status.rs"]
+mod status;
+
+use card::*;
+use script::{hex_word, Script};
+use std::process::ExitCode;
+
+/// SplitMix64: small, seeded by any number, and the same on every machine.
+struct Random(u64);
+
+impl Random {
+    fn next(&mut self) -> u64 {
+        self.0 = self.0.wrapping_add(0x9E37_79B9_7F4A_7C15);
+        let mut z = self.0;
+        z = (z ^ (z >> 30)).wrapping_mul(0xBF58_476D_1CE4_E5B9);
+        z = (z ^ (z >> 27)).wrapping_mul(0x94D0_49BB_1331_11EB);
+        z ^ (z >> 31)
+    }
+
+    fn below(&mut self, bound: usize) -> usize {
+        (self.next() >> 11) as usize % bound.max(1)
+    }
+
+    fn chance(&mut self, percent: usize) -> bool {
+        self.below(100) < percent
+    }
+
+    fn pick<T: Copy>(&mut self, of: &[T]) -> T {
+        of[self.below(of.len())]
+    }
+
+    fn number(&mut self, low: u32, high: u32) -> u32 {
+        low + self.below((high - low) as usize + 1) as u32
+    }
+
+    fn byte(&mut self) -> u8 {
+        self.next() as u8
+    }
+}
+
+fn tlv(tag: &[u8], value: &[u8]) -> Vec<u8> {
+    let mut out = tag.to_vec();
+    if value.len() > 0x7F {
+        out.push(0x81);
+    }
+    out.push(value.len() as u8);
+    out.extend(value);
+    out
+}
+
+fn counted(value: &[u8]) -> Vec<u8> {
+    tlv(&[], value)
+}
+
+struct Generator {
+    random: Random,
+    model: Script,
+    aids: Vec<Vec<u8>>,
+    out: String,
+    calls: usize,
+}
+
+impl Generator {
+    fn put(&mut self, line: String) {
+        let mut answer = String::new();
+        self.model.line(line.as_bytes(), &mut answer).expect("a line of the generator can be read");
+        self.out.push_str(&line);
+        self.out.push('\n');
+        self.calls += 1;
+    }
+
+    /// Names that only their length, or zeros at their end, tell apart, among plain ones.
+    fn new_aids(&mut self) {
+        self.aids.clear();
+        let mut zeros = vec![0xA0, 0, 0, 0, 1];
+        for _ in 0..3 {
+            self.aids.push(zeros.clone());
+            zeros.push(0);
+        }
+        for last in 2..8 {
+            self.aids.push(vec![0xA0, 0, 0, 0, last]);
+        }
+        let long = [0xA0, 0, 0, 5, 0x59, 0x10, 0x10, 0xFF, 0xFF, 0xFF, 0xFF, 0x89, 0, 0, 0x10, 0];
+        for length in [16, 15, 8] {
+            self.aids.push(long[..length].to_vec());
+        }
+        let mut other = long;
+        other[15] = self.random.byte();
+        self.aids.push(other.to_vec());
+        self.aids.push(vec![0; self.random.number(5, 16) as usize]);
+    }
+
+    fn any_aid(&mut self) -> Vec<u8> {
+        let index = self.random.below(self.aids.len());
+        self.aids[index].clone()
+    }
+
+    fn odd_aid(&mut self) -> Vec<u8> {
+        let mut aid = self.any_aid();
+        match self.random.below(5) {
+            0 => aid.push(0),
+            1 => aid.truncate(self.random.below(aid.len() + 1)),
+            2 => aid[0] ^= 1,
+            3 => aid.resize(17, 0),
+            _ => aid.clear(),
+        }
+        aid
+    }
+
+    fn places(&self, wanted: impl Fn(usize, &Place) -> bool) -> Vec<usize> {
+        let places = self.model.card.places.iter().enumerate();
+        places.filter(|(index, place)| place.is_held() && wanted(*index, place)).map(|(index, _)| index).collect()
+    }
+
+    /// Mostly a place that the step would take, else any name.
+    fn target(&mut self, wanted: impl Fn(usize, &Place) -> bool) -> Vec<u8> {
+        let suited = self.places(wanted);
+        let held = self.places(|_, _| true);
+        let roll = self.random.below(100);
+        let among = if roll < 80 && !suited.is_empty() { suited } else { held };
+        if roll < 92 && !among.is_empty() {
+            let index = self.random.pick(&among);
+            return self.model.card.places[index].aid.bytes().to_vec();
+        }
+        if roll < 97 {
+            self.any_aid()
+        } else {
+            self.odd_aid()
+        }
+    }
+
+    fn policy(&mut self) -> u8 {
+        let right = [0, 0, 0, 0, 0, 0, 4, 4, 4, 4, 4, 2, 2, 1, 3];
+        if self.random.chance(6) {
+            let any = self.random.byte();
+            self.random.pick(&[5, 6, 7, 8, any])
+        } else {
+            self.random.pick(&right)
+        }
+    }
+
+    fn eid(&mut self) -> String {
+        let eid: Vec<u8> = (0..16).map(|_| self.random.byte()).collect();
+        hex_word(&eid)
+    }
+
+    // ---- cards
+
+    fn fresh(&mut self) {
+        let eid = self.eid();
+        let aid = self.any_aid();
+        let capacity = self.random.pick(&[1, 300, 1000, 1000, 1000, 70_000, 1_048_576]);
+        let quota = self.random.number(1, capacity / 4 + 1).min(capacity);
+        let used = self.random.number(0, quota);
+        let volatile = self.random.next() as u32;
+        self.put(format!("fresh {eid} {} {capacity} {quota} {used} {volatile}", hex_word(&aid)));
+    }
+
+    fn refused_fresh(&mut self) {
+        let eid = self.eid();
+        let aid = hex_word(&self.any_aid());
+        let line = match self.random.below(9) {
+            0 => format!("fresh {} {aid} 1000 100 0 0", &eid[2..]),
+            1 => format!("fresh {eid}00 {aid} 1000 100 0 0"),
+            2 => format!("fresh {eid} A0000000 1000 100 0 0"),
+            3 => format!("fresh {eid} {} 1000 100 0 0", "A0".repeat(17)),
+            4 => format!("fresh {eid} {aid} 0 0 0 0"),
+            5 => format!("fresh {eid} {aid} 1048577 100 0 0"),
+            6 => format!("fresh {eid} {aid} 1000 1001 0 0"),
+            7 => format!("fresh {eid} {aid} 1000 0 0 0"),
+            _ => format!("fresh {eid} {aid} 1000 100 101 0"),
+        };
+        self.put(line);
+    }
+
+    /// Any sound card, also of kinds that no run from fresh makes: a SELECTABLE one with used
+    /// bytes, a previous that is the fall-back, eight places full, numbers about to wrap.
+    fn sound_card(&mut self) -> Card {
+        let capacity = self.random.pick(&[100, 1000, 1_048_576]);
+        let mut card = Card { capacity, volatile: self.random.next() as u32, ..Card::ZEROS };
+        for byte in &mut card.eid {
+            *byte = self.random.byte();
+        }
+        let mut names = self.aids.clone();
+        let full = self.random.chance(25);
+        for index in 0..PLACES {
+            if !full && self.random.chance(40) {
+                continue;
+            }
+            let name = names.swap_remove(self.random.below(names.len()));
+            let quota = self.random.number(1, capacity / PLACES as u32);
+            let most = self.random.pick(&[0, 3.min(quota), quota]);
+            card.places[index] = Place {
+                aid: Aid::of(&name),
+                life_cycle: self.random.pick(&[SELECTABLE, PERSONALIZED, DISABLED, DISABLED, DISABLED]),
+                quota,
+                used: self.random.number(0, most),
+                policy: self.random.pick(&[0, 0, 0, 1, 2, 3, 4, 4]),
+            };
+        }
+        if card.held() == 0 {
+            card.places[5] = Place { aid: Aid::of(&names[0]), life_cycle: ENABLED, quota: 7, used: 0, policy: 0 };
+        }
+        let held: Vec<usize> = (0..PLACES).filter(|index| card.places[*index].is_held()).collect();
+        let enabled = self.random.pick(&held);
+        card.places[enabled].life_cycle = ENABLED;
+        let fall_back = self.random.pick(&held);
+        if fall_back != enabled {
+            card.places[fall_back].life_cycle = DISABLED;
+        }
+        card.fall_back = fall_back as u8;
+        let any = self.random.next() as u16;
+        card.last = self.random.pick(&[0, 1, 65533, 65534, 65535, any]);
+        let number = card.last;
+        let left = self.random.number(1, 10) as u8;
+        let disabled: Vec<usize> =
+            held.into_iter().filter(|index| card.places[*index].life_cycle == DISABLED).collect();
+        card.phase = match self.random.below(10) {
+            0..=3 if !disabled.is_empty() => {
+                let previous = self.random.pick(&disabled) as u8;
+                Phase::Trial { previous, left, number }
+            }
+            4 | 5 => Phase::Back { left, number },
+            6 if fall_back == enabled => Phase::Fallen { left, number },
+            _ => Phase::Quiet,
+        };
+        card
+    }
+
+    fn broken_card(&mut self) -> Card {
+        let mut card = self.sound_card();
+        let enabled = card.enabled();
+        let index = self.random.below(PLACES);
+        let any = self.random.byte();
+        let place = &mut card.places[index];
+        match self.random.below(19) {
+            0 => card.capacity = self.random.pick(&[0, 1, 1_048_577, u32::MAX]),
+            1 => card.fall_back = self.random.pick(&[8, 9, 200, 255]),
+            2 => place.life_cycle = self.random.pick(&[0x00, 0x03, 0x0B, 0x7F, 0x83, any]),
+            3 => place.quota = self.random.pick(&[0, u32::MAX, 1_048_577]),
+            4 => place.used = self.random.pick(&[1, u32::MAX]),
+            5 => place.policy = self.random.pick(&[5, 6, 7, 8, any]),
+            6 => place.aid = Aid::of(&[0xA0, 0, 0, 0][..self.random.below(5)]),
+            7 => place.life_cycle = ENABLED,
+            8 => card.places[enabled].life_cycle = DISABLED,
+            9 => card.places[index].aid = card.places[enabled].aid,
+            10 => card.phase = Phase::Back { left: self.random.pick(&[0, 11, 255]), number: card.last },
+            11 => card.phase = Phase::Back { left: 5, number: card.last.wrapping_add(1) },
+            12 => {
+                let previous = self.random.pick(&[enabled as u8, 8, 200, index as u8]);
+                card.phase = Phase::Trial { previous, left: 5, number: card.last };
+            }
+            13 => card.phase = Phase::Fallen { left: 5, number: card.last },
+            14 => card.places = card.places.map(|place| Place { quota: u32::MAX, ..place }),
+            15 => card.capacity = card.places.iter().map(|place| place.quota).sum::<u32>() - 1,
+            16 => card.capacity = card.places.iter().map(|place| place.quota).sum(),
+            17 => {
+                let unready = self.random.pick(&[SELECTABLE, PERSONALIZED]);
+                card.places[usize::from(card.fall_back)].life_cycle = unready;
+            }
+            _ => card = Card::ZEROS,
+        }
+        card
+    }
+
+    fn hand_in(&mut self, card: &Card) {
+        let phase = match card.phase {
+            Phase::Quiet => "Q".to_owned(),
+            Phase::Trial { previous, left, number } => format!("T:{previous}:{left}:{number}"),
+            Phase::Back { left, number } => format!("B:{left}:{number}"),
+            Phase::Fallen { left, number } => format!("F:{left}:{number}"),
+        };
+        let mut line = format!(
+            "card {} {} {} {} {} {phase}",
+            hex_word(&card.eid),
+            card.capacity,
+            card.volatile,
+            card.last,
+            card.fall_back
+        );
+        for place in &card.places {
+            if *place == Place::ZERO {
+                line.push_str(" -");
+            } else {
+                let Place { aid, life_cycle, quota, used, policy } = place;
+                line.push_str(&format!(" {}:{life_cycle:02X}:{quota}:{used}:{policy}", hex_word(aid.bytes())));
+            }
+        }
+        self.put(line);
+    }
+
+    // ---- commands
+
+    fn command(&mut self, header: [u8; 3], field: Vec<u8>, verdict: u8) {
+        let mut bytes = vec![self.class()];
+        bytes.extend(header);
+        let mut field = field;
+        // A field altered under a right Lc reaches the data rows, not the length row.
+        if self.random.chance(9) {
+            self.damage_field(&mut field);
+        }
+        field.truncate(255);
+        bytes.push(field.len() as u8);
+        bytes.extend(field);
+        if self.random.chance(50) {
+            bytes.push(0);
+        }
+        self.send(bytes, verdict);
+    }
+
+    fn class(&mut self) -> u8 {
+        let low = self.random.byte() & 0x0F;
+        self.random.pick(&[0x80, 0x80, 0x80, 0x80 | low, 0xC0 | low, 0xE0 | low])
+    }
+
+    fn damage_field(&mut self, field: &mut Vec<u8>) {
+        let at = self.random.below(field.len());
+        let any = self.random.byte();
+        match self.random.below(8) {
+            0 if field.len() > 1 => {
+                field.remove(at);
+            }
+            1 => field.insert(at, self.random.pick(&[0x81, 0x81, any])),
+            2 => field[at] = field[at].wrapping_add(1),
+            3 => field[at] = field[at].wrapping_sub(1),
+            4 => field[at] = self.random.pick(&[0x00, 0x7F, 0x80, 0x81, 0xFF, any]),
+            5 => field.push(self.random.pick(&[0x00, 0x4F, any])),
+            6 => field.extend_from_within(at..),
+            // 81 before a length that needs none.
+            _ => match field.iter().position(|byte| *byte == 0x4F) {
+                Some(tag) => field.insert(tag + 1, 0x81),
+                None => field.push(0x81),
+            },
+        }
+    }
+
+    fn damage(&mut self, bytes: &mut Vec<u8>) {
+        let at = self.random.below(bytes.len());
+        let any = self.random.byte();
+        match self.random.below(12) {
+            0 | 1 => bytes[at] ^= 1 << self.random.below(8),
+            2 => bytes.truncate(at),
+            3 => bytes.push(any),
+            4 => bytes.push(0),
+            5 if bytes.len() > 4 => bytes[4] = bytes[4].wrapping_add(self.random.pick(&[1, 255, 2, any])),
+            6 => bytes[0] = any,
+            7 => bytes[1] = bytes[1].wrapping_add(self.random.pick(&[1, 2, 254, any])),
+            8 => bytes[2] = bytes[2].wrapping_add(self.random.pick(&[1, 255, 8, any])),
+            9 => bytes[3] = bytes[3].wrapping_add(self.random.pick(&[1, 255, any])),
+            10 => bytes.truncate(self.random.below(6)),
+            // The edges of the longest command, with an Lc that fits all but the last of them.
+            _ if self.random.chance(50) && bytes.len() > 4 => {
+                bytes.resize(self.random.pick(&[260, 261, 262]), 0);
+                bytes[4] = 0xFF;
+            }
+            _ => bytes[at] = any,
+        }
+    }
+
+    fn send(&mut self, mut bytes: Vec<u8>, verdict: u8) {
+        if self.random.chance(12) {
+            self.damage(&mut bytes);
+        }
+        let mut word = hex_word(&bytes);
+        if self.random.chance(4) {
+            word = word.to_lowercase();
+        }
+        let odd = self.random.number(0, 300);
+        let length = match self.random.below(100) {
+            0..=2 => format!(" {}", self.random.pick(&[0, 1, 254, 255])),
+            3..=6 => format!(" {}", self.random.pick(&[256, 257, 1024])),
+            7 => format!(" {odd}"),
+            _ => String::new(),
+        };
+        self.put(format!("command {verdict} {word}{length}"));
+    }
+
+    fn verdict(&mut self) -> u8 {
+        self.random.pick(&[0, 1, 1, 2, 255])
+    }
+
+    fn create(&mut self) {
+        let card = self.model.card;
+        let mut aid = self.any_aid();
+        if card.find(&aid).is_some() && self.random.chance(80) {
+            aid = self.any_aid();
+        }
+        if self.random.chance(3) {
+            aid = self.odd_aid();
+        }
+        let free = if card.is_sound() { card.free() } else { 0 };
+        let small = self.random.number(1, (card.capacity / 10).min(free / 2) + 1);
+        let choices =
+            [small, small, small, small, small, small, small, small, small, free, free.wrapping_add(1), card.capacity];
+        let quota = if self.random.chance(4) {
+            let any = self.random.next() as u32;
+            self.random.pick(&[0, card.capacity.wrapping_add(1), any])
+        } else {
+            self.random.pick(&choices)
+        };
+        let quota = if quota <= 0xFF_FFFF && self.random.chance(2) {
+            quota.to_be_bytes()[1..].to_vec()
+        } else if quota <= 0xFFFF && self.random.chance(50) {
+            (quota as u16).to_be_bytes().to_vec()
+        } else {
+            quota.to_be_bytes().to_vec()
+        };
+        let occurrences = self.random.pick(&[1, 1, 1, 1, 1, 1, 1, 1, 1, 1, 1, 1, 1, 1, 2, 2, 3, 3, 33, 33, 0]);
+        let mut protocols = [0x81, 2, 3, 0x70].repeat(occurrences);
+        if self.random.chance(2) {
+            protocols = self.random.pick(&[&[0x81, 1, 3][..], &[0x81, 3, 3, 0x70, 0], &[0x82, 2, 3, 0x70]]).to_vec();
+        }
+        let mut parameters = tlv(&[0xC9], &protocols);
+        parameters.extend(tlv(&[0xEF], &tlv(&[0x83], &quota)));
+        let load_file = self.any_aid();
+        let module = self.any_aid();
+        let privileges: &[u8] = self.random.pick(&[&[0x80][..], &[0x80, 0xC0, 0x00]][..]);
+        let privileges = if self.random.chance(2) { &[0x80, 0xC0] } else { privileges };
+        let mut field = counted(&load_file);
+        for value in [&module, &aid, &privileges.to_vec(), &parameters] {
+            field.extend(counted(value));
+        }
+        field.push(0);
+        let verdict = self.verdict();
+        self.command([0xE6, 0x0C, 0x00], field, verdict);
+    }
+
+    fn store_data(&mut self, dgi: u8, body: Vec<u8>) {
+        let mut field = vec![0x3A, dgi, body.len() as u8];
+        field.extend(body);
+        let p1 = 0x88 | self.random.byte() & 7;
+        let verdict = self.verdict();
+        self.command([0xE2, p1, 0x00], field, verdict);
+    }
+
+    fn enable(&mut self) {
+        let aid = self.target(|_, place| place.life_cycle == DISABLED);
+        self.store_data(3, tlv(&[0x4F], &aid));
+    }
+
+    fn disable(&mut self) {
+        let aid = self.target(|_, place| place.life_cycle == ENABLED);
+        self.store_data(4, tlv(&[0x4F], &aid));
+    }
+
+    fn set_fall_back(&mut self) {
+        let aid = self.target(|_, place| matches!(place.life_cycle, DISABLED | ENABLED));
+        self.store_data(5, tlv(&[0x4F], &aid));
+    }
+
+    fn confirm(&mut self, right: usize) {
+        let last = self.model.card.last;
+        let number = if self.random.chance(right) {
+            last
+        } else {
+            let any = self.random.next() as u16;
+            self.random.pick(&[last.wrapping_sub(1), last.wrapping_add(1), last.swap_bytes(), 0, any])
+        };
+        self.store_data(8, tlv(&[0x4E], &number.to_be_bytes()));
+    }
+
+    fn delete(&mut self, master: bool) {
+        let fall_back = usize::from(self.model.card.fall_back);
+        let aid = self.target(|index, place| place.life_cycle == DISABLED && index != fall_back);
+        let mut field = tlv(&[0x4F], &aid);
+        let mut verdict = self.verdict();
+        if master {
+            let mut reference = Vec::new();
+            for tag in [&[0x42][..], &[0x45], &[0x5F, 0x20], &[0x93]] {
+                let length = self.random.pick(&[1, 1, 1, 1, 1, 1, 2, 2, 3, 3, 4, 4, 4, 4, 5, 5, 6, 7, 8, 0]);
+                let value = vec![self.random.byte(); length];
+                reference.extend(tlv(tag, &value));
+            }
+            field.extend(tlv(&[0xB6], &reference));
+            let length = self.random.pick(&[1, 1, 4, 4, 4, 16, 16, 16, 16, 127, 128, 0]);
+            field.extend(tlv(&[0x9E], &vec![0x55; length]));
+            if self.random.chance(60) {
+                verdict = 1;
+            }
+        }
+        self.command([0xE4, 0x00, 0x40], field, verdict);
+    }
+
+    fn get_status(&mut self) {
+        let aid = if self.random.chance(65) { Vec::new() } else { self.target(|_, _| true) };
+        let mut field = tlv(&[0x4F], &aid);
+        if self.random.chance(50) {
+            let count = self.random.pick(&[0, 1, 1, 2, 2, 3, 5]);
+            let mut listed = Vec::new();
+            for _ in 0..count {
+                listed.extend(self.random.pick(&[&[0x4F][..], &[0x9F, 0x70], &[0x53]]));
+            }
+            if self.random.chance(6) {
+                listed.push(self.random.pick(&[0x9F, 0x70, 0x5C, 0x00]));
+            }
+            if self.random.chance(2) {
+                listed = [0x9F, 0x70].repeat(60 + self.random.below(66));
+            }
+            field.extend(tlv(&[0x5C], &listed));
+        }
+        let verdict = self.verdict();
+        self.command([0xF2, 0x40, 0x02], field, verdict);
+    }
+
+    fn get_data(&mut self) {
+        let class = self.class();
+        let verdict = self.verdict();
+        self.send(vec![class, 0xCA, 0xFF, 0x21, 0x00], verdict);
+    }
+
+    // ---- the other calls
+
+    fn keyed(&mut self) {
+        let aid = self.target(|_, place| place.life_cycle == SELECTABLE);
+        self.put(format!("keyed {}", hex_word(&aid)));
+    }
+
+    fn stored(&mut self) {
+        let aid = self.target(|_, place| place.life_cycle == PERSONALIZED);
+        let place = self.model.card.find(&aid).map(|index| self.model.card.places[index]);
+        let room = place.map_or(9, |place| place.quota.saturating_sub(place.used));
+        let some = self.random.number(1, room / 2 + 1);
+        let n = self.random.pick(&[some, some, some, some, room, room.wrapping_add(1), 0, u32::MAX]);
+        self.put(format!("stored {} {n}", hex_word(&aid)));
+    }
+
+    fn finished(&mut self) {
+        let aid = self.target(|_, place| place.life_cycle == PERSONALIZED && place.used > 0);
+        let policy = self.policy();
+        self.put(format!("finished {} {policy}", hex_word(&aid)));
+    }
+
+    /// Carries the download of some profile one call further, where there is one.
+    fn download(&mut self) {
+        let selectable = !self.places(|_, place| place.life_cycle == SELECTABLE).is_empty();
+        let empty = !self.places(|_, place| place.life_cycle == PERSONALIZED && place.used == 0).is_empty();
+        let begun = !self.places(|_, place| place.life_cycle == PERSONALIZED && place.used > 0).is_empty();
+        match self.random.below(100) {
+            0..=29 if selectable => self.keyed(),
+            30..=54 if empty || begun => self.stored(),
+            55..=93 if begun => self.finished(),
+            _ if begun => self.finished(),
+            _ if empty => self.stored(),
+            _ if selectable => self.keyed(),
+            _ => self.create_if_room(),
+        }
+    }
+
+    /// On a full card mostly a delete, so that the places come and go.
+    fn create_if_room(&mut self) {
+        let card = self.model.card;
+        let room = card.is_sound() && card.lowest_free_place().is_some() && card.free() > 0;
+        if room || self.random.chance(15) {
+            self.create();
+        } else if card.is_open() {
+            self.confirm(90);
+        } else if self.random.chance(50) {
+            self.delete(false);
+        } else {
+            self.delete(true);
+        }
+    }
+
+    fn ticks(&mut self) {
+        let few = self.random.number(1, 12);
+        let count = self.random.pick(&[1, 1, 2, few, 9, 10, 11]);
+        for _ in 0..count {
+            self.put("tick".to_owned());
+        }
+    }
+
+    fn lost(&mut self) {
+        self.put("lost".to_owned());
+    }
+
+    fn forbidden_while_open(&mut self) {
+        match self.random.below(6) {
+            0 => self.create(),
+            1 => self.enable(),
+            2 => self.disable(),
+            3 => self.delete(false),
+            4 => self.delete(true),
+            _ => self.set_fall_back(),
+        }
+    }
+
+    fn any_call(&mut self) {
+        match self.random.below(8) {
+            0 => self.keyed(),
+            1 => self.stored(),
+            2 => self.finished(),
+            3 => self.put("tick".to_owned()),
+            4 => self.lost(),
+            5 => self.get_status(),
+            6 => self.confirm(80),
+            _ => self.forbidden_while_open(),
+        }
+    }
+
+    fn call(&mut self) {
+        let roll = self.random.below(100);
+        if self.model.card.is_open() {
+            match roll {
+                0..=21 => self.ticks(),
+                22..=51 => self.confirm(75),
+                52..=56 => self.lost(),
+                57..=65 => self.get_status(),
+                66..=69 => self.get_data(),
+                70..=84 => self.download(),
+                85..=96 => self.forbidden_while_open(),
+                _ => self.any_call(),
+            }
+        } else if self.places(|_, place| place.life_cycle == DISABLED).is_empty() && self.random.chance(75) {
+            self.download();
+        } else {
+            match roll {
+                0..=12 => self.create_if_room(),
+                13..=40 => self.download(),
+                41..=60 => self.enable(),
+                61..=66 => self.disable(),
+                67..=71 => self.delete(false),
+                72..=75 => self.delete(true),
+                76..=80 => self.set_fall_back(),
+                81..=84 => self.lost(),
+                85..=86 => self.put("tick".to_owned()),
+                87..=93 => self.get_status(),
+                94..=96 => self.get_data(),
+                97 => self.confirm(50),
+                _ => self.any_call(),
+            }
+        }
+    }
+
+    /// A card that is not sound, and a call or two that must leave it so.
+    fn unsound(&mut self) {
+        if self.random.chance(30) {
+            self.refused_fresh();
+        } else {
+            let card = self.broken_card();
+            self.hand_in(&card);
+        }
+        for _ in 0..self.random.below(3) {
+            self.any_call();
+        }
+    }
+
+    /// Where hardly any command can be accepted, a chapter is not worth its full length.
+    fn is_stuck(&self) -> bool {
+        let card = &self.model.card;
+        let alone = card.held() == 1 && card.free() == 0;
+        let bound = card.places[card.enabled()].policy & DISABLING_FORBIDDEN != 0 && card.is_fall_back(card.enabled());
+        !card.is_open() && (alone || bound)
+    }
+
+    fn chapter(&mut self, most: usize) {
+        self.new_aids();
+        let from_fresh = self.random.chance(55);
+        if from_fresh {
+            self.fresh();
+        } else {
+            let card = self.sound_card();
+            self.hand_in(&card);
+        }
+        let length = if from_fresh { self.random.number(40, 160) } else { self.random.number(3, 60) };
+        let end = most.min(self.calls + length as usize);
+        while self.calls < end && !(self.is_stuck() && self.random.chance(20)) {
+            self.call();
+        }
+        for _ in 0..self.random.below(4) {
+            self.unsound();
+        }
+    }
+
+    fn bad_line(&mut self) -> String {
+        let eid = "00".repeat(16);
+        let lines = [
+            "x".repeat(4097),
+            format!("#{}", " ".repeat(4096)),
+            "ticks".to_owned(),
+            "Tick".to_owned(),
+            "tick\r".to_owned(),
+            "tick\t".to_owned(),
+            "tick 0".to_owned(),
+            "lost -".to_owned(),
+            "keyed".to_owned(),
+            "keyed A0 A0".to_owned(),
+            "keyed A".to_owned(),
+            "keyed --".to_owned(),
+            "keyed A0000000G1".to_owned(),
+            "keyed 0xA0".to_owned(),
+            "stored A000000001".to_owned(),
+            "stored A000000001 -1".to_owned(),
+            "stored A000000001 +1".to_owned(),
+            "stored A000000001 1.0".to_owned(),
+            "stored A000000001 4294967296".to_owned(),
+            "stored A000000001 99999999999999999999999".to_owned(),
+            "stored A0000000011 x".to_owned(),
+            "finished A000000001 256".to_owned(),
+            "finished A000000001 0x1".to_owned(),
+            "command 0".to_owned(),
+            "command 256 80".to_owned(),
+            "command 0 8".to_owned(),
+            "command 0 80 1025".to_owned(),
+            "command 0 80 -".to_owned(),
+            "command 0 80 256 1".to_owned(),
+            "command x 8 y".to_owned(),
+            "command 0 8 y".to_owned(),
+            format!("fresh {eid} A000000001 1000 100 0"),
+            format!("fresh {eid} A000000001 1000 100 0 0 0"),
+            format!("fresh {eid} A000000001 1000 100 0 4294967296"),
+            format!("fresh {eid}0 A000000001 1000 100 0 0"),
+            format!("card {eid} 1000 0 0 0 Q - - - - - - -"),
+            format!("card {eid} 1000 0 0 0 Q - - - - - - - - -"),
+            format!("card {eid}00 1000 0 0 0 Q - - - - - - - -"),
+            "card - 1000 0 0 0 Q - - - - - - - -".to_owned(),
+            format!("card {eid} 1000 0 65536 0 Q - - - - - - - -"),
+            format!("card {eid} 1000 0 0 256 Q - - - - - - - -"),
+            format!("card {eid} 1000 0 0 0 q - - - - - - - -"),
+            format!("card {eid} 1000 0 0 0 Q: - - - - - - - -"),
+            format!("card {eid} 1000 0 0 0 T:0:1 - - - - - - - -"),
+            format!("card {eid} 1000 0 0 0 T:256:1:0 - - - - - - - -"),
+            format!("card {eid} 1000 0 0 0 B:1:65536 - - - - - - - -"),
+            format!("card {eid} 1000 0 0 0 B::0 - - - - - - - -"),
+            format!("card {eid} 1000 0 0 0 F:1:0:0 - - - - - - - -"),
+            format!("card {eid} 1000 0 0 0 Q x - - - - - - -"),
+            format!("card {eid} 1000 0 0 0 Q A000000001:3F:1:1 - - - - - - -"),
+            format!("card {eid} 1000 0 0 0 Q A000000001:3F:1:1:0:0 - - - - - - -"),
+            format!("card {eid} 1000 0 0 0 Q A000000001:3:1:1:0 - - - - - - -"),
+            format!("card {eid} 1000 0 0 0 Q A000000001:-:1:1:0 - - - - - - -"),
+            format!("card {eid} 1000 0 0 0 Q A000000001:3F:1:1:256 - - - - - - -"),
+            format!("card {eid} 1000 0 0 0 Q :3F:1:1:0 - - - - - - -"),
+            format!("card {eid} 1000 0 0 0 Q {}:3F:1:1:0 - - - - - - -", "A0".repeat(17)),
+            format!("card {eid} 1000 0 0 0 X x - - - - - - -"),
+        ];
+        lines[self.random.below(lines.len())].clone()
+    }
+}
+
+fn main() -> ExitCode {
+    let arguments: Vec<String> = std::env::args().skip(1).collect();
+    let number = |index: usize| arguments.get(index).and_then(|word| word.parse::<u64>().ok());
+    let (Some(seed), Some(calls)) = (number(0), number(1)) else {
+        eprintln!("usage: generate SEED CALLS [bad]");
+        return ExitCode::from(2);
+    };
+    let mut generator =
+        Generator { random: Random(seed), model: Script::new(), aids: Vec::new(), out: String::new(), calls: 0 };
+    while generator.calls < calls as usize {
+        generator.chapter(calls as usize);
+    }
+    if arguments.get(2).is_some_and(|word| word == "bad") {
+        let line = generator.bad_line();
+        generator.out.push_str(&line);
+        generator.out.push_str("\ntick\n");
+    }
+    print!("{}", generator.out);
+    ExitCode::SUCCESS
+}

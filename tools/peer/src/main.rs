@@ -1,0 +1,118 @@
+//! The independent peer of `teapot`: reads a script and answers each call on a line of its own.
+//! `peer [FILE]` plays a script; `peer read CAPACITY [FILE]` shows how the command reader takes
+//! each line's bytes. Thin: lines in, text out.
+
+mod card;
+mod manager;
+mod read;
+mod script;
+mod status;
+#[cfg(test)]
+mod tests;
+
+use script::{Bad, Script, LINE_MOST};
+use std::fs::File;
+use std::io::{self, ErrorKind, Read, Write};
+use std::process::ExitCode;
+
+const CHUNK: usize = 65_536;
+
+fn main() -> ExitCode {
+    let arguments: Vec<String> = std::env::args().skip(1).collect();
+    let arguments: Vec<&str> = arguments.iter().map(String::as_str).collect();
+    let played = match arguments[..] {
+        ["read", capacity] => readings(capacity, None),
+        ["read", capacity, file] => readings(capacity, Some(file)),
+        [] => play(None),
+        [file] => play(Some(file)),
+        _ => Err(io::Error::new(ErrorKind::InvalidInput, "usage: peer [FILE] | peer read CAPACITY [FILE]")),
+    };
+    match played {
+        Ok(true) => ExitCode::SUCCESS,
+        Ok(false) => ExitCode::from(1),
+        Err(error) => {
+            eprintln!("peer: {error}");
+            ExitCode::from(2)
+        }
+    }
+}
+
+fn input(file: Option<&str>) -> io::Result<Box<dyn Read>> {
+    Ok(match file {
+        None => Box::new(io::stdin().lock()),
+        Some(file) => Box::new(File::open(file)?),
+    })
+}
+
+fn play(file: Option<&str>) -> io::Result<bool> {
+    let mut script = Script::new();
+    each_line(input(file)?, |line, out| script.line(line, out))
+}
+
+fn readings(capacity: &str, file: Option<&str>) -> io::Result<bool> {
+    let capacity: u32 = capacity.parse().map_err(|_| io::Error::new(ErrorKind::InvalidInput, "bad capacity"))?;
+    each_line(input(file)?, |line, out| script::reading(line, capacity, out))
+}
+
+/// Answers are written out before each wait for more input, so that another program can drive
+/// this one through pipes, and a line means the same however the input was cut into reads.
+/// Hands back whether every line could be read.
+fn each_line(mut input: impl Read, mut answer: impl FnMut(&[u8], &mut String) -> Result<(), Bad>) -> io::Result<bool> {
+    let mut pending: Vec<u8> = Vec::new();
+    let mut chunk = vec![0u8; CHUNK];
+    let mut out = String::new();
+    let mut number = 0u64;
+    loop {
+        put_out(&mut out)?;
+        let count = match input.read(&mut chunk) {
+            Err(error) if error.kind() == ErrorKind::Interrupted => continue,
+            other => other?,
+        };
+        let mut arrived = &chunk[..count];
+        let mut bad = None;
+        while let Some(end) = arrived.iter().position(|byte| *byte == b'\n') {
+            number += 1;
+            let line = if pending.is_empty() {
+                answer(&arrived[..end], &mut out)
+            } else {
+                pending.extend_from_slice(&arrived[..end]);
+                let line = answer(&pending, &mut out);
+                pending.clear();
+                line
+            };
+            bad = line.err();
+            if bad.is_some() {
+                break;
+            }
+            arrived = &arrived[end + 1..];
+        }
+        if bad.is_none() {
+            pending.extend_from_slice(arrived);
+            let ended = count == 0;
+            // An endless line is refused at its first byte too many, not held for its end.
+            if pending.len() > LINE_MOST || (ended && !pending.is_empty()) {
+                number += 1;
+                bad = answer(&pending, &mut out).err();
+            }
+            if ended && bad.is_none() {
+                put_out(&mut out)?;
+                return Ok(true);
+            }
+        }
+        if let Some(bad) = bad {
+            out.push_str(&format!("line {number}: {}\n", bad.reason()));
+            put_out(&mut out)?;
+            return Ok(false);
+        }
+    }
+}
+
+fn put_out(out: &mut String) -> io::Result<()> {
+    if !out.is_empty() {
+        let mut stdout = io::stdout().lock();
+        stdout.write_all(out.as_bytes())?;
+        stdout.flush()?;
+        out.clear();
+    }
+    Ok(())
+}

@@ -1,0 +1,283 @@
+//! The manager: each call of document 01, its tests in the table's order, its step, its answer.
+//! A step changes the card or the buffer only after its last test, so a refusal leaves both alone.
+
+use crate::card::*;
+use crate::read::{read, Request};
+use crate::status::*;
+
+pub const BUFFER_LEAST: usize = 256;
+
+#[derive(Clone, Copy, PartialEq, Eq, Debug)]
+pub struct Answer {
+    pub status: u16,
+    /// How many bytes of the lent buffer are the response.
+    pub written: usize,
+    pub notification: Option<Notification>,
+    pub ticks: u32,
+}
+
+#[derive(Default)]
+struct Done {
+    written: usize,
+    notification: Option<Notification>,
+}
+
+impl Done {
+    fn notified(notification: Notification) -> Done {
+        Done { written: 0, notification: Some(notification) }
+    }
+
+    fn wrote(written: usize) -> Done {
+        Done { written, notification: None }
+    }
+}
+
+fn refused(status: u16, ticks: u32) -> Answer {
+    Answer { status, written: 0, notification: None, ticks }
+}
+
+fn on_sound(card: &mut Card, step: impl FnOnce(&mut Card) -> Result<Done, u16>) -> Answer {
+    if !card.is_sound() {
+        return refused(NOT_SOUND, 0);
+    }
+    match step(card) {
+        Ok(Done { written, notification }) => {
+            Answer { status: DONE, written, notification, ticks: card.ticks_to_come() }
+        }
+        Err(status) => refused(status, card.ticks_to_come()),
+    }
+}
+
+/// A refused fresh hands back the record of zeros, and that is the card from then on.
+pub fn fresh(eid: &[u8], aid: &[u8], capacity: u32, quota: u32, used: u32, volatile: u32) -> (Card, Answer) {
+    match Card::fresh(eid, aid, capacity, quota, used, volatile) {
+        Some(card) => (card, Answer { status: DONE, written: 0, notification: None, ticks: 0 }),
+        None => (Card::ZEROS, refused(WRONG_DATA, 0)),
+    }
+}
+
+pub fn hand_in(card: &mut Card) -> Answer {
+    on_sound(card, |_| Ok(Done::default()))
+}
+
+pub fn tick(card: &mut Card) -> Answer {
+    on_sound(card, |card| Ok(Done { written: 0, notification: card.tick() }))
+}
+
+pub fn lost(card: &mut Card) -> Answer {
+    on_sound(card, |card| Ok(Done { written: 0, notification: card.lost() }))
+}
+
+pub fn keyed(card: &mut Card, aid: &[u8]) -> Answer {
+    on_sound(card, |card| {
+        let index = named(card, aid)?;
+        let place = &mut card.places[index];
+        require(place.life_cycle == SELECTABLE, NOT_NOW)?;
+        place.life_cycle = PERSONALIZED;
+        Ok(Done::default())
+    })
+}
+
+pub fn stored(card: &mut Card, aid: &[u8], n: u32) -> Answer {
+    on_sound(card, |card| {
+        let index = named(card, aid)?;
+        let place = &mut card.places[index];
+        require(place.life_cycle == PERSONALIZED, NOT_NOW)?;
+        // The sum used + n may pass 32 bits; the room left never does.
+        require(n <= place.quota - place.used, NO_ROOM)?;
+        place.used += n;
+        Ok(Done::default())
+    })
+}
+
+pub fn finished(card: &mut Card, aid: &[u8], policy: u8) -> Answer {
+    on_sound(card, |card| {
+        require(policy_is_right(policy), WRONG_DATA)?;
+        let index = named(card, aid)?;
+        let place = &mut card.places[index];
+        require(place.life_cycle == PERSONALIZED && place.used > 0, NOT_NOW)?;
+        place.life_cycle = DISABLED;
+        place.policy = policy;
+        Ok(Done::default())
+    })
+}
+
+pub fn command(card: &mut Card, verdict: u8, bytes: &[u8], buffer: &mut [u8]) -> Answer {
+    on_sound(card, |card| {
+        require(buffer.len() >= BUFFER_LEAST, BUFFER_SHORT)?;
+        match read(bytes, card.capacity)? {
+            Request::Create { aid, quota } => create(card, aid, quota, buffer),
+            Request::Enable(aid) => enable(card, aid),
+            Request::Disable(aid) => disable(card, aid),
+            Request::SetFallBack(aid) => set_fall_back(card, aid),
+            Request::Delete(aid) => delete(card, aid, buffer),
+            Request::MasterDelete(aid) => master_delete(card, aid, verdict, buffer),
+            Request::Confirm(number) => confirm(card, number, buffer),
+            Request::GetStatus { which, life_cycle, attributes } => {
+                get_status(card, which, life_cycle, attributes, buffer)
+            }
+            Request::GetData => Ok(get_data(card, buffer)),
+        }
+    })
+}
+
+fn require(condition: bool, otherwise: u16) -> Result<(), u16> {
+    if condition {
+        Ok(())
+    } else {
+        Err(otherwise)
+    }
+}
+
+fn held(card: &Card, aid: &[u8]) -> Result<usize, u16> {
+    card.find(aid).ok_or(NOT_HELD)
+}
+
+/// For the inner calls, whose AID no command reader has measured.
+fn named(card: &Card, aid: &[u8]) -> Result<usize, u16> {
+    require(aid_length_is_right(aid.len()), WRONG_DATA)?;
+    held(card, aid)
+}
+
+fn no_change_open(card: &Card) -> Result<(), u16> {
+    require(!card.is_open(), NOT_NOW)
+}
+
+fn create(card: &mut Card, aid: &[u8], quota: u32, buffer: &mut [u8]) -> Result<Done, u16> {
+    no_change_open(card)?;
+    require(card.find(aid).is_none(), WRONG_DATA)?;
+    let index = card.lowest_free_place().ok_or(NO_ROOM)?;
+    require(quota <= card.free(), NO_ROOM)?;
+    card.places[index] = Place { aid: Aid::of(aid), life_cycle: SELECTABLE, quota, used: 0, policy: 0 };
+    Ok(write_zero(buffer))
+}
+
+/// Only the enabled profile's policy is asked: it is the one that would be disabled.
+fn enable(card: &mut Card, aid: &[u8]) -> Result<Done, u16> {
+    no_change_open(card)?;
+    let index = held(card, aid)?;
+    require(card.places[index].life_cycle == DISABLED, NOT_NOW)?;
+    let enabled = card.places[card.enabled()];
+    require(enabled.policy & DISABLING_FORBIDDEN == 0, POLICY_FORBIDS)?;
+    Ok(Done::notified(card.try_out(index)))
+}
+
+fn disable(card: &mut Card, aid: &[u8]) -> Result<Done, u16> {
+    no_change_open(card)?;
+    let index = held(card, aid)?;
+    let place = card.places[index];
+    require(place.life_cycle == ENABLED && !card.is_fall_back(index), NOT_NOW)?;
+    require(place.policy & DISABLING_FORBIDDEN == 0, POLICY_FORBIDS)?;
+    Ok(Done::notified(card.try_out(card.fall_back as usize)))
+}
+
+fn set_fall_back(card: &mut Card, aid: &[u8]) -> Result<Done, u16> {
+    no_change_open(card)?;
+    let index = held(card, aid)?;
+    require(matches!(card.places[index].life_cycle, DISABLED | ENABLED), NOT_NOW)?;
+    card.fall_back = index as u8;
+    Ok(Done::default())
+}
+
+fn deletable(card: &Card, aid: &[u8]) -> Result<usize, u16> {
+    no_change_open(card)?;
+    let index = held(card, aid)?;
+    require(card.places[index].life_cycle == DISABLED && !card.is_fall_back(index), NOT_NOW)?;
+    Ok(index)
+}
+
+fn delete(card: &mut Card, aid: &[u8], buffer: &mut [u8]) -> Result<Done, u16> {
+    let index = deletable(card, aid)?;
+    require(card.places[index].policy & DELETION_FORBIDDEN == 0, POLICY_FORBIDS)?;
+    card.places[index] = Place::ZERO;
+    Ok(write_zero(buffer))
+}
+
+fn master_delete(card: &mut Card, aid: &[u8], verdict: u8, buffer: &mut [u8]) -> Result<Done, u16> {
+    let index = deletable(card, aid)?;
+    require(verdict == 1, TOKEN_REFUSED)?;
+    card.places[index] = Place::ZERO;
+    Ok(write_zero(buffer))
+}
+
+fn confirm(card: &mut Card, number: u16, buffer: &mut [u8]) -> Result<Done, u16> {
+    let outstanding = card.outstanding().ok_or(NOT_NOW)?;
+    require(number == outstanding, NOT_HELD)?;
+    let Some(deleted) = card.close() else { return Ok(Done::default()) };
+    let mut response = Response::into(buffer);
+    response.list(&[0x80], |response| response.element(&[0x4F], deleted.bytes()));
+    Ok(Done::wrote(response.length))
+}
+
+fn get_status(
+    card: &Card,
+    which: Option<&[u8]>,
+    life_cycle: bool,
+    attributes: bool,
+    buffer: &mut [u8],
+) -> Result<Done, u16> {
+    let only = which.map(|aid| held(card, aid)).transpose()?;
+    let mut response = Response::into(buffer);
+    for (index, place) in card.places.iter().enumerate() {
+        if !place.is_held() || only.is_some_and(|only| only != index) {
+            continue;
+        }
+        response.list(&[0xE3], |response| {
+            response.element(&[0x4F], place.aid.bytes());
+            if life_cycle {
+                response.element(&[0x9F, 0x70], &[place.life_cycle]);
+            }
+            if attributes {
+                response.element(&[0x53], &[u8::from(card.is_fall_back(index))]);
+            }
+        });
+    }
+    Ok(Done::wrote(response.length))
+}
+
+fn get_data(card: &Card, buffer: &mut [u8]) -> Done {
+    let mut response = Response::into(buffer);
+    response.list(&[0xFF, 0x21], |response| {
+        response.element(&[0x81], &[card.held() as u8]);
+        response.element(&[0x82], &card.free().to_be_bytes());
+        response.element(&[0x83], &card.volatile.to_be_bytes());
+    });
+    Done::wrote(response.length)
+}
+
+/// "no additional data is present" (000, 4.1.1.1 and 4.1.1.4).
+fn write_zero(buffer: &mut [u8]) -> Done {
+    buffer[0] = 0x00;
+    Done::wrote(1)
+}
+
+/// Writes from the buffer's first byte on. No response reaches a length that needs the 81 form.
+struct Response<'a> {
+    buffer: &'a mut [u8],
+    length: usize,
+}
+
+impl<'a> Response<'a> {
+    fn into(buffer: &'a mut [u8]) -> Response<'a> {
+        Response { buffer, length: 0 }
+    }
+
+    fn put(&mut self, bytes: &[u8]) {
+        self.buffer[self.length..self.length + bytes.len()].copy_from_slice(bytes);
+        self.length += bytes.len();
+    }
+
+    fn element(&mut self, tag: &[u8], value: &[u8]) {
+        self.put(tag);
+        self.put(&[value.len() as u8]);
+        self.put(value);
+    }
+
+    fn list(&mut self, tag: &[u8], elements: impl FnOnce(&mut Self)) {
+        self.put(tag);
+        self.put(&[0]);
+        let start = self.length;
+        elements(self);
+        self.buffer[start - 1] = (self.length - start) as u8;
+    }
+}

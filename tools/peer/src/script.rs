@@ -1,0 +1,313 @@
+//! The script language of `teapot`: what a line means, and what an answer line says.
+//! Works on bytes, not text: whatever is not a space belongs to a word.
+
+use crate::card::*;
+use crate::manager::{self, Answer};
+use crate::read::{read, Request};
+use std::fmt::Write;
+
+pub const LINE_MOST: usize = 4096;
+const BUFFER_MOST: u32 = 1024;
+
+#[derive(Clone, Copy, PartialEq, Eq, Debug)]
+pub enum Bad {
+    TooLong,
+    UnknownWord,
+    WordsMissing,
+    TooManyWords,
+    Hex,
+    Number,
+    Place,
+    Phase,
+}
+
+impl Bad {
+    pub fn reason(self) -> &'static str {
+        match self {
+            Bad::TooLong => "too long",
+            Bad::UnknownWord => "unknown word",
+            Bad::WordsMissing => "words missing",
+            Bad::TooManyWords => "too many words",
+            Bad::Hex => "bad hex",
+            Bad::Number => "bad number",
+            Bad::Place => "bad place",
+            Bad::Phase => "bad phase",
+        }
+    }
+}
+
+/// The words of a line; none where it is empty or a comment.
+fn words(line: &[u8]) -> Result<Option<Vec<&[u8]>>, Bad> {
+    if line.len() > LINE_MOST {
+        return Err(Bad::TooLong);
+    }
+    let words: Vec<&[u8]> = line.split(|byte| *byte == b' ').filter(|word| !word.is_empty()).collect();
+    let passed_over = words.first().is_none_or(|word| word.starts_with(b"#"));
+    Ok((!passed_over).then_some(words))
+}
+
+fn hex(word: &[u8]) -> Option<Vec<u8>> {
+    if word == b"-" {
+        return Some(Vec::new());
+    }
+    let digit = |byte: u8| (byte as char).to_digit(16).map(|digit| digit as u8);
+    if word.is_empty() || !word.len().is_multiple_of(2) {
+        return None;
+    }
+    word.chunks(2).map(|pair| Some(digit(pair[0])? << 4 | digit(pair[1])?)).collect()
+}
+
+fn number(word: &[u8], most: u32) -> Option<u32> {
+    if word.is_empty() {
+        return None;
+    }
+    let mut number = 0u32;
+    for byte in word {
+        let digit = byte.is_ascii_digit().then(|| u32::from(byte - b'0'))?;
+        number = number.checked_mul(10)?.checked_add(digit)?;
+    }
+    (number <= most).then_some(number)
+}
+
+fn byte(word: &[u8]) -> Option<u8> {
+    number(word, u8::MAX.into()).map(|number| number as u8)
+}
+
+fn two_bytes(word: &[u8]) -> Option<u16> {
+    number(word, u16::MAX.into()).map(|number| number as u16)
+}
+
+fn parts(word: &[u8]) -> Vec<&[u8]> {
+    word.split(|byte| *byte == b':').collect()
+}
+
+fn phase(word: &[u8]) -> Option<Phase> {
+    match parts(word)[..] {
+        [b"Q"] => Some(Phase::Quiet),
+        [b"T", previous, left, number] => {
+            Some(Phase::Trial { previous: byte(previous)?, left: byte(left)?, number: two_bytes(number)? })
+        }
+        [b"B", left, number] => Some(Phase::Back { left: byte(left)?, number: two_bytes(number)? }),
+        [b"F", left, number] => Some(Phase::Fallen { left: byte(left)?, number: two_bytes(number)? }),
+        _ => None,
+    }
+}
+
+fn place(word: &[u8]) -> Option<Place> {
+    if word == b"-" {
+        return Some(Place::ZERO);
+    }
+    let [aid, state, quota, used, policy] = parts(word)[..] else { return None };
+    let aid = hex(aid).filter(|aid| aid.len() <= AID_MOST)?;
+    let [life_cycle] = hex(state)?[..] else { return None };
+    Some(Place {
+        aid: Aid::of(&aid),
+        life_cycle,
+        quota: number(quota, u32::MAX)?,
+        used: number(used, u32::MAX)?,
+        policy: byte(policy)?,
+    })
+}
+
+enum Call {
+    Fresh { eid: Vec<u8>, aid: Vec<u8>, capacity: u32, quota: u32, used: u32, volatile: u32 },
+    Command { verdict: u8, bytes: Vec<u8>, length: usize },
+    Keyed(Vec<u8>),
+    Stored(Vec<u8>, u32),
+    Finished(Vec<u8>, u8),
+    Tick,
+    Lost,
+    HandIn(Card),
+}
+
+fn call(words: &[&[u8]]) -> Result<Call, Bad> {
+    let (least, most) = match words[0] {
+        b"fresh" => (6, 6),
+        b"command" => (2, 3),
+        b"keyed" => (1, 1),
+        b"stored" | b"finished" => (2, 2),
+        b"tick" | b"lost" => (0, 0),
+        b"card" => (6 + PLACES, 6 + PLACES),
+        _ => return Err(Bad::UnknownWord),
+    };
+    let rest = &words[1..];
+    if rest.len() < least {
+        return Err(Bad::WordsMissing);
+    }
+    if rest.len() > most {
+        return Err(Bad::TooManyWords);
+    }
+    let bytes_at = |index: usize| hex(rest[index]).ok_or(Bad::Hex);
+    let number_at = |index: usize, most: u32| number(rest[index], most).ok_or(Bad::Number);
+    // Fields are read in the order of the words: the first bad one gives the reason.
+    Ok(match words[0] {
+        b"fresh" => Call::Fresh {
+            eid: bytes_at(0)?,
+            aid: bytes_at(1)?,
+            capacity: number_at(2, u32::MAX)?,
+            quota: number_at(3, u32::MAX)?,
+            used: number_at(4, u32::MAX)?,
+            volatile: number_at(5, u32::MAX)?,
+        },
+        b"command" => Call::Command {
+            verdict: number_at(0, u8::MAX.into())? as u8,
+            bytes: bytes_at(1)?,
+            length: if rest.len() > 2 { number_at(2, BUFFER_MOST)? as usize } else { manager::BUFFER_LEAST },
+        },
+        b"keyed" => Call::Keyed(bytes_at(0)?),
+        b"stored" => Call::Stored(bytes_at(0)?, number_at(1, u32::MAX)?),
+        b"finished" => Call::Finished(bytes_at(0)?, number_at(1, u8::MAX.into())? as u8),
+        b"tick" => Call::Tick,
+        b"lost" => Call::Lost,
+        _ => {
+            let mut card = Card {
+                eid: bytes_at(0)?.try_into().map_err(|_| Bad::Hex)?,
+                capacity: number_at(1, u32::MAX)?,
+                volatile: number_at(2, u32::MAX)?,
+                last: number_at(3, u16::MAX.into())? as u16,
+                fall_back: number_at(4, u8::MAX.into())? as u8,
+                phase: phase(rest[5]).ok_or(Bad::Phase)?,
+                places: [Place::ZERO; PLACES],
+            };
+            for (index, word) in rest[6..].iter().enumerate() {
+                card.places[index] = place(word).ok_or(Bad::Place)?;
+            }
+            Call::HandIn(card)
+        }
+    })
+}
+
+fn put_hex(out: &mut String, bytes: &[u8]) {
+    if bytes.is_empty() {
+        out.push('-');
+    }
+    for byte in bytes {
+        for nibble in [byte >> 4, byte & 0x0F] {
+            out.push(char::from(b"0123456789ABCDEF"[usize::from(nibble)]));
+        }
+    }
+}
+
+fn put_answer(out: &mut String, answer: &Answer, response: &[u8]) {
+    let _ = write!(out, "{:04X} ", answer.status);
+    put_hex(out, response);
+    match &answer.notification {
+        None => out.push_str(" -"),
+        Some(notification) => {
+            let _ = write!(out, " {:02X}:{:04X}:", notification.kind, notification.number);
+            put_hex(out, notification.aid.bytes());
+        }
+    }
+    let _ = writeln!(out, " {}", answer.ticks);
+}
+
+/// The card that a script's calls act on. Before any fresh or card it is the record of zeros.
+pub struct Script {
+    pub card: Card,
+}
+
+impl Script {
+    pub fn new() -> Script {
+        Script { card: Card::ZEROS }
+    }
+
+    /// Answers one line (given without its line end) by adding to `out`.
+    pub fn line(&mut self, line: &[u8], out: &mut String) -> Result<(), Bad> {
+        let Some(words) = words(line)? else { return Ok(()) };
+        let card = &mut self.card;
+        let answer = match call(&words)? {
+            Call::Fresh { eid, aid, capacity, quota, used, volatile } => {
+                let (new, answer) = manager::fresh(&eid, &aid, capacity, quota, used, volatile);
+                *card = new;
+                answer
+            }
+            Call::Command { verdict, bytes, length } => {
+                let mut buffer = [0u8; BUFFER_MOST as usize];
+                let lent = &mut buffer[..length];
+                lend(lent);
+                let answer = manager::command(card, verdict, &bytes, lent);
+                assert!(is_as_lent(lent, answer.written), "a byte past the response was written");
+                put_answer(out, &answer, &lent[..answer.written]);
+                return Ok(());
+            }
+            Call::Keyed(aid) => manager::keyed(card, &aid),
+            Call::Stored(aid, n) => manager::stored(card, &aid, n),
+            Call::Finished(aid, policy) => manager::finished(card, &aid, policy),
+            Call::Tick => manager::tick(card),
+            Call::Lost => manager::lost(card),
+            Call::HandIn(new) => {
+                *card = new;
+                manager::hand_in(card)
+            }
+        };
+        put_answer(out, &answer, &[]);
+        Ok(())
+    }
+}
+
+/// A pattern that no response repeats at its own place, so that a stray write shows.
+fn lent_byte(index: usize) -> u8 {
+    (index as u8).wrapping_mul(7) ^ 0xA5
+}
+
+fn lend(buffer: &mut [u8]) {
+    for (index, byte) in buffer.iter_mut().enumerate() {
+        *byte = lent_byte(index);
+    }
+}
+
+fn is_as_lent(buffer: &[u8], from: usize) -> bool {
+    buffer.iter().enumerate().skip(from).all(|(index, byte)| *byte == lent_byte(index))
+}
+
+/// One line of the second mode: a hex word, answered by how the command reader alone takes it.
+pub fn reading(line: &[u8], capacity: u32, out: &mut String) -> Result<(), Bad> {
+    let Some(words) = words(line)? else { return Ok(()) };
+    if words.len() > 1 {
+        return Err(Bad::TooManyWords);
+    }
+    let bytes = hex(words[0]).ok_or(Bad::Hex)?;
+    let (word, aid, more) = match read(&bytes, capacity) {
+        Err(status) => {
+            let _ = writeln!(out, "{status:04X}");
+            return Ok(());
+        }
+        Ok(Request::Create { aid, quota }) => ("create ", aid, format!(" {quota}")),
+        Ok(Request::Enable(aid)) => ("enable ", aid, String::new()),
+        Ok(Request::Disable(aid)) => ("disable ", aid, String::new()),
+        Ok(Request::SetFallBack(aid)) => ("set-fall-back ", aid, String::new()),
+        Ok(Request::Delete(aid)) => ("delete ", aid, String::new()),
+        Ok(Request::MasterDelete(aid)) => ("master-delete ", aid, String::new()),
+        Ok(Request::Confirm(number)) => {
+            let _ = writeln!(out, "confirm {number}");
+            return Ok(());
+        }
+        Ok(Request::GetStatus { which, life_cycle, attributes }) => {
+            let more = if life_cycle { ",9F70" } else { "" }.to_owned() + if attributes { ",53" } else { "" };
+            match which {
+                None => {
+                    let _ = writeln!(out, "get-status all 4F{more}");
+                    return Ok(());
+                }
+                Some(aid) => ("get-status ", aid, format!(" 4F{more}")),
+            }
+        }
+        Ok(Request::GetData) => {
+            out.push_str("get-data\n");
+            return Ok(());
+        }
+    };
+    out.push_str(word);
+    put_hex(out, aid);
+    out.push_str(&more);
+    out.push('\n');
+    Ok(())
+}
+
+/// For the generator, which writes what this module reads.
+#[allow(dead_code)]
+pub fn hex_word(bytes: &[u8]) -> String {
+    let mut out = String::new();
+    put_hex(&mut out, bytes);
+    out
+}

@@ -1,0 +1,987 @@
+#!/usr/bin/env python3
+"""Writes marked.script and scenarios.script with their stdouts.
+The answer beside each call is written here from document 01 and RULINGS; the peer's
+answers are stored only if they all agree with it."""
+import pathlib, subprocess, sys
+
+sys.dont_write_bytecode = True
+from commands import *
+
+HERE = pathlib.Path(__file__).resolve().parent
+PEER = HERE / "peer/target/release/peer"
+subprocess.run(["cargo", "build", "--release", "--offline", "--quiet"], cwd=HERE / "peer", check=True)
+EID = "89001012012341234012345678901224"
+VOLATILE = 0x01020304
+
+lines, wanted, names = [], [], 0
+
+
+def name(text):
+    global names
+    names += 1
+    lines.append("# " + text)
+
+
+def call(line, answer):
+    lines.append(line)
+    wanted.append(answer)
+
+
+def aid(n):
+    return f"A0000000{n:02X}"
+
+
+def done(ticks=0, response="-", notification="-"):
+    return f"9000 {response} {notification} {ticks}"
+
+
+def no(word, ticks=0):
+    return f"{word} - - {ticks}"
+
+
+def fresh(a=F, capacity=1000, quota=100, used=0, eid=EID, volatile=VOLATILE, answer=None):
+    call(f"fresh {eid or '-'} {a or '-'} {capacity} {quota} {used} {volatile}", answer or done())
+
+
+def command(data, answer, verdict=0, buffer=None):
+    call(f"command {verdict} {data or '-'}" + ("" if buffer is None else f" {buffer}"), answer)
+
+
+def makes(n, answer=None, quota=50, a=None):
+    command(create(aid=a or aid(n), params=C9 + ef(quota), le="00"), answer or done(response="00"))
+
+
+def enables(n, answer):
+    command(store("3A03", four_f(aid(n))), answer)
+
+
+def disables(n, answer):
+    command(store("3A04", four_f(aid(n))), answer)
+
+
+def sets(n, answer=None):
+    command(store("3A05", four_f(aid(n))), answer or done())
+
+
+def deletes(n, answer=None):
+    command(delete(four_f(aid(n)), le="00"), answer or done(response="00"))
+
+
+def master(n, answer=None, verdict=1):
+    command(delete(four_f(aid(n)) + b6() + TOKEN, le="00"), answer or done(response="00"), verdict)
+
+
+def confirms(number, answer=None):
+    command(store("3A08", f"4E02{number:04X}", p1="89", le="00"), answer or done())
+
+
+def keyed(n, answer=None):
+    call(f"keyed {aid(n)}", answer or done())
+
+
+def stored(n, count, answer=None):
+    call(f"stored {aid(n)} {count}", answer or done())
+
+
+def finished(n, policy=0, answer=None):
+    call(f"finished {aid(n)} {policy}", answer or done())
+
+
+def profile(n, policy=0, quota=50, used=5):
+    makes(n, quota=quota)
+    keyed(n)
+    stored(n, used)
+    finished(n, policy)
+
+
+def ticks(figures):
+    """One tick for each figure; a figure with a notification is a pair."""
+    for figure in figures:
+        if isinstance(figure, tuple):
+            call("tick", done(figure[0], notification=figure[1]))
+        else:
+            call("tick", done(figure))
+
+
+def count(high, low):
+    return range(high, low - 1, -1)
+
+
+def note(kind, number, n):
+    return f"{kind:02X}:{number:04X}:{aid(n)}"
+
+
+def row(a, state, mark):
+    return tlv("E3", tlv("4F", a) + "9F7001" + state + "5301" + mark)
+
+
+S, P, D, E = "07", "0F", "1F", "3F"
+
+
+def table(*rows, ticks=0):
+    """GET STATUS of all: (AID number or text, state) rows; a third member marks the fall-back."""
+    text = "".join(row(a if isinstance(a, str) else aid(a), state, "01" if mark else "00")
+                   for a, state, *mark in rows)
+    command(status("4F00", le="00"), done(ticks, response=text))
+
+
+def figures(n, free, ticks=0, volatile=VOLATILE):
+    command("80CAFF2100", done(ticks, response=f"FF210F8101{n:02X}8204{free:08X}8304{volatile:08X}"))
+
+
+def card(answer, capacity=1000, volatile=7, last=0, fall_back=0, phase="Q", places=(), eid=EID):
+    places = list(places) + ["-"] * (8 - len(places))
+    call(f"card {eid} {capacity} {volatile} {last} {fall_back} {phase} " + " ".join(places), answer)
+
+
+def place(n, state, quota=50, used=5, policy=0):
+    return f"{n if isinstance(n, str) else aid(n)}:{state}:{quota}:{used}:{policy}"
+
+
+def store_away(stem):
+    global lines, wanted, names
+    script = HERE / f"{stem}.script"
+    script.write_text("\n".join(lines) + "\n")
+    got = subprocess.run([PEER, script], capture_output=True, text=True).stdout
+    answers = got.splitlines()
+    calls = [l for l in lines if l.strip() and not l.lstrip().startswith("#")]
+    assert len(calls) == len(wanted)
+    wrong = [x for x in zip(calls, wanted, answers) if x[1] != x[2]]
+    for line, want, answer in wrong:
+        print(f"{stem}: {line}\n  wanted {want}\n  got    {answer}")
+    if wrong or len(answers) != len(wanted):
+        print(f"{stem}: {len(wrong)} differ, {len(answers)} answers to {len(wanted)}; stdout not written")
+        sys.exit(1)
+    (HERE / f"{stem}.stdout").write_text(got)
+    print(f"{stem}: {names} named, {len(wanted)} calls, all as written by hand")
+    lines, wanted, names = [], [], 0
+
+
+# ---------------------------------------------------------------- the twelve marked examples
+
+name("Example 1: GET STATUS on a fresh card")
+fresh()
+command("80F24002024F0000", "9000 E30E4F05A0000000019F70013F530101 - 0")
+
+name("Example 2: set fall-back on 02, DISABLED; then with 02 not held")
+fresh()
+profile(2)
+command("80E288000A3A05074F05A000000002", "9000 - - 0")
+table((1, E), (2, D, True))
+fresh()
+command("80E288000A3A05074F05A000000002", "6A88 - - 0")
+
+name("Example 3: P1 87; Lc 09")
+fresh()
+profile(2)
+command("80E287000A3A05074F05A000000002", "6A86 - - 0")
+command("80E28800093A05074F05A000000002", "6700 - - 0")
+
+name("Example 4: inner lengths 06 and 04, one AID byte dropped, Lc 09")
+command("80E28800093A05064F04A0000000", "6A80 - - 0")
+table((1, E, True), (2, D))
+
+name("Example 5: quota equal to free, and free + 1")
+fresh()
+makes(2, no("6A84"), quota=901)
+makes(2, quota=900)
+figures(2, 0)
+fresh()
+makes(2, quota=899)
+makes(3, no("6A84"), quota=2)
+makes(3, quota=1)
+figures(3, 0)
+
+name("Example 6: the eighth taken, the ninth refused, taken after a delete")
+fresh()
+profile(2)
+for n in range(3, 9):
+    makes(n)
+makes(9, no("6A84"))
+deletes(2)
+makes(9)
+table((1, E, True), (9, S), (3, S), (4, S), (5, S), (6, S), (7, S), (8, S))
+
+name("Example 7: enable 02, nine ticks, confirm 1: 02 stays")
+fresh()
+profile(2)
+enables(2, "9000 - 02:0001:A000000002 20")
+ticks(count(19, 11))
+confirms(1)
+table((1, D, True), (2, E))
+
+name("Example 8: ten ticks, confirm 1 is 6A 88, F enabled, outstanding 2")
+fresh()
+profile(2)
+enables(2, done(20, notification=note(2, 1, 2)))
+ticks([*count(19, 11), (10, note(3, 2, 1))])
+confirms(1, "6A88 - - 10")
+table((1, E, True), (2, D), ticks=10)
+confirms(2)
+table((1, E, True), (2, D))
+
+name("Example 9: twenty ticks without confirmation: Quiet, F enabled")
+fresh()
+profile(2)
+enables(2, done(20, notification=note(2, 1, 2)))
+ticks([*count(19, 11), (10, note(3, 2, 1)), *count(9, 0)])
+table((1, E, True), (2, D))
+call("tick", done())
+confirms(2, no("6985"))
+
+name("Example 10: disable 02 onto F, thirty ticks: F enabled, numbers used 3")
+fresh()
+profile(2)
+enables(2, done(20, notification=note(2, 1, 2)))
+confirms(1)
+disables(2, done(30, notification=note(2, 2, 1)))
+ticks([*count(29, 21), (20, note(3, 3, 2)), *count(19, 11), (10, note(5, 4, 1)), *count(9, 0)])
+table((1, E, True), (2, D))
+enables(2, done(20, notification=note(2, 5, 2)))
+
+name("Example 11: enable 02 after number 65535: it bears 0")
+card(done(), last=65535, places=[place(1, E), place(2, D)])
+enables(2, "9000 - 02:0000:A000000002 20")
+
+name("Example 12: lost while F is enabled: nothing")
+fresh()
+profile(2)
+call("lost", "9000 - - 0")
+table((1, E, True), (2, D))
+store_away("marked")
+
+# ---------------------------------------------------------------- further scenarios
+
+name("before any fresh or card: every call acts on the record of zeros")
+call("tick", no("6F00"))
+call("lost", no("6F00"))
+keyed(1, no("6F00"))
+call("keyed -", no("6F00"))
+stored(1, 0, no("6F00"))
+finished(1, 255, no("6F00"))
+command("80CAFF2100", no("6F00"))
+command("", no("6F00"), buffer=0)
+
+name("a refused card line is the card from then on")
+card(no("6F00"), places=[])
+call("tick", no("6F00"))
+command("80F24002024F00", no("6F00"))
+fresh()
+call("tick", done())
+
+name("create: success, the lowest free place, SELECTABLE, used 0")
+fresh()
+makes(2)
+table((1, E, True), (2, S))
+figures(2, 850)
+
+name("create refused: P1, length shape, data field")
+command(create().replace("80E60C00", "80E60800"), no("6A86"))
+command(create() + "01", no("6700"))
+command(create(params=C9), no("6A80"))
+command(create(params=C9 + ef(0)), no("6A80"))
+command(create(params=C9 + ef(1001)), no("6A80"))
+
+name("create refused: the AID already held, in any state")
+makes(2, no("6A80"))
+makes(1, no("6A80"))
+
+name("create refused: no room in bytes; then no place")
+makes(3, no("6A84"), quota=851)
+for n in range(3, 9):
+    makes(n, quota=1)
+figures(8, 844)
+makes(9, no("6A84"), quota=1)
+
+name("create refused while a change is open")
+fresh()
+profile(2)
+enables(2, done(20, notification=note(2, 1, 2)))
+makes(3, no("6985", 20))
+
+name("keyed: success and each refusal")
+fresh()
+makes(2)
+call("keyed A0000000", no("6A80"))
+call("keyed -", no("6A80"))
+call("keyed " + "A0" * 17, no("6A80"))
+call("keyed " + "A0" * 600, no("6A80"))
+keyed(3, no("6A88"))
+keyed(1, no("6985"))
+keyed(2)
+table((1, E, True), (2, P))
+keyed(2, no("6985"))
+
+name("stored: success, each refusal, the quota reached exactly")
+fresh()
+makes(2)
+stored(2, 1, no("6985"))
+keyed(2)
+call("stored A0000000 1", no("6A80"))
+stored(3, 1, no("6A88"))
+stored(1, 1, no("6985"))
+stored(2, 51, no("6A84"))
+stored(2, 20)
+stored(2, 31, no("6A84"))
+stored(2, 30)
+stored(2, 1, no("6A84"))
+stored(2, 0)
+finished(2)
+stored(2, 0, no("6985"))
+
+name("finished: success and each refusal")
+fresh()
+makes(2)
+finished(2, 0, no("6985"))
+keyed(2)
+finished(2, 0, no("6985"))
+stored(2, 1)
+call("finished A0000000 0", no("6A80"))
+finished(3, 0, no("6A88"))
+finished(1, 0, no("6985"))
+finished(2, 8, no("6A80"))
+finished(2, 3)
+table((1, E, True), (2, D))
+finished(2, 3, no("6985"))
+
+name("policy bytes at finished: 00 to 04 are right, 05 and all others wrong (rulings 1, 2)")
+fresh()
+makes(2)
+keyed(2)
+stored(2, 1)
+for policy in (5, 6, 7, 8, 9, 16, 32, 64, 128, 132, 255):
+    finished(2, policy, no("6A80"))
+finished(2, 4)
+for n, policy in ((3, 0), (4, 1), (5, 2), (6, 3)):
+    profile(n, policy)
+
+name("enable: success")
+fresh()
+profile(2)
+enables(2, done(20, notification=note(2, 1, 2)))
+table((1, D, True), (2, E), ticks=20)
+
+name("enable refused: not held, then each wrong state")
+fresh()
+makes(2)
+enables(3, no("6A88"))
+enables(2, no("6985"))
+keyed(2)
+enables(2, no("6985"))
+enables(1, no("6985"))
+
+name("enable refused: the enabled profile forbids disabling")
+fresh()
+profile(2, 1)
+profile(3)
+enables(2, done(20, notification=note(2, 1, 2)))
+confirms(1)
+enables(3, no("69E1"))
+enables(1, no("69E1"))
+table((1, D, True), (2, E), (3, D))
+
+name("enable refused while a change is open; the wait is not restarted (a wrong engine of 01)")
+fresh()
+profile(2)
+profile(3)
+enables(2, done(20, notification=note(2, 1, 2)))
+ticks(count(19, 12))
+enables(3, no("6985", 12))
+enables(2, no("6985", 12))
+ticks([11, (10, note(3, 2, 1))])
+enables(2, no("6985", 10))
+
+name("roll-back asks no policy: the new profile forbids its own disabling (a wrong engine of 01)")
+fresh()
+profile(2, 3)
+enables(2, done(20, notification=note(2, 1, 2)))
+ticks([*count(19, 11), (10, note(3, 2, 1))])
+table((1, E, True), (2, D), ticks=10)
+
+name("the previous profile outlives the enable (a wrong engine of 01)")
+fresh()
+profile(2, 4)
+profile(3)
+enables(2, done(20, notification=note(2, 1, 2)))
+confirms(1)
+enables(3, done(30, notification=note(2, 2, 3)))
+table((1, D, True), (2, D), (3, E), ticks=30)
+ticks([*count(29, 21), (20, note(3, 3, 2))])
+table((1, D, True), (2, E), (3, D), ticks=20)
+
+name("a late confirmation of 1 is not that of 2 (a wrong engine of 01)")
+fresh()
+profile(2)
+enables(2, done(20, notification=note(2, 1, 2)))
+ticks([*count(19, 11), (10, note(3, 2, 1))])
+confirms(1, no("6A88", 10))
+confirms(3, no("6A88", 10))
+confirms(2)
+
+name("disable: success, onto the fall-back")
+fresh()
+profile(2)
+enables(2, done(20, notification=note(2, 1, 2)))
+confirms(1)
+disables(2, done(30, notification=note(2, 2, 1)))
+table((1, E, True), (2, D), ticks=30)
+confirms(2)
+table((1, E, True), (2, D))
+
+name("disable refused: not held, each wrong state, the fall-back")
+fresh()
+makes(2)
+disables(3, no("6A88"))
+disables(2, no("6985"))
+keyed(2)
+disables(2, no("6985"))
+stored(2, 1)
+finished(2)
+disables(2, no("6985"))
+disables(1, no("6985"))
+
+name("disable refused: it forbids disabling; and while a change is open")
+fresh()
+profile(2, 1)
+enables(2, done(20, notification=note(2, 1, 2)))
+disables(2, no("6985", 20))
+confirms(1)
+disables(2, no("69E1"))
+
+name("delete: success")
+fresh()
+profile(2)
+deletes(2)
+table((1, E, True))
+figures(1, 900)
+deletes(2, no("6A88"))
+
+name("delete refused: each wrong state, the fall-back, the policy, a change open")
+fresh()
+makes(2)
+deletes(3, no("6A88"))
+deletes(2, no("6985"))
+keyed(2)
+deletes(2, no("6985"))
+deletes(1, no("6985"))
+stored(2, 1)
+finished(2, 2)
+deletes(2, no("69E1"))
+profile(3)
+sets(3)
+deletes(3, no("6985"))
+profile(4)
+enables(3, done(30, notification=note(2, 1, 3)))
+deletes(4, no("6985", 30))
+
+name("master delete: success against a policy that forbids deletion")
+fresh()
+profile(2, 2)
+deletes(2, no("69E1"))
+master(2)
+table((1, E, True))
+
+name("master delete refused: not held, wrong state, fall-back, verdict, data field, change open")
+fresh()
+profile(2)
+makes(3)
+master(4, no("6A88"))
+master(3, no("6985"))
+master(1, no("6985"))
+for verdict in (0, 2, 128, 255):
+    master(2, no("6982"), verdict)
+command(delete(four_f() + b6()), no("6A80"), 1)
+sets(2)
+master(2, no("6985"))
+master(1, no("6985"))
+profile(4)
+enables(2, done(30, notification=note(2, 1, 2)))
+master(4, no("6985", 30))
+
+name("set fall-back: success on DISABLED and on ENABLED")
+fresh()
+profile(2)
+sets(2)
+table((1, E), (2, D, True))
+sets(1)
+table((1, E, True), (2, D))
+
+name("set fall-back refused: not held, SELECTABLE, PERSONALIZED, a change open")
+fresh()
+makes(2)
+sets(3, no("6A88"))
+sets(2, no("6985"))
+keyed(2)
+sets(2, no("6985"))
+stored(2, 1)
+finished(2)
+enables(2, done(20, notification=note(2, 1, 2)))
+sets(2, no("6985", 20))
+sets(1, no("6985", 20))
+sets(3, no("6985", 20))
+
+name("confirmation refused: Quiet; another number; the data field")
+fresh()
+profile(2)
+confirms(1, no("6985"))
+enables(2, done(20, notification=note(2, 1, 2)))
+confirms(0, no("6A88", 20))
+confirms(2, no("6A88", 20))
+confirms(256, no("6A88", 20))
+command(store("3A08", "4E0101"), no("6A80", 20))
+confirms(1)
+confirms(1, no("6985"))
+
+name("GET STATUS: one named, with and without a tag list; not held")
+fresh()
+makes(2)
+command(status(four_f(aid(2))), done(response=row(aid(2), S, "00")))
+command(status(four_f(aid(1)) + "5C00"), done(response="E3074F05A000000001"))
+command(status(four_f(aid(2)) + "5C029F70"), done(response="E30B4F05A0000000029F700107"))
+command(status(four_f(aid(1)) + "5C0153"), done(response="E30A4F05A000000001530101"))
+command(status("4F005C0153"), done(response="E30A4F05A000000001530101E30A4F05A000000002530100"))
+command(status("4F005C00"), done(response="E3074F05A000000001E3074F05A000000002"))
+command(status(four_f(aid(3))), no("6A88"))
+command(status(four_f(aid(3)) + "5C0170"), no("6A80"))
+
+name("GET DATA: count, free, volatile; its refusals")
+fresh(volatile=4294967295)
+figures(1, 900, volatile=0xFFFFFFFF)
+command("80CAFF21", no("6700"))
+command("80CAFF2101", no("6700"))
+command("80CAFF2200", no("6A86"))
+
+name("lost: from a profile that is not the fall-back; closes by the tenth tick")
+fresh()
+profile(2)
+enables(2, done(20, notification=note(2, 1, 2)))
+confirms(1)
+call("lost", done(10, notification=note(5, 2, 1)))
+table((1, E, True), (2, D), ticks=10)
+ticks(count(9, 0))
+table((1, E, True), (2, D))
+
+name("lost, then confirmed")
+fresh()
+profile(2)
+enables(2, done(20, notification=note(2, 1, 2)))
+confirms(1)
+call("lost", done(10, notification=note(5, 2, 1)))
+ticks(count(9, 1))
+confirms(1, no("6A88", 1))
+confirms(2)
+
+name("framing rows in the table's order (ruling 15)")
+fresh()
+command("00" * 300, no("6700"))
+command("80E2", no("6F02"), buffer=10)
+command("80E2", no("6700"))
+command("80E28700", no("6A86"))
+command("80E28800", no("6700"))
+command("90E3", no("6700"))
+command("90E30000", no("6E00"))
+command("80E30000", no("6D00"))
+
+name("6F 00 before 6F 02")
+card(no("6F00"), capacity=0, places=[place(1, E)])
+command("80E2", no("6F00"), buffer=10)
+command("80CAFF2100", no("6F00"), buffer=255)
+
+name("the buffer: under 256 refused before all else, 256 and longer taken (ruling 20)")
+fresh()
+profile(2)
+command("80CAFF2100", no("6F02"), buffer=255)
+command("80CAFF2100", no("6F02"), buffer=0)
+command("", no("6F02"), buffer=255)
+command(store("3A03", four_f()), no("6F02"), buffer=255)
+command("80CAFF2100", done(response="FF210F810102820400000352830401020304"), buffer=256)
+command("80CAFF2100", done(response="FF210F810102820400000352830401020304"), buffer=257)
+command("80CAFF2100", done(response="FF210F810102820400000352830401020304"), buffer=1024)
+command(store("3A03", four_f()), done(20, notification=note(2, 1, 2)), buffer=1024)
+command("80CAFF2100", no("6F02", 20), buffer=1)
+
+name("the verdict is read by master delete alone, after 6A 88 and 69 85 (ruling 21)")
+fresh()
+profile(2)
+command(delete(four_f(aid(3)) + b6() + TOKEN), no("6A88"), 0)
+command(delete(four_f(aid(1)) + b6() + TOKEN), no("6985"), 0)
+command("80CAFF2100", done(response="FF210F810102820400000352830401020304"), 255)
+command(delete(four_f()), done(response="00"), 0)
+
+name("69 85 stands before 69 E1 (ruling 11)")
+card(done(), places=[place(1, E, policy=3), place(2, D)])
+disables(1, no("6985"))
+deletes(1, no("6985"))
+enables(1, no("6985"))
+enables(2, no("69E1"))
+
+name("quota over capacity is wrong data, before 69 85; over free is 6A 84 (ruling 26)")
+fresh()
+profile(2)
+makes(3, no("6A80"), quota=1001)
+makes(3, no("6A84"), quota=1000)
+enables(2, done(20, notification=note(2, 1, 2)))
+makes(3, no("6A80", 20), quota=1001)
+makes(3, no("6985", 20), quota=1000)
+
+name("Ruling 35: AIDs are equal by length and bytes")
+fresh()
+makes(0, a="A00000000100")
+makes(0, a="A0000000010000")
+makes(0, no("6A80"), a="A00000000100")
+table((1, E, True), ("A00000000100", S), ("A0000000010000", S))
+call("keyed A000000001000000", no("6A88"))
+call("keyed A00000000100", done())
+table((1, E, True), ("A00000000100", P), ("A0000000010000", S))
+command(status(four_f("A0000000010000")), done(response=row("A0000000010000", S, "00")))
+command(store("3A03", four_f("A000000001000000")), no("6A88"))
+
+name("Ruling 36: create with a held AID: after 69 85, before 6A 84")
+fresh()
+profile(2)
+for n in range(3, 9):
+    makes(n)
+makes(8, no("6A80"))
+makes(8, no("6A80"), quota=1000)
+enables(2, done(20, notification=note(2, 1, 2)))
+makes(8, no("6985", 20))
+
+name("Ruling 37: what an open change refuses, and what it does not")
+fresh()
+profile(2)
+makes(3)
+enables(2, done(20, notification=note(2, 1, 2)))
+makes(4, no("6985", 20))
+enables(9, no("6985", 20))
+disables(9, no("6985", 20))
+deletes(9, no("6985", 20))
+master(9, no("6985", 20))
+sets(9, no("6985", 20))
+sets(1, no("6985", 20))
+keyed(3, done(20))
+stored(3, 1, done(20))
+finished(3, 0, done(20))
+table((1, D, True), (2, E), (3, D), ticks=20)
+figures(3, 800, ticks=20)
+call("lost", done(20))
+call("tick", done(19))
+
+name("Ruling 38: set fall-back on the holder changes nothing")
+fresh()
+profile(2)
+sets(1)
+table((1, E, True), (2, D))
+enables(2, done(20, notification=note(2, 1, 2)))
+confirms(1)
+sets(1)
+table((1, D, True), (2, E))
+
+name("Ruling 39: finished with used 0 is 69 85; policy before not held before state")
+fresh()
+makes(2)
+keyed(2)
+finished(2, 0, no("6985"))
+finished(3, 6, no("6A80"))
+finished(3, 1, no("6A88"))
+finished(2, 6, no("6A80"))
+stored(2, 0)
+finished(2, 0, no("6985"))
+stored(2, 1)
+finished(2, 0)
+
+name("Ruling 40: stored: 2^32-1 does not wrap, 0 on a full one is taken, state before room")
+fresh(used=100)
+makes(2)
+stored(2, 4294967295, no("6985"))
+keyed(2)
+stored(2, 50)
+stored(2, 4294967295, no("6A84"))
+stored(2, 4294967246, no("6A84"))
+stored(2, 0)
+stored(1, 4294967295, no("6985"))
+finished(2)
+stored(2, 1, no("6985"))
+
+name("Ruling 41: order of the inner calls' refusals")
+fresh()
+makes(2)
+call("stored A0 4294967295", no("6A80"))
+call("stored A0000000FF 4294967295", no("6A88"))
+stored(2, 4294967295, no("6985"))
+call("finished A0 255", no("6A80"))
+call("finished A0000000FF 255", no("6A80"))
+call("keyed A0000000FF", no("6A88"))
+
+name("Ruling 42: enable reads the enabled profile's policy alone; the fall-back may be enabled")
+fresh()
+profile(2, 3)
+profile(3, 4)
+enables(2, done(20, notification=note(2, 1, 2)))
+ticks([*count(19, 11), (10, note(3, 2, 1))])
+confirms(2)
+enables(3, done(20, notification=note(2, 3, 3)))
+confirms(3)
+enables(1, done(30, notification=note(2, 4, 1)))
+table((1, E, True), (2, D), (3, D), ticks=30)
+fresh()
+disables(1, no("6985"))
+
+name("Ruling 43: ticks, lost and confirmations in Back or Fallen ask no policy and delete nothing")
+card(done(30), last=4, phase="T:1:10:4", places=[place(1, D, policy=4), place(2, D, policy=4), place(3, E, policy=1)])
+ticks([*count(29, 21), (20, note(3, 5, 2))])
+confirms(5)
+table((1, D, True), (2, E), (3, D))
+call("lost", done(10, notification=note(5, 6, 1)))
+confirms(6)
+table((1, E, True), (2, D), (3, D))
+card(done(), last=9, places=[place(1, D), place(2, E, policy=1)])
+call("lost", done(10, notification=note(5, 10, 1)))
+
+name("Ruling 44: confirmation in Trial deletes the previous iff bit 04 and not the fall-back")
+card(done(), fall_back=0, places=[place(1, E, policy=4), place(2, D, policy=4), place(3, D)])
+enables(2, done(20, notification=note(2, 1, 2)))
+confirms(1)
+table((1, D, True), (2, E), (3, D))
+enables(3, done(30, notification=note(2, 2, 3)))
+confirms(2, done(response="80074F05A000000002"))
+table((1, D, True), (3, E))
+figures(2, 900, volatile=7)
+disables(3, done(30, notification=note(2, 3, 1)))
+confirms(3)
+table((1, E, True), (3, D))
+
+name("Ruling 44: the deleted AID has its true length, 16 bytes")
+card(done(), places=[place(1, D), place(AID16, E, policy=4)])
+command(store("3A04", four_f(AID16)), done(30, notification="02:0001:A000000001"))
+confirms(1, done(response="80124F10" + AID16))
+
+name("Ruling 45: the outstanding number; Quiet has none; 65535, 0, 1")
+fresh()
+profile(2)
+confirms(0, no("6985"))
+card(done(), last=65534, places=[place(1, D), place(2, E), place(3, D)])
+enables(3, done(30, notification=note(2, 65535, 3)))
+confirms(65534, no("6A88", 30))
+ticks([*count(29, 21), (20, note(3, 0, 2))])
+confirms(65535, no("6A88", 20))
+ticks([*count(19, 11), (10, note(5, 1, 1))])
+confirms(0, no("6A88", 10))
+confirms(1)
+confirms(1, no("6985"))
+
+name("Ruling 46: kinds 02, 03, 05 with the AID enabled after the step; none at confirmation or a closing tick")
+fresh()
+profile(2)
+enables(2, done(20, notification=note(2, 1, 2)))
+confirms(1)
+disables(2, done(30, notification=note(2, 2, 1)))
+ticks([*count(29, 21), (20, note(3, 3, 2)), *count(19, 11), (10, note(5, 4, 1)), *count(9, 1)])
+call("tick", done())
+call("tick", done())
+
+name("Ruling 47: the ticks figure of each phase, and on refusals")
+places = [place(1, D), place(2, D), place(3, E)]
+card(done(27), last=3, phase="T:1:7:3", places=places)
+card(done(17), last=3, phase="T:0:7:3", places=places)
+card(done(17), last=3, phase="B:7:3", places=places)
+card(done(7), last=3, phase="B:7:3", fall_back=2, places=places)
+card(done(7), last=3, phase="F:7:3", fall_back=2, places=places)
+makes(4, no("6985", 7))
+command("80E2", no("6700", 7))
+command("80E2", no("6F02", 7), buffer=255)
+keyed(9, no("6A88", 7))
+call("tick", done(6))
+
+name("Ruling 48: fresh at its edges")
+fresh(capacity=1, quota=1, used=1)
+fresh(capacity=1048576, quota=1048576, used=0, volatile=0)
+fresh(a=AID16, used=100)
+command(status("4F00"), done(response=row(AID16, E, "01")))
+
+name("Ruling 48: fresh refused, and the record of zeros after it")
+bad = no("6A80")
+fresh()
+fresh(eid=EID[:-2], answer=bad)
+call("tick", no("6F00"))
+fresh(eid=EID + "00", answer=bad)
+fresh(eid="", answer=bad)
+fresh(a="A0000000", answer=bad)
+fresh(a=AID16 + "00", answer=bad)
+fresh(a="", answer=bad)
+fresh(capacity=0, quota=0, answer=bad)
+fresh(capacity=1048577, answer=bad)
+fresh(capacity=4294967295, answer=bad)
+fresh(quota=0, answer=bad)
+fresh(quota=1001, answer=bad)
+fresh(used=101, answer=bad)
+fresh(used=4294967295, answer=bad)
+command("80CAFF2100", no("6F00"))
+fresh()
+
+name("Ruling 49: deletion frees place and quota, moves nothing, and a created one starts anew")
+fresh()
+profile(2)
+profile(3, 1)
+profile(4)
+sets(4)
+deletes(2)
+table((1, E), (3, D), (4, D, True))
+figures(3, 800)
+profile(5)
+table((1, E), (5, D), (3, D), (4, D, True))
+makes(2)
+table((1, E), (5, D), (3, D), (4, D, True), (2, S))
+keyed(2)
+finished(2, 0, no("6985"))
+enables(3, done(30, notification=note(2, 1, 3)))
+
+name("Ruling 50: rows by place, SELECTABLE too; eight AIDs of 16 bytes are 216 bytes")
+longs = [f"A0000005591010FFFFFFFF89000010{n:02X}" for n in range(8)]
+card(done(), fall_back=7, places=[place(a, s) for a, s in zip(reversed(longs), (S, P, D, E, S, P, D, D))])
+table(*[(a, s) for a, s in zip(reversed(longs), (S, P, D, E, S, P, D))], (longs[0], D, True))
+
+name("Ruling 51: GET DATA, high byte first, less quotas and not less used")
+card(done(), capacity=1048576, volatile=4278255360, places=[place(1, E, 65793, 65793), place(2, D, 1, 0)])
+command("80CAFF2100", done(response="FF210F810102" + "8204000EFEFE" + "8304FF00FF00"))
+
+name("Ruling 52: tick in Quiet and lost on the fall-back do nothing; lost restarts no wait")
+fresh()
+profile(2)
+call("tick", done())
+call("lost", done())
+enables(2, done(20, notification=note(2, 1, 2)))
+ticks(count(19, 15))
+call("lost", done(15))
+ticks([*count(14, 11), (10, note(3, 2, 1)), 9])
+call("lost", done(9))
+ticks(count(8, 0))
+call("lost", done())
+
+name("Ruling 53: nothing further changes: set fall-back, finished and create leave the rest")
+fresh()
+profile(2)
+profile(3)
+enables(2, done(20, notification=note(2, 1, 2)))
+confirms(1)
+sets(3)
+table((1, D), (2, E), (3, D, True))
+makes(4)
+figures(4, 750)
+keyed(4)
+stored(4, 50)
+finished(4, 2)
+table((1, D), (2, E), (3, D, True), (4, D))
+figures(4, 750)
+enables(1, done(30, notification=note(2, 2, 1)))
+
+name("Ruling 54: each clause of a sound card broken once")
+good = [place(1, E), place(2, D)]
+card(done(), places=good)
+card(no("6F00"), capacity=0, places=good)
+card(no("6F00"), capacity=1048577, places=good)
+card(no("6F00"), places=[place("A0000000", E), place(2, D)])
+card(no("6F00"), places=[place(1, E), "-:1F:50:5:0"])
+card(no("6F00"), places=[place(1, E), place(2, D), "-:00:1:0:0"])
+card(no("6F00"), places=[place(1, E), place(2, D), "-:00:0:0:1"])
+card(no("6F00"), places=[place(1, E), place(2, D), "-:07:0:0:0"])
+card(done(), places=[place(1, E), place(2, D), "-:00:0:0:0"])
+for state in ("00", "03", "0B", "2F", "7F", "FF", "83"):
+    card(no("6F00"), places=[place(1, E), place(2, state)])
+card(no("6F00"), places=[place(1, E), place(2, D, quota=0, used=0)])
+card(no("6F00"), places=[place(1, E), place(2, D, quota=1001)])
+card(no("6F00"), places=[place(1, E), place(2, D, quota=50, used=51)])
+for policy in (5, 6, 7, 8, 128, 255):
+    card(no("6F00"), places=[place(1, E), place(2, D, policy=policy)])
+card(no("6F00"), places=[place(1, E), place(1, D)])
+card(done(), places=[place(1, E), place(aid(1) + "00", D)])
+card(no("6F00"), places=[place(1, E), place(2, E)])
+card(no("6F00"), places=[place(1, D), place(2, D)])
+card(no("6F00"), fall_back=2, places=good)
+card(no("6F00"), fall_back=8, places=good)
+card(no("6F00"), fall_back=255, places=good)
+card(no("6F00"), fall_back=1, places=[place(1, E), place(2, S)])
+card(no("6F00"), fall_back=1, places=[place(1, E), place(2, P)])
+card(no("6F00"), places=[place(1, E, quota=501), place(2, D, quota=500)])
+card(done(), places=[place(1, E, quota=500), place(2, D, quota=500)])
+card(no("6F00"), places=[place(n, E if n == 1 else D, quota=4294967295) for n in range(1, 9)])
+card(no("6F00"), capacity=1048576, places=[place(1, E, quota=4294967295), place(2, D, quota=1048576)])
+
+name("Ruling 54: the phase of a sound card")
+three = [place(1, E), place(2, D), place(3, S)]
+card(done(21), last=9, phase="T:1:1:9", places=three)
+card(done(30), last=9, phase="T:1:10:9", places=three)
+card(no("6F00"), last=9, phase="T:1:0:9", places=three)
+card(no("6F00"), last=9, phase="T:1:11:9", places=three)
+card(no("6F00"), last=9, phase="T:1:255:9", places=three)
+card(no("6F00"), last=9, phase="T:0:5:9", places=three)
+card(no("6F00"), last=9, phase="T:2:5:9", places=three)
+card(no("6F00"), last=9, phase="T:3:5:9", places=three)
+card(no("6F00"), last=9, phase="T:200:5:9", places=three)
+card(no("6F00"), last=9, phase="B:0:9", places=three)
+card(no("6F00"), last=9, phase="B:11:9", places=three)
+card(no("6F00"), last=9, phase="F:5:9", fall_back=1, places=three)
+card(done(15), last=9, phase="B:5:9", fall_back=1, places=three)
+
+name("Ruling 55: the outstanding number is the last one issued")
+card(no("6F00"), last=9, phase="T:1:5:5", places=three)
+confirms(5, no("6F00"))
+card(no("6F00"), last=0, phase="B:5:65535", places=three)
+card(no("6F00"), last=1, phase="F:5:0", places=three)
+card(done(), last=9, phase="Q", places=three)
+
+name("Ruling 56: sound, though no run from fresh makes it: SELECTABLE with used 3 and a policy")
+card(done(), places=[place(1, E), place(2, S, used=3, policy=2)])
+keyed(2)
+finished(2, 1)
+table((1, E, True), (2, D))
+
+name("Ruling 56: Trial whose previous forbids disabling, or is the fall-back with bit 04")
+card(done(11), last=2, phase="T:0:1:2", places=[place(1, D, policy=1), place(2, E)])
+ticks([(10, note(3, 3, 1))])
+card(done(11), last=2, phase="T:0:1:2", places=[place(1, D, policy=4), place(2, E)])
+confirms(2)
+table((1, D, True), (2, E))
+
+name("Ruling 56: PERSONALIZED with a policy, DISABLED with used 0")
+card(done(), places=[place(1, E, used=0), place(2, P, used=0, policy=4), place(3, D, used=0)])
+finished(2, 0, no("6985"))
+stored(2, 1)
+finished(2, 0)
+enables(3, done(20, notification=note(2, 1, 3)))
+
+name("Ruling 63: enable of the fall-back from another: back to it at 10, to the fall-back at 20, closed at 30")
+card(done(), places=[place(1, D), place(2, E)])
+enables(1, done(30, notification=note(2, 1, 1)))
+ticks([*count(29, 21), (20, note(3, 2, 2)), *count(19, 11), (10, note(5, 3, 1)), *count(9, 0)])
+table((1, E, True), (2, D))
+
+name("Rulings 62 and 63: confirmed at the last moment before the twentieth and the thirtieth tick")
+card(done(), places=[place(1, D), place(2, E), place(3, D)])
+enables(3, done(30, notification=note(2, 1, 3)))
+ticks([*count(29, 21), (20, note(3, 2, 2)), *count(19, 11)])
+confirms(2)
+table((1, D, True), (2, E), (3, D))
+enables(3, done(30, notification=note(2, 3, 3)))
+ticks([*count(29, 21), (20, note(3, 4, 2)), *count(19, 11), (10, note(5, 5, 1)), *count(9, 1)])
+confirms(5)
+table((1, E, True), (2, D), (3, D))
+
+name("the second change from one card answers like the first")
+fresh()
+profile(2)
+enables(2, done(20, notification=note(2, 1, 2)))
+ticks([*count(19, 11), (10, note(3, 2, 1)), *count(9, 0)])
+enables(2, done(20, notification=note(2, 3, 2)))
+ticks([*count(19, 11), (10, note(3, 4, 1)), *count(9, 0)])
+enables(2, done(20, notification=note(2, 5, 2)))
+confirms(5)
+table((1, D, True), (2, E))
+
+name("words: spaces, hex in either case, numbers with leading zeros")
+lines.append("")
+lines.append("    ")
+lines.append("   # a comment after spaces")
+call(f"  fresh   {EID.lower()} a000000001  0001000 100 0 000  ", done())
+call(f"command 00 80caFf2100 0256", done(response="FF210F810101820400000384830400000000"))
+call(" tick ", done())
+store_away("scenarios")
