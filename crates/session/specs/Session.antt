@@ -18,6 +18,7 @@ use Rattle.manager.specs.Manager.{step}
 use Rattle.script.specs.Orders.{orderOf}
 use Rattle.script.specs.Records.{recordOf}
 use Rattle.script.specs.declared.arguments.Span.{Span}
+use Rattle.script.specs.declared.arguments.Reason.{Reason}
 use Rattle.script.specs.declared.orders.Order.{Order}
 use Rattle.script.specs.declared.orders.Order.the-variants as order
 use Rattle.answers.specs.Lines.{answerLine, reasonLine}
@@ -49,6 +50,9 @@ spoken explain a response = cond explain (explainedText a response) (answerLine 
 abbrev pub told : Bool → Outcome → Said
 told explain o = record { card = o .card; text = spoken explain (handed o) (o .response); goes = true }
 
+abbrev pub faulty : Card → ℕ → Reason → Said
+faulty c n reason = record { card = c; text = reasonLine n reason; goes = false }
+
 abbrev pub saidOf : Card → Bool → ℕ → List ℕ → Order → Said
 saidOf c explain n s order.Nothing = record { card = c; text = []; goes = true }
 saidOf c explain n s (order.Fresh eid aid capacity quota used volatile) =
@@ -60,7 +64,7 @@ saidOf c explain n s (order.Finished aid policy) = told explain (step c (Finishe
 saidOf c explain n s order.Tick = told explain (step c Tick)
 saidOf c explain n s order.Lost = told explain (step c Lost)
 saidOf c explain n s order.Record = told explain (handedIn (recordOf s .card))
-saidOf c explain n s (order.Wrong reason) = record { card = c; text = reasonLine n reason; goes = false }
+saidOf c explain n s (order.Wrong reason) = faulty c n reason
 
 -- line n of a script, on a card
 unfoldable pub lineOf : Card → Bool → ℕ → List ℕ → Said

@@ -7,6 +7,7 @@ use card::Answer;
 use card::Card;
 use isdp::Aid;
 use script::Order;
+use script::Reason;
 use script::Span;
 use script::read_line;
 use script::read_record;
@@ -24,7 +25,7 @@ ghost use Rattle.card.specs.Answers.{handed};
 ghost use Rattle.card.specs.Fresh.{freshOutcome};
 ghost use Rattle.manager.specs.Calls.{Call.Command, Call.Keyed, Call.Stored, Call.Finished};
 ghost use Rattle.manager.specs.Manager.{step};
-ghost use Rattle.session.specs.Session.{bytesOf, handedIn, spoken, told, saidOf, lineOf, Spoke};
+ghost use Rattle.session.specs.Session.{bytesOf, handedIn, spoken, told, faulty, saidOf, lineOf, Spoke};
 
 // The card after a line, how many bytes were written, and whether the run goes on.
 pub struct Turn {
@@ -171,6 +172,18 @@ fn command(
     speak(explain, answer, &buffer[..length], out)
 }
 
+// A line that cannot be read: it is named, and the run stops.
+fn fault(card: Card, number: u64, reason: Reason, out: &mut [u8]) -> Turn
+    ensures { λ r. ⌜ Spoke (now (out .entry)) (faulty card number reason) r (now (out .exit)) ⌝ }
+{
+    let length = write_reason(number, reason, out, 0);
+    Turn {
+        card,
+        length,
+        goes: false,
+    }
+}
+
 // Line `number` of a script.
 pub fn take_line(card: Card, explain: bool, number: u64, s: &[u8], out: &mut [u8]) -> Turn
     ensures { λ r. ⌜ Spoke (now (out .entry)) (lineOf card explain number (now (s .entry))) r (now (out .exit)) ⌝ }
@@ -189,10 +202,11 @@ pub fn take_line(card: Card, explain: bool, number: u64, s: &[u8], out: &mut [u8
             quota,
             used,
             volatile,
-        } => {
-            let answer = fresh(s, eid, aid, capacity, quota, used, volatile);
-            tell(explain, answer, out)
-        }
+        } => tell(
+            explain,
+            fresh(s, eid, aid, capacity, quota, used, volatile),
+            out,
+        ),
         Order::Command {
             verdict,
             bytes,
@@ -208,13 +222,6 @@ pub fn take_line(card: Card, explain: bool, number: u64, s: &[u8], out: &mut [u8
             let given = record.card;
             tell(explain, handed_in(given), out)
         }
-        Order::Wrong(reason) => {
-            let length = write_reason(number, reason, out, 0);
-            Turn {
-                card,
-                length,
-                goes: false,
-            }
-        }
+        Order::Wrong(reason) => fault(card, number, reason, out),
     }
 }

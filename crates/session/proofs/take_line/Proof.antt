@@ -91,8 +91,8 @@ tell-requires-7 c κs = search needs
 enum-known-order-6 : tie.Need-enum-known-order-6
 enum-known-order-6 c = search needs
 
-write-reason-requires : tie.Need-write-reason-requires
-write-reason-requires c κs = search needs
+fault-requires : tie.Need-fault-requires
+fault-requires c κs = search needs
 
 returns : tie.Need-returns
 returns c =
@@ -159,7 +159,7 @@ same-length-9 c = search needs
 
 returns-10 : tie.Need-returns-10
 returns-10 c =
-    as-ordered _ _ _ _ _ (sym (c .before .before .before .before .before .order6 .given .1) ∙ c .before .before .before .before .before .before .before .read-line .ensures) (record { same-card = refl; same-goes = refl; wrote = c .before .before .write-reason .ensures .0 })
+    as-ordered _ _ _ _ _ (sym (c .before .before .before .before .before .order6 .given .1) ∙ c .before .before .before .before .before .before .before .read-line .ensures) (c .before .before .fault .ensures)
 
 pub take-line-spec : {M : Type 1} → statement M
 take-line-spec =
@@ -192,7 +192,7 @@ take-line-spec =
     handed-in-requires
     tell-requires-7
     enum-known-order-6
-    write-reason-requires
+    fault-requires
     returns
     same-length
     returns-2
