@@ -1,4 +1,5 @@
--- Laws that several proofs cite: parts of a command, responses in a buffer, the table over a command read, soundness kept.
+-- Laws that several proofs cite: parts of a command, responses in a buffer and how long they are, the table over a command read,
+-- soundness kept.
 pub mod Parts
 pub mod Buffers
 pub mod Readings
