@@ -20,7 +20,7 @@ nibbleOf c =
     (pick (isBelow c 97) 16
     (pick (atMost c 102) (c - 87) 16)))))
 
--- is it pairs of digits?
+-- the text is pairs of digits
 unfoldable pub pairsOf : List ℕ → Bool
 pairsOf [] = true
 pairsOf (a ∷ []) = false
