@@ -42,6 +42,10 @@ issued c =
       aid = nameOf (at (c .places) (enabledPlace c));
     }
 
--- from card c to card d one is handed out exactly where a number was issued
+-- a card after one whose last number was `last`: one is handed out exactly where a number was issued
+abbrev pub noticeSince : ℕ → Card → Notification
+noticeSince last d = cond (eqb (d .last) last) silent (issued d)
+
+-- from card c to card d
 unfoldable pub noticeOf : Card → Card → Notification
-noticeOf c d = cond (eqb (d .last) (c .last)) silent (issued d)
+noticeOf c d = noticeSince (c .last) d

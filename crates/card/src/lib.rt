@@ -19,7 +19,7 @@ ghost use Rattle.places.specs.Places.{at, foundOf};
 ghost use Rattle.card.specs.Sound.{openOk, phaseOk, sound};
 ghost use Rattle.card.specs.Clock.{nextOf, moved, opened, fallen, tickIn, tickOf, lostOf, dropped, trialClosed, outstanding};
 ghost use Rattle.card.specs.Ticks.{ticksByPhase};
-ghost use Rattle.card.specs.Notifications.{silent, kindOf, codeOf, issued, noticeOf};
+ghost use Rattle.card.specs.Notifications.{silent, kindOf, codeOf, issued, noticeSince};
 ghost use Rattle.card.specs.Answers.{handed, refusedAt, answerAt};
 ghost use Rattle.card.specs.Steps.{stepTo, tickStep, lostStep, trialGone, confirmStep};
 ghost use Rattle.status.specs.declared.Status.the-variants.{Unsound};
@@ -374,21 +374,21 @@ impl Card {
         }
     }
 
-    // A notification where a number was issued.
-    fn noticed(self, after: Card) -> Notification
-        ensures { λ r. ⌜ r ≡ noticeOf self after ⌝ }
+    // A notification where a number was issued after `last`.
+    fn noticed(self, last: u16) -> Notification
+        ensures { λ r. ⌜ r ≡ noticeSince last self ⌝ }
     {
-        if after.last == self.last {
+        if self.last == last {
             return Notification::silent();
         }
-        after.issued()
+        self.issued()
     }
 
     // The step from this card to another.
     pub fn step_to(self, after: Card, deleted: Aid) -> Step
         ensures { λ r. ⌜ r ≡ stepTo self after deleted ⌝ }
     {
-        let notification = self.noticed(after);
+        let notification = after.noticed(self.last);
         Step {
             card: after,
             notification,
@@ -520,16 +520,31 @@ impl Card {
         once_disabled(p.policy) & (i != self.fallback)
     }
 
+    // Tick and lost make their step themselves: `step_to` would have both cards copied for it.
     pub fn tick(self) -> Step
         ensures { λ r. ⌜ r ≡ tickStep self ⌝ }
     {
-        self.step_to(self.ticked(), Aid::none())
+        let after = self.ticked();
+        let notification = after.noticed(self.last);
+        let deleted = Aid::none();
+        Step {
+            card: after,
+            notification,
+            deleted,
+        }
     }
 
     pub fn lost(self) -> Step
         ensures { λ r. ⌜ r ≡ lostStep self ⌝ }
     {
-        self.step_to(self.cut_off(), Aid::none())
+        let after = self.cut_off();
+        let notification = after.noticed(self.last);
+        let deleted = Aid::none();
+        Step {
+            card: after,
+            notification,
+            deleted,
+        }
     }
 
     // Trial is closed by its confirmation, and the previous profile may go with it.

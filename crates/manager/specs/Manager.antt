@@ -1,11 +1,13 @@
 -- Document 01, 'What is bought': what the manager answers to a call, and what a run of calls makes of a card.
 -- The status is the word of the table; "Otherwise 90 00" the step is taken and its response given.
-use Prim.Native.Nat.{ℕ}
+use Prim.Native.Nat.{ℕ, _≤_}
 use mathlib.Core.List.{List, [], _∷_}
+use lib.ListN.{length}
 use Rattle.status.specs.Rows.{wordOf}
 use Rattle.card.specs.Answers.{Outcome, Work, accepted, settle, outcome}
 use Rattle.card.specs.declared.Card.{Card}
-use Rattle.steps.specs.Steps.{stepOf, responseOf}
+use Rattle.card.specs.declared.Answer.{Answer}
+use Rattle.steps.specs.Steps.{stepOf, responseOf, Handed}
 use Rattle.manager.specs.Calls.{Call, asked}
 use Rattle.manager.specs.Table.{table, rowsAfter}
 
@@ -30,3 +32,7 @@ run c (call ∷ calls) = run (step c call .card) calls
 unfoldable pub answers : Card → List Call → List Outcome
 answers c [] = []
 answers c (call ∷ calls) = step c call ∷ answers (step c call .card) calls
+
+-- an outcome as it is handed out over a lent buffer that has room for the whole response
+abbrev pub Served : List ℕ → Outcome → Answer → List ℕ → Type 0
+Served old o r new = Handed old o r new × (r .length ≤ length old)

@@ -24,10 +24,10 @@ ghost use Rattle.text.specs.Put.{put};
 ghost use Rattle.card.specs.Answers.{handed, known};
 ghost use Rattle.card.specs.Fresh.{freshOutcome};
 ghost use Rattle.steps.specs.Asked.{Act.status, Asked.on, Asked.confirm, Asked.statusOfAll, Asked.getData};
-ghost use Rattle.steps.specs.Steps.{askedWork, Handed};
+ghost use Rattle.steps.specs.Steps.{askedWork};
 ghost use Rattle.manager.specs.Calls.{Call.Command, Call.Keyed, Call.Stored, Call.Finished, Call.Tick, Call.Lost, partOf, requestAsks};
 ghost use Rattle.manager.specs.Table.{leastBuffer};
-ghost use Rattle.manager.specs.Manager.{work, step};
+ghost use Rattle.manager.specs.Manager.{work, step, Served};
 
 // A lent response buffer has at least so many bytes.
 const BUFFER: usize = 256;
@@ -62,7 +62,7 @@ fn acknowledged(answer: Answer, buf: &mut [u8]) -> Answer
 
 fn confirm(card: Card, number: u16, buf: &mut [u8]) -> Answer
     requires { ⌜ leastBuffer ≤ length (now buf) ⌝ }
-    ensures { λ r. ⌜ Handed (now (buf .entry)) (known card (askedWork card (confirm number))) r (now (buf .exit)) ⌝ }
+    ensures { λ r. ⌜ Served (now (buf .entry)) (known card (askedWork card (confirm number))) r (now (buf .exit)) ⌝ }
 {
     let phase = card.phase;
     if phase.is_quiet() {
@@ -79,7 +79,7 @@ fn confirm(card: Card, number: u16, buf: &mut [u8]) -> Answer
 
 fn status_of_all(card: Card, life: bool, fallback: bool, buf: &mut [u8]) -> Answer
     requires { ⌜ leastBuffer ≤ length (now buf) ⌝ }
-    ensures { λ r. ⌜ Handed (now (buf .entry)) (known card (askedWork card (statusOfAll life fallback))) r (now (buf .exit)) ⌝ }
+    ensures { λ r. ⌜ Served (now (buf .entry)) (known card (askedWork card (statusOfAll life fallback))) r (now (buf .exit)) ⌝ }
 {
     let n = write_status(card, life, fallback, buf, 0);
     card.step_to(card, Aid::none()).answer(n)
@@ -87,7 +87,7 @@ fn status_of_all(card: Card, life: bool, fallback: bool, buf: &mut [u8]) -> Answ
 
 fn status_of_one(card: Card, aid: &[u8], life: bool, fallback: bool, buf: &mut [u8]) -> Answer
     requires { ⌜ leastBuffer ≤ length (now buf) ⌝ }
-    ensures { λ r. ⌜ Handed (now (buf .entry)) (known card (askedWork card (on (now (aid .entry)) (status life fallback)))) r (now (buf .exit)) ⌝ }
+    ensures { λ r. ⌜ Served (now (buf .entry)) (known card (askedWork card (on (now (aid .entry)) (status life fallback)))) r (now (buf .exit)) ⌝ }
 {
     let Found::At(t) = card.place_of(aid) else {
         return card.refused(Status::NotHeld);
@@ -98,7 +98,7 @@ fn status_of_one(card: Card, aid: &[u8], life: bool, fallback: bool, buf: &mut [
 
 fn get_data(card: Card, buf: &mut [u8]) -> Answer
     requires { ⌜ leastBuffer ≤ length (now buf) ⌝ }
-    ensures { λ r. ⌜ Handed (now (buf .entry)) (known card (askedWork card getData)) r (now (buf .exit)) ⌝ }
+    ensures { λ r. ⌜ Served (now (buf .entry)) (known card (askedWork card getData)) r (now (buf .exit)) ⌝ }
 {
     let n = write_data(card, buf, 0);
     card.step_to(card, Aid::none()).answer(n)
@@ -107,7 +107,7 @@ fn get_data(card: Card, buf: &mut [u8]) -> Answer
 // What a request asks, done on a card known to be sound.
 fn serve(card: Card, verdict: u8, request: Request, bytes: &[u8], buf: &mut [u8]) -> Answer
     requires { ⌜ leastBuffer ≤ length (now buf) ⌝ }
-    ensures { λ r. ⌜ Handed (now (buf .entry)) (known card (askedWork card (requestAsks verdict (now (bytes .entry)) request))) r (now (buf .exit)) ⌝ }
+    ensures { λ r. ⌜ Served (now (buf .entry)) (known card (askedWork card (requestAsks verdict (now (bytes .entry)) request))) r (now (buf .exit)) ⌝ }
 {
     match request {
         Request::Create { aid, quota } => {
@@ -136,7 +136,7 @@ fn serve(card: Card, verdict: u8, request: Request, bytes: &[u8], buf: &mut [u8]
 
 // A command, on a card known to be sound.
 pub fn known_command(card: Card, verdict: u8, bytes: &[u8], buf: &mut [u8]) -> Answer
-    ensures { λ r. ⌜ Handed (now (buf .entry)) (known card (work card (Command verdict (now (bytes .entry)) (length (now (buf .entry)))))) r (now (buf .exit)) ⌝ }
+    ensures { λ r. ⌜ Served (now (buf .entry)) (known card (work card (Command verdict (now (bytes .entry)) (length (now (buf .entry)))))) r (now (buf .exit)) ⌝ }
 {
     if buf.len() < BUFFER {
         return card.refused(Status::BufferShort);
@@ -150,7 +150,7 @@ pub fn known_command(card: Card, verdict: u8, bytes: &[u8], buf: &mut [u8]) -> A
 
 // A command, with the token verdict that came with it and the buffer lent for its response.
 pub fn command(card: Card, verdict: u8, bytes: &[u8], buf: &mut [u8]) -> Answer
-    ensures { λ r. ⌜ Handed (now (buf .entry)) (step card (Command verdict (now (bytes .entry)) (length (now (buf .entry))))) r (now (buf .exit)) ⌝ }
+    ensures { λ r. ⌜ Served (now (buf .entry)) (step card (Command verdict (now (bytes .entry)) (length (now (buf .entry))))) r (now (buf .exit)) ⌝ }
 {
     if !card.is_sound() {
         return card.unsound();
@@ -163,6 +163,41 @@ pub fn fresh(eid: &[u8], aid: &[u8], capacity: u32, quota: u32, used: u32, volat
     ensures { λ r. ⌜ r ≡ handed (freshOutcome (now (eid .entry)) (now (aid .entry)) capacity quota used volatile) ⌝ }
 {
     Card::fresh(eid, aid, capacity, quota, used, volatile)
+}
+
+// Keyed, on a card known to be sound.
+pub fn known_keyed(card: Card, aid: &[u8]) -> Answer
+    ensures { λ r. ⌜ r ≡ handed (known card (work card (Keyed (now (aid .entry))))) ⌝ }
+{
+    calls::known_keyed(card, aid)
+}
+
+// Stored, on a card known to be sound.
+pub fn known_stored(card: Card, aid: &[u8], n: u32) -> Answer
+    ensures { λ r. ⌜ r ≡ handed (known card (work card (Stored (now (aid .entry)) n))) ⌝ }
+{
+    calls::known_stored(card, aid, n)
+}
+
+// Finished, on a card known to be sound.
+pub fn known_finished(card: Card, aid: &[u8], policy: u8) -> Answer
+    ensures { λ r. ⌜ r ≡ handed (known card (work card (Finished (now (aid .entry)) policy))) ⌝ }
+{
+    calls::known_finished(card, aid, policy)
+}
+
+// A tick, on a card known to be sound.
+pub fn known_tick(card: Card) -> Answer
+    ensures { λ r. ⌜ r ≡ handed (known card (work card Tick)) ⌝ }
+{
+    calls::known_tick(card)
+}
+
+// Network lost, on a card known to be sound.
+pub fn known_lost(card: Card) -> Answer
+    ensures { λ r. ⌜ r ≡ handed (known card (work card Lost)) ⌝ }
+{
+    calls::known_lost(card)
 }
 
 pub fn keyed(card: Card, aid: &[u8]) -> Answer

@@ -16,7 +16,7 @@ use Rattle.isdp.specs.declared.Isdp.{Isdp}
 use Rattle.script.specs.Fields.{spelledPlace}
 use Rattle.script.specs.Records.{notHeld, placesOn}
 use Rattle.script.specs.declared.arguments.Reason.the-variants.{WordsMissing, BadPlace}
-use Rattle.script.specs.declared.fields.Placed.{Placed}
+use Rattle.script.specs.declared.parted.Placed.{Placed}
 use Rattle.script.specs.declared.records.Reading.the-variants.{Fine}
 use Rattle.script.specs.declared.records.Held.{Held}
 

@@ -15,7 +15,7 @@ use Rattle.script.specs.Fields.{colon, numberAt}
 use Rattle.script.specs.declared.arguments.Reason.the-variants as reason
 use Rattle.script.specs.declared.arguments.Value.{Value}
 use Rattle.script.specs.declared.arguments.Value.the-variants as value
-use Rattle.script.specs.declared.fields.Field.the-variants as field
+use Rattle.script.specs.declared.parted.Field.the-variants as field
 
 field-within : (most e n k : ℕ) (d : Number) → ((m : ℕ) → number.Value m ≡ d → m ≤ most) → field.Is n k ≡ onNumber d field.Wrong (λ m. field.Is m (e + 1)) → n ≤ most
 field-within most e n k number.Wrong f q = let o : _≡_ {A = ℕ} 0 1 = cc in absurd (omega arith)

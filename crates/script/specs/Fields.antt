@@ -18,15 +18,15 @@ use Rattle.isdp.specs.Place.{vacant}
 use Rattle.card.specs.declared.Phase.the-variants.{Quiet, Trial, Back, Fallen}
 use Rattle.script.specs.Ascii.{ascii}
 use Rattle.script.specs.Arguments.{most32, most16, most8, onNumber}
-use Rattle.script.specs.declared.fields.Field.{Field}
-use Rattle.script.specs.declared.fields.Field.the-variants as field
-use Rattle.script.specs.declared.fields.Open.{Open}
-use Rattle.script.specs.declared.fields.Open.the-variants as opened
-use Rattle.script.specs.declared.fields.Phased.{Phased}
-use Rattle.script.specs.declared.fields.Phased.the-variants as phased
-use Rattle.script.specs.declared.fields.Sizes.{Sizes}
-use Rattle.script.specs.declared.fields.Sizes.the-variants as sizes
-use Rattle.script.specs.declared.fields.Placed.{Placed}
+use Rattle.script.specs.declared.parted.Field.{Field}
+use Rattle.script.specs.declared.parted.Field.the-variants as field
+use Rattle.script.specs.declared.parted.Open.{Open}
+use Rattle.script.specs.declared.parted.Open.the-variants as opened
+use Rattle.script.specs.declared.parted.Phased.{Phased}
+use Rattle.script.specs.declared.parted.Phased.the-variants as phased
+use Rattle.script.specs.declared.parted.Sizes.{Sizes}
+use Rattle.script.specs.declared.parted.Sizes.the-variants as sizes
+use Rattle.script.specs.declared.parted.Placed.{Placed}
 
 -- `:`
 abbrev pub colon : ℕ

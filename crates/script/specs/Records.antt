@@ -15,8 +15,8 @@ use Rattle.script.specs.Arguments.{most32, most16, most8, onValue, value
 use Rattle.script.specs.Fields.{onRead, spelledPhase, spelledPlace}
 use Rattle.script.specs.declared.arguments.Reason.{Reason}
 use Rattle.script.specs.declared.arguments.Reason.the-variants.{WordsMissing, BadHex, BadPlace, BadPhase}
-use Rattle.script.specs.declared.fields.Phased.{Phased}
-use Rattle.script.specs.declared.fields.Phased.the-variants as phased
+use Rattle.script.specs.declared.parted.Phased.{Phased}
+use Rattle.script.specs.declared.parted.Phased.the-variants as phased
 use Rattle.script.specs.declared.records.PhaseRead.{PhaseRead}
 use Rattle.script.specs.declared.records.PhaseRead.the-variants as phaseread
 use Rattle.script.specs.declared.records.Head.{Head}

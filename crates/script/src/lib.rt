@@ -1,7 +1,7 @@
 // What a line of a script means: the call that it asks for, or what is wrong with it. Every function answers for every line.
 mod arguments;
-mod fields;
 mod orders;
+mod parted;
 mod records;
 
 pub use arguments::Reason;

@@ -1,20 +1,22 @@
 -- A session with a script: what a line makes of the card, and the text that answers it. "Each call writes SW RESPONSE NOTIFICATION
 -- TICKS"; with `explain` it writes for a person instead; a line that cannot be read is named, and the run stops there.
-use Prim.Native.Nat.{ℕ}
+use Prim.Native.Nat.{ℕ, suc}
 use mathlib.Core.Path.{_≡_}
-use mathlib.Core.List.{List, []}
+use mathlib.Core.List.{List, [], _∷_, _++_}
 use mathlib.Core.Bool.{Bool, true, false, cond}
 use Rattle.text.specs.Words.{part}
 use Rattle.text.specs.Hex.{hexLeft}
 use Rattle.text.specs.Put.{Wrote}
+use Rattle.status.specs.StatusWords.{isDone}
+use Rattle.status.specs.declared.Status.the-variants.{Unsound}
 use Rattle.isdp.specs.Aids.{noAid}
 use Rattle.card.specs.Steps.{stepTo}
-use Rattle.card.specs.Answers.{Outcome, Work, handed, outcome}
-use Rattle.card.specs.Fresh.{freshOutcome}
+use Rattle.card.specs.Answers.{Outcome, handed, outcome, known, refusedAt}
+use Rattle.card.specs.Fresh.{zeroCard, freshOutcome}
 use Rattle.card.specs.declared.Card.{Card}
 use Rattle.card.specs.declared.Answer.{Answer}
 use Rattle.manager.specs.Calls.{Call, Call.Command, Call.Keyed, Call.Stored, Call.Finished, Call.Tick, Call.Lost}
-use Rattle.manager.specs.Manager.{step}
+use Rattle.manager.specs.Manager.{work, step}
 use Rattle.script.specs.Orders.{orderOf}
 use Rattle.script.specs.Records.{recordOf}
 use Rattle.script.specs.declared.arguments.Span.{Span}
@@ -37,9 +39,10 @@ bytesOf s span = hexLeft (part s (span .from) (span .to)) mostBytes
 abbrev pub handedIn : Card → Outcome
 handedIn c = outcome c (record { rows = []; step = stepTo c c noAid; response = [] })
 
--- what a line comes to: the card, the text, and whether the run goes on
+-- what a line comes to: the card and whether it is sound, the text, and whether the run goes on
 pub record Said : Type 0 where
   pub card : Card
+  pub sound : Bool
   pub text : List ℕ
   pub goes : Bool
 
@@ -47,31 +50,63 @@ pub record Said : Type 0 where
 abbrev pub spoken : Bool → Answer → List ℕ → List ℕ
 spoken explain a response = cond explain (explainedText a response) (answerLine a response)
 
-abbrev pub told : Bool → Outcome → Said
-told explain o = record { card = o .card; text = spoken explain (handed o) (o .response); goes = true }
+abbrev pub told : Bool → Bool → Outcome → Said
+told explain found o = record { card = o .card; sound = found; text = spoken explain (handed o) (o .response); goes = true }
 
-abbrev pub faulty : Card → ℕ → Reason → Said
-faulty c n reason = record { card = c; text = reasonLine n reason; goes = false }
+-- a call that hands in a card: sound exactly where it is accepted
+abbrev pub toldFirst : Bool → Outcome → Said
+toldFirst explain o = told explain (isDone (o .status)) o
 
-abbrev pub saidOf : Card → Bool → ℕ → List ℕ → Order → Said
-saidOf c explain n s order.Nothing = record { card = c; text = []; goes = true }
-saidOf c explain n s (order.Fresh eid aid capacity quota used volatile) =
-    told explain (freshOutcome (bytesOf s eid) (bytesOf s aid) capacity quota used volatile)
-saidOf c explain n s (order.Command verdict bytes room) = told explain (step c (Command verdict (bytesOf s bytes) room))
-saidOf c explain n s (order.Keyed aid) = told explain (step c (Keyed (bytesOf s aid)))
-saidOf c explain n s (order.Stored aid k) = told explain (step c (Stored (bytesOf s aid) k))
-saidOf c explain n s (order.Finished aid policy) = told explain (step c (Finished (bytesOf s aid) policy))
-saidOf c explain n s order.Tick = told explain (step c Tick)
-saidOf c explain n s order.Lost = told explain (step c Lost)
-saidOf c explain n s order.Record = told explain (handedIn (recordOf s .card))
-saidOf c explain n s (order.Wrong reason) = faulty c n reason
+abbrev pub faulty : Card → Bool → ℕ → Reason → Said
+faulty c found n reason = record { card = c; sound = found; text = reasonLine n reason; goes = false }
+
+-- what an order comes to where `answer` answers the calls on the card; `found` says whether the card was found sound
+abbrev pub saidBy : (Call → Outcome) → Card → Bool → Bool → ℕ → List ℕ → Order → Said
+saidBy answer c found explain n s order.Nothing = record { card = c; sound = found; text = []; goes = true }
+saidBy answer c found explain n s (order.Fresh eid aid capacity quota used volatile) =
+    toldFirst explain (freshOutcome (bytesOf s eid) (bytesOf s aid) capacity quota used volatile)
+saidBy answer c found explain n s (order.Command verdict bytes room) = told explain found (answer (Command verdict (bytesOf s bytes) room))
+saidBy answer c found explain n s (order.Keyed aid) = told explain found (answer (Keyed (bytesOf s aid)))
+saidBy answer c found explain n s (order.Stored aid k) = told explain found (answer (Stored (bytesOf s aid) k))
+saidBy answer c found explain n s (order.Finished aid policy) = told explain found (answer (Finished (bytesOf s aid) policy))
+saidBy answer c found explain n s order.Tick = told explain found (answer Tick)
+saidBy answer c found explain n s order.Lost = told explain found (answer Lost)
+saidBy answer c found explain n s order.Record = toldFirst explain (handedIn (recordOf s .card))
+saidBy answer c found explain n s (order.Wrong reason) = faulty c found n reason
+
+-- a call on a card that was found sound, or was not
+abbrev pub answerTo : Bool → Card → Call → Outcome
+answerTo found c call = cond found (known c (work c call)) (refusedAt 0 c Unsound)
 
 -- line n of a script, on a card
-unfoldable pub lineOf : Card → Bool → ℕ → List ℕ → Said
-lineOf c explain n s = saidOf c explain n s (orderOf s)
+unfoldable pub lineOf : Card → Bool → Bool → ℕ → List ℕ → Said
+lineOf c found explain n s = saidBy (answerTo found c) c found explain n s (orderOf s)
 
--- the same as the code hands it out: the text stands in the lent buffer from its first byte on
-pub record Spoke (old : List ℕ) (x : Said) (r : Turn) (new : List ℕ) : Type 0 where
+-- the same with the manager asked at every call, which asks each time whether the card is sound
+unfoldable pub askedLine : Card → Bool → Bool → ℕ → List ℕ → Said
+askedLine c found explain n s = saidBy (step c) c found explain n s (orderOf s)
+
+-- what a script is answered, line by line from line n on; a line that cannot be read ends it
+unfoldable pub scriptBy : (Card → Bool → Bool → ℕ → List ℕ → Said) → Card → Bool → Bool → ℕ → List (List ℕ) → List ℕ
+scriptBy line c found explain n [] = []
+scriptBy line c found explain n (s ∷ rest) =
+    line c found explain n s .text
+    ++ cond (line c found explain n s .goes)
+    (scriptBy line (line c found explain n s .card) (line c found explain n s .sound) explain (suc n) rest)
+    []
+
+-- "Calls before the first accepted `fresh` or `card` act on the record of zeros", which is not sound
+abbrev pub firstTurn : Turn
+firstTurn = record { card = zeroCard; sound = false; filled = 0; goes = true }
+
+-- every script is answered as if soundness were asked at every call
+abbrev pub AskedOnce : Type 0
+AskedOnce =
+    (explain : Bool) (lines : List (List ℕ)) → scriptBy lineOf zeroCard false explain 1 lines ≡ scriptBy askedLine zeroCard false explain 1 lines
+
+-- a line as the code hands it out: the text stands in the lent buffer from `at` on
+pub record Spoke (old : List ℕ) (at : ℕ) (x : Said) (r : Turn) (new : List ℕ) : Type 0 where
   pub same-card : r .card ≡ x .card
+  pub same-sound : r .sound ≡ x .sound
   pub same-goes : r .goes ≡ x .goes
-  pub wrote : Wrote old 0 (x .text) (r .length) new
+  pub wrote : Wrote old at (x .text) (r .filled) new

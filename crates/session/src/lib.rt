@@ -19,19 +19,36 @@ ghost use mathlib.Core.List.{[]};
 ghost use Prim.Native.Nat.{_≤_};
 ghost use lib.ListN.{length};
 ghost use Rattle.text.specs.Words.{part};
-ghost use Rattle.text.specs.Hex.{hexLeft};
 ghost use Rattle.text.specs.Put.{put, Wrote};
+ghost use Rattle.status.specs.StatusWords.{isDone};
 ghost use Rattle.card.specs.Answers.{handed};
 ghost use Rattle.card.specs.Fresh.{freshOutcome};
-ghost use Rattle.manager.specs.Calls.{Call.Command, Call.Keyed, Call.Stored, Call.Finished};
-ghost use Rattle.manager.specs.Manager.{step};
-ghost use Rattle.session.specs.Session.{bytesOf, handedIn, spoken, told, faulty, saidOf, lineOf, Spoke};
+ghost use Rattle.manager.specs.Calls.{Call.Command, Call.Keyed, Call.Stored, Call.Finished, Call.Tick, Call.Lost};
+ghost use Rattle.script.specs.Records.{recordOf};
+ghost use Rattle.session.specs.Session.{bytesOf, handedIn, answerTo, spoken, told, faulty, firstTurn, lineOf, Spoke};
 
-// The card after a line, how many bytes were written, and whether the run goes on.
+// Where a session stands: its card, whether that card is sound, up to where the lent buffer is filled, and whether the run goes on.
+// Soundness is asked where a card is handed in, and kept: every call leaves a sound card sound.
 pub struct Turn {
     pub card: Card,
-    pub length: usize,
+    pub sound: bool,
+    pub filled: usize,
     pub goes: bool,
+}
+
+impl Turn {
+    // Before the first line.
+    pub fn first() -> Turn
+        ensures { λ r. ⌜ r ≡ firstTurn ⌝ }
+    {
+        let card = Card::zero();
+        Turn {
+            card,
+            sound: false,
+            filled: 0,
+            goes: true,
+        }
+    }
 }
 
 // A byte string of a line has at most so many bytes.
@@ -71,28 +88,55 @@ fn spell(s: &[u8], span: Span, out: &mut [u8; MOST]) -> usize
     }
 }
 
-fn keyed(card: Card, s: &[u8], span: Span) -> Answer
-    ensures { λ r. ⌜ r ≡ handed (step card (Keyed (bytesOf (now (s .entry)) span))) ⌝ }
+fn keyed(card: Card, sound: bool, s: &[u8], span: Span) -> Answer
+    ensures { λ r. ⌜ r ≡ handed (answerTo sound card (Keyed (bytesOf (now (s .entry)) span))) ⌝ }
 {
+    if !sound {
+        return card.unsound();
+    }
     let mut aid = [0u8; MOST];
     let n = spell(s, span, &mut aid);
-    manager::keyed(card, &aid[..n])
+    manager::known_keyed(card, &aid[..n])
 }
 
-fn stored(card: Card, s: &[u8], span: Span, count: u32) -> Answer
-    ensures { λ r. ⌜ r ≡ handed (step card (Stored (bytesOf (now (s .entry)) span) count)) ⌝ }
+fn stored(card: Card, sound: bool, s: &[u8], span: Span, count: u32) -> Answer
+    ensures { λ r. ⌜ r ≡ handed (answerTo sound card (Stored (bytesOf (now (s .entry)) span) count)) ⌝ }
 {
+    if !sound {
+        return card.unsound();
+    }
     let mut aid = [0u8; MOST];
     let n = spell(s, span, &mut aid);
-    manager::stored(card, &aid[..n], count)
+    manager::known_stored(card, &aid[..n], count)
 }
 
-fn finished(card: Card, s: &[u8], span: Span, policy: u8) -> Answer
-    ensures { λ r. ⌜ r ≡ handed (step card (Finished (bytesOf (now (s .entry)) span) policy)) ⌝ }
+fn finished(card: Card, sound: bool, s: &[u8], span: Span, policy: u8) -> Answer
+    ensures { λ r. ⌜ r ≡ handed (answerTo sound card (Finished (bytesOf (now (s .entry)) span) policy)) ⌝ }
 {
+    if !sound {
+        return card.unsound();
+    }
     let mut aid = [0u8; MOST];
     let n = spell(s, span, &mut aid);
-    manager::finished(card, &aid[..n], policy)
+    manager::known_finished(card, &aid[..n], policy)
+}
+
+fn tick(card: Card, sound: bool) -> Answer
+    ensures { λ r. ⌜ r ≡ handed (answerTo sound card Tick) ⌝ }
+{
+    if !sound {
+        return card.unsound();
+    }
+    manager::known_tick(card)
+}
+
+fn lost(card: Card, sound: bool) -> Answer
+    ensures { λ r. ⌜ r ≡ handed (answerTo sound card Lost) ⌝ }
+{
+    if !sound {
+        return card.unsound();
+    }
+    manager::known_lost(card)
 }
 
 fn fresh(
@@ -123,37 +167,49 @@ fn handed_in(card: Card) -> Answer
     card.step_to(card, Aid::none()).answer(0)
 }
 
-// An answer written out, on one line or for a person.
-fn speak(explain: bool, answer: Answer, response: &[u8], out: &mut [u8]) -> Turn
-    ensures { λ r. ⌜ (r .card ≡ answer .card) × ((r .goes ≡ true) × Wrote (now (out .entry)) 0 (spoken explain answer (now (response .entry))) (r .length) (now (out .exit))) ⌝ }
+fn record_in(s: &[u8]) -> Answer
+    ensures { λ r. ⌜ r ≡ handed (handedIn (recordOf (now (s .entry)) .card)) ⌝ }
 {
-    let card = answer.card;
+    let record = read_record(s);
+    let given = record.card;
+    handed_in(given)
+}
+
+// An answer written out, on one line or for a person; up to where the buffer is then filled.
+fn speak(explain: bool, answer: Answer, response: &[u8], out: &mut [u8], at: usize) -> usize
+    ensures { λ r. ⌜ Wrote (now (out .entry)) at (spoken explain answer (now (response .entry))) r (now (out .exit)) ⌝ }
+{
     if explain {
-        let length = write_explained(answer, response, out, 0);
-        return Turn {
-            card,
-            length,
-            goes: true,
-        };
+        return write_explained(answer, response, out, at);
     }
-    let length = write_answer(answer, response, out, 0);
+    write_answer(answer, response, out, at)
+}
+
+// An answer without a response.
+fn tell(explain: bool, sound: bool, answer: Answer, out: &mut [u8], at: usize) -> Turn
+    ensures { λ r. ⌜ (r .card ≡ answer .card) × ((r .sound ≡ sound) × ((r .goes ≡ true) × Wrote (now (out .entry)) at (spoken explain answer []) (r .filled) (now (out .exit)))) ⌝ }
+{
+    let none = [0u8; 1];
+    let filled = speak(explain, answer, &none[..0], out, at);
+    let card = answer.card;
     Turn {
         card,
-        length,
+        sound,
+        filled,
         goes: true,
     }
 }
 
-// An answer without a response.
-fn tell(explain: bool, answer: Answer, out: &mut [u8]) -> Turn
-    ensures { λ r. ⌜ (r .card ≡ answer .card) × ((r .goes ≡ true) × Wrote (now (out .entry)) 0 (spoken explain answer []) (r .length) (now (out .exit))) ⌝ }
+// An answer of a call that hands in a card: it is sound exactly where the call is accepted.
+fn tell_first(explain: bool, answer: Answer, out: &mut [u8], at: usize) -> Turn
+    ensures { λ r. ⌜ (r .card ≡ answer .card) × ((r .sound ≡ isDone (answer .status)) × ((r .goes ≡ true) × Wrote (now (out .entry)) at (spoken explain answer []) (r .filled) (now (out .exit)))) ⌝ }
 {
-    let none = [0u8; 1];
-    speak(explain, answer, &none[..0], out)
+    let status = answer.status;
+    tell(explain, status.is_done(), answer, out, at)
 }
 
 fn command(
-    card: Card,
+    turn: Turn,
     explain: bool,
     verdict: u8,
     s: &[u8],
@@ -162,39 +218,60 @@ fn command(
     out: &mut [u8],
 ) -> Turn
     requires { ⌜ room ≤ 1024 ⌝ }
-    ensures { λ r. ⌜ Spoke (now (out .entry)) (told explain (step card (Command verdict (bytesOf (now (s .entry)) span) room))) r (now (out .exit)) ⌝ }
+    ensures { λ r. ⌜ Spoke (now (out .entry)) (turn .filled) (told explain (turn .sound) (answerTo (turn .sound) (turn .card) (Command verdict (bytesOf (now (s .entry)) span) room))) r (now (out .exit)) ⌝ }
 {
+    let card = turn.card;
+    if !turn.sound {
+        return tell(explain, false, card.unsound(), out, turn.filled);
+    }
     let mut bytes = [0u8; MOST];
     let n = spell(s, span, &mut bytes);
     let mut buffer = [0u8; ROOM];
-    let answer = manager::command(card, verdict, &bytes[..n], &mut buffer[..room]);
+    let answer = manager::known_command(card, verdict, &bytes[..n], &mut buffer[..room]);
     let length = answer.length;
-    speak(explain, answer, &buffer[..length], out)
+    let filled = speak(explain, answer, &buffer[..length], out, turn.filled);
+    let after = answer.card;
+    Turn {
+        card: after,
+        sound: true,
+        filled,
+        goes: true,
+    }
 }
 
 // A line that cannot be read: it is named, and the run stops.
-fn fault(card: Card, number: u64, reason: Reason, out: &mut [u8]) -> Turn
-    ensures { λ r. ⌜ Spoke (now (out .entry)) (faulty card number reason) r (now (out .exit)) ⌝ }
+fn fault(turn: Turn, number: u64, reason: Reason, out: &mut [u8]) -> Turn
+    ensures { λ r. ⌜ Spoke (now (out .entry)) (turn .filled) (faulty (turn .card) (turn .sound) number reason) r (now (out .exit)) ⌝ }
 {
-    let length = write_reason(number, reason, out, 0);
+    let filled = write_reason(number, reason, out, turn.filled);
+    let card = turn.card;
     Turn {
         card,
-        length,
+        sound: turn.sound,
+        filled,
         goes: false,
     }
 }
 
+// A line that asks nothing.
+fn passed_over(turn: Turn) -> Turn
+    ensures { λ r. ⌜ r ≡ record { card = turn .card; sound = turn .sound; filled = turn .filled; goes = true } ⌝ }
+{
+    let mut after = turn;
+    after.goes = true;
+    after
+}
+
 // Line `number` of a script.
-pub fn take_line(card: Card, explain: bool, number: u64, s: &[u8], out: &mut [u8]) -> Turn
-    ensures { λ r. ⌜ Spoke (now (out .entry)) (lineOf card explain number (now (s .entry))) r (now (out .exit)) ⌝ }
+pub fn take_line(turn: Turn, explain: bool, number: u64, s: &[u8], out: &mut [u8]) -> Turn
+    ensures { λ r. ⌜ Spoke (now (out .entry)) (turn .filled) (lineOf (turn .card) (turn .sound) explain number (now (s .entry))) r (now (out .exit)) ⌝ }
 {
     let order = read_line(s);
+    let card = turn.card;
+    let sound = turn.sound;
+    let at = turn.filled;
     match order {
-        Order::Nothing => Turn {
-            card,
-            length: 0,
-            goes: true,
-        },
+        Order::Nothing => passed_over(turn),
         Order::Fresh {
             eid,
             aid,
@@ -202,26 +279,31 @@ pub fn take_line(card: Card, explain: bool, number: u64, s: &[u8], out: &mut [u8
             quota,
             used,
             volatile,
-        } => tell(
+        } => tell_first(
             explain,
             fresh(s, eid, aid, capacity, quota, used, volatile),
             out,
+            at,
         ),
         Order::Command {
             verdict,
             bytes,
             room,
-        } => command(card, explain, verdict, s, bytes, room, out),
-        Order::Keyed { aid } => tell(explain, keyed(card, s, aid), out),
-        Order::Stored { aid, n } => tell(explain, stored(card, s, aid, n), out),
-        Order::Finished { aid, policy } => tell(explain, finished(card, s, aid, policy), out),
-        Order::Tick => tell(explain, manager::tick(card), out),
-        Order::Lost => tell(explain, manager::lost(card), out),
-        Order::Record => {
-            let record = read_record(s);
-            let given = record.card;
-            tell(explain, handed_in(given), out)
+        } => command(turn, explain, verdict, s, bytes, room, out),
+        Order::Keyed { aid } => tell(explain, sound, keyed(card, sound, s, aid), out, at),
+        Order::Stored { aid, n } => tell(explain, sound, stored(card, sound, s, aid, n), out, at),
+        Order::Finished { aid, policy } => {
+            tell(
+                explain,
+                sound,
+                finished(card, sound, s, aid, policy),
+                out,
+                at,
+            )
         }
-        Order::Wrong(reason) => fault(card, number, reason, out),
+        Order::Tick => tell(explain, sound, tick(card, sound), out, at),
+        Order::Lost => tell(explain, sound, lost(card, sound), out, at),
+        Order::Record => tell_first(explain, record_in(s), out, at),
+        Order::Wrong(reason) => fault(turn, number, reason, out),
     }
 }

@@ -1,63 +1,68 @@
-// teapot: runs a script of calls through the manager and writes an answer for each, as soon as its line has arrived.
-// The script is the file named as argument, or standard input; `explain` before it writes for a person. What a line means and
-// what is written of it is proved below, in `session`; here only bytes are moved.
-use answers::write_reason;
-use card::Card;
+// teapot: runs a script of calls through the manager and writes an answer for each; answers are collected while lines are at hand, and
+// written out before the program waits for more. The script is the file named as argument, or standard input; `explain` before it
+// writes for a person. What a line means and what is written of it is proved below, in `session`; here only bytes are moved.
 use input::Arrival;
 use input::fill;
 use libc::STDIN_FILENO;
 use libc::STDOUT_FILENO;
 use lines::Found;
+use lines::LONGEST;
 use lines::Window;
 use lines::next;
-use script::Reason;
+use session::Turn;
 use session::take_line;
+ghost use mathlib.Core.Path.{_≡_};
+ghost use Prim.Native.Nat.{_≤_, _<_};
+ghost use lib.ListN.{length};
+
+// The bytes collected before they are written out, and the room that is kept for the answer of one line.
+const OUT: usize = 16384;
+
+const ANSWER: usize = 4096;
 
 struct State {
-    card: Card,
     window: Window,
     number: u64,
-    explain: bool,
     last: bool,
     goes: bool,
 }
 
-fn following(number: u64) -> u64 {
-    if number == 18446744073709551615 {
-        return number;
-    }
-    number + 1
+// The next line, by its place in the window, and how much of the output is still to be written. A step that found none has the empty
+// line, which asks nothing.
+struct Step {
+    state: State,
+    from: usize,
+    to: usize,
+    filled: usize,
 }
 
-// A line answered.
-fn answered(state: State, s: &[u8]) -> State {
-    let mut out = [0u8; 4096];
-    let number = following(state.number);
-    let card = state.card;
-    let turn = take_line(card, state.explain, number, s, &mut out);
-    let n = turn.length;
-    io::write_all(STDOUT_FILENO, &out[..n]);
-    let after = turn.card;
-    let window = state.window;
-    State {
-        card: after,
-        window,
-        number,
-        explain: state.explain,
-        last: state.last,
-        goes: turn.goes,
-    }
-}
-
-// A line of which not even the end has come.
-fn too_long(state: State) -> State {
-    let mut out = [0u8; 64];
-    let number = following(state.number);
-    let n = write_reason(number, Reason::TooLong, &mut out, 0);
-    io::write_all(STDOUT_FILENO, &out[..n]);
+// The line is counted.
+fn counted(state: State) -> State {
     let mut after = state;
-    after.goes = false;
+    if after.number < 18446744073709551615 {
+        after.number += 1;
+    }
     after
+}
+
+// The first n bytes written out; none are left to write.
+fn write_out(out: &[u8], n: usize) -> usize
+    requires { ⌜ n ≤ length (now out) ⌝ }
+    ensures { λ r. ⌜ r ≡ 0 ⌝ }
+{
+    io::write_all(STDOUT_FILENO, &out[..n]);
+    0
+}
+
+// The same where the room for one more answer is short.
+fn make_room(out: &[u8], n: usize) -> usize
+    requires { ⌜ n ≤ length (now out) ⌝ }
+    ensures { λ r. ⌜ r ≤ length (now (out .entry)) ⌝ }
+{
+    if OUT - ANSWER < n {
+        return write_out(out, n);
+    }
+    n
 }
 
 // More of the script, or its end; a read that fails is told.
@@ -86,8 +91,11 @@ fn more(state: State, fd: i32, buf: &mut [u8]) -> State {
     }
 }
 
-// One step of the run.
-fn step(state: State, fd: i32, buf: &mut [u8]) -> State {
+// The next line, or more of the script. A line that is too long is told by as many bytes as no line may have.
+fn seek(state: State, fd: i32, buf: &mut [u8], out: &[u8], filled: usize) -> Step
+    requires { ⌜ (4096 < length (now buf)) × (filled ≤ length (now out)) ⌝ }
+    ensures { λ r. ⌜ (r .from ≤ r .to) × ((r .to ≤ length (now (buf .exit))) × (r .filled ≤ length (now (out .entry)))) ⌝ }
+{
     let window = state.window;
     let taken = next(window, buf, state.last);
     let moved = taken.window;
@@ -95,32 +103,62 @@ fn step(state: State, fd: i32, buf: &mut [u8]) -> State {
     let mut after = state;
     after.window = moved;
     match found {
-        Found::Line { from, to } => answered(after, &buf[from..to]),
-        Found::TooLong => too_long(after),
-        Found::More => more(after, fd, buf),
+        Found::Line { from, to } => Step {
+            state: counted(after),
+            from,
+            to,
+            filled: make_room(out, filled),
+        },
+        Found::TooLong => Step {
+            state: counted(after),
+            from: 0,
+            to: LONGEST + 1,
+            filled: make_room(out, filled),
+        },
+        Found::More => {
+            let none = write_out(out, filled);
+            Step {
+                state: more(after, fd, buf),
+                from: 0,
+                to: 0,
+                filled: none,
+            }
+        }
         Found::End => {
             after.goes = false;
-            after
+            Step {
+                state: after,
+                from: 0,
+                to: 0,
+                filled,
+            }
         }
     }
 }
 
+// A line at a time, until the script ends or a line cannot be read.
 fn run(fd: i32, explain: bool) {
     let mut buf = [0u8; 16384];
+    let mut out = [0u8; OUT];
+    let mut turn = Turn::first();
     let mut state = State {
-        card: Card::zero(),
         window: Window::fresh(),
         number: 0,
-        explain,
         last: false,
         goes: true,
     };
     let mut turns: u64 = 18446744073709551615;
     while 0 < turns {
-        if !state.goes {
+        let step = seek(state, fd, &mut buf, &out, turn.filled);
+        let from = step.from;
+        let to = step.to;
+        state = step.state;
+        turn.filled = step.filled;
+        turn = take_line(turn, explain, state.number, &buf[from..to], &mut out);
+        if !(state.goes & turn.goes) {
+            write_out(&out, turn.filled);
             return;
         }
-        state = step(state, fd, &mut buf);
         turns -= 1;
     }
 }

@@ -1,5 +1,6 @@
 -- `manager::command`: a card that is not sound is stopped by the first row; on a sound one the known call answers the same.
 use mathlib.Core.Path.{ap, sym, _∙_}
+use native.Mathlib.Omega.{arith}
 use lib.ListN.{length}
 use borrow.Author.Tests.{not-true, not-false}
 use Rattle.text.proofs.PutLaws.{put-none}
@@ -23,7 +24,7 @@ unfolding step
 returns c = let e = c .before in
     let s = e .before .before .before .before in
     let z = stopped (s .args .card) (work (s .args .card) (Command (s .args .verdict) (s .args .bytes .now) (length (s .args .buf .now)))) (sym (e .before .is-sound .ensures) ∙ not-true _ (e .if1 .taken)) in
-    record { answer = c .unsound .ensures ∙ ap handed (sym z); content = rw z (sym (put-none _ 0)) }
+    (record { answer = c .unsound .ensures ∙ ap handed (sym z); content = rw z (sym (put-none _ 0)) }, rw (c .unsound .ensures) (omega arith))
 
 known-command-requires : tie.Need-known-command-requires
 known-command-requires c κs = search needs

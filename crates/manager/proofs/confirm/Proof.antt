@@ -18,7 +18,7 @@ refused-requires c κs = search needs
 returns : tie.Need-returns
 unfolding wordOf
 returns c = let e = sym (c .before .before .is-quiet .ensures) ∙ c .before .if1 .taken in
-    record { answer = rw e (c .refused .ensures); content = rw e (sym (put-none _ 0)) }
+    (record { answer = rw e (c .refused .ensures); content = rw e (sym (put-none _ 0)) }, rw (c .refused .ensures) (omega arith))
 
 is-outstanding-requires : tie.Need-is-outstanding-requires
 is-outstanding-requires c κs = search needs
@@ -30,7 +30,7 @@ returns-2 : tie.Need-returns-2
 unfolding wordOf
 returns-2 c = let e = sym (c .before .before .before .before .is-quiet .ensures) ∙ c .before .before .before .if1 .left in
     let f = sym (c .before .before .is-outstanding .ensures) ∙ not-true _ (c .before .if2 .taken) in
-    record { answer = rw (e, f) (c .refused2 .ensures); content = rw (e, f) (sym (put-none _ 0)) }
+    (record { answer = rw (e, f) (c .refused2 .ensures); content = rw (e, f) (sym (put-none _ 0)) }, rw (c .refused2 .ensures) (omega arith))
 
 confirmed-requires : tie.Need-confirmed-requires
 confirmed-requires c κs = search needs
@@ -52,7 +52,7 @@ returns-3 c = let t = c .before .before .before .before .before .before in
     let f = sym (q .before .is-outstanding .ensures) ∙ not-false _ (q .if2 .left) in
     let w = c .before .before .before .write-deleted .ensures in
     let n = whole (w .0) (let k = w .1 in omega arith) in
-    record { answer = rw (e, f) (rw (c .answer .ensures, n, t .confirmed .ensures)); content = rw (e, f, ← (t .confirmed .ensures)) (w .0 .content) }
+    (record { answer = rw (e, f) (rw (c .answer .ensures, n, t .confirmed .ensures)); content = rw (e, f, ← (t .confirmed .ensures)) (w .0 .content) }, rw (c .answer .ensures, n) (let k = w .1 in omega arith))
 
 pub confirm-spec : {M : Type 1} → statement M
 confirm-spec =

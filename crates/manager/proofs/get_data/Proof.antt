@@ -25,7 +25,7 @@ returns : tie.Need-returns
 unfolding wordOf
 returns c = let w = c .before .before .before .before .before .write-data .ensures in
     let n = whole w (let k = data-length (c .before .before .before .before .before .before .before .before .args .card) in omega arith) in
-    record { answer = rw (c .answer .ensures, c .before .step-to .ensures, n); content = w .content }
+    (record { answer = rw (c .answer .ensures, c .before .step-to .ensures, n); content = w .content }, rw (c .answer .ensures, n, data-length (c .before .before .before .before .before .before .before .before .args .card)) (omega arith))
 
 pub get-data-spec : {M : Type 1} → statement M
 get-data-spec =

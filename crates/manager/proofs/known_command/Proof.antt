@@ -18,7 +18,7 @@ returns : tie.Need-returns
 unfolding wordOf
 returns c = let s = c .before .before .before .before in
     let e = lt-ltb (length (s .args .buf .now)) leastBuffer (c .before .if1 .taken) in
-    record { answer = rw e (c .refused .ensures); content = rw e (sym (put-none _ 0)) }
+    (record { answer = rw e (c .refused .ensures); content = rw e (sym (put-none _ 0)) }, rw (c .refused .ensures) (omega arith))
 
 read-requires : tie.Need-read-requires
 read-requires c κs = search needs
@@ -39,7 +39,7 @@ returns-2 : tie.Need-returns-2
 returns-2 c = let r = c .before .before .before .before in
     let s = r .before .before .before .before in
     let e = refused-read (s .args .card) (s .args .verdict) (s .args .bytes .now) (length (s .args .buf .now)) (omega arith) _ (sym (c .before .before .reading .given .1) ∙ r .read .ensures) in
-    record { answer = rw e (c .refused2 .ensures); content = rw e (sym (put-none _ 0)) }
+    (record { answer = rw e (c .refused2 .ensures); content = rw e (sym (put-none _ 0)) }, rw (c .refused2 .ensures) (omega arith))
 
 same-length : tie.Need-same-length
 same-length c = search needs

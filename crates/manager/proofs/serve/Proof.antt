@@ -1,8 +1,9 @@
 -- `manager::serve`: each arm cites the promise of the step that it calls; 00 is written where the answer tells one byte.
 use Rattle.steps.specs.Asked.{Act.enable, Act.disable, Act.delete, Act.masterDelete, Act.setFallBack, Asked.create, Asked.on}
 use Rattle.steps.specs.Steps.{askedWork}
+use native.Mathlib.Omega.{arith}
 use mathlib.Core.Path.{refl, _∙_}
-use Rattle.manager.proofs.Buffers.{zero-told, none-told, put-same}
+use Rattle.manager.proofs.Buffers.{zero-told, zero-room, none-told, none-room, put-same}
 use borrow.Author.Needs.{needs}
 use Rattle.manager.proofs.serve.Statement.{statement}
 use Rattle.manager.proofs.serve.Tie as tie
@@ -107,25 +108,25 @@ returns c = let g = c .before .before .before .before .before .before .before .r
     let k = c .before .before .acknowledged .ensures in
     let s = c .before .before .before .before .before .before .before .before .before .before .before in
     let w = askedWork (s .args .card) (create (x .result .now) (g .0 .1 .0)) in
-    rw (g .1, ← (x .ensures)) (record { answer = k .0 ∙ e; content = put-same _ _ _ _ (k .1) (zero-told (s .args .card) w _ refl e) })
+    rw (g .1, ← (x .ensures)) (record { answer = k .0 ∙ e; content = put-same _ _ _ _ (k .1) (zero-told (s .args .card) w _ refl e) }, zero-room _ (s .args .card) w _ refl (k .0 ∙ e) (omega arith))
 
 returns-2 : tie.Need-returns-2
 returns-2 c = let g = c .before .before .before .request2 .given in
     let x = c .before .part-of2 in
     let s = c .before .before .before .before .before .before .before in
-    rw (g .1, ← (x .ensures)) (record { answer = c .enable .ensures; content = none-told _ (s .args .card) (askedWork (s .args .card) (on (x .result .now) enable)) refl })
+    rw (g .1, ← (x .ensures)) (record { answer = c .enable .ensures; content = none-told _ (s .args .card) (askedWork (s .args .card) (on (x .result .now) enable)) refl }, none-room _ (s .args .card) (askedWork (s .args .card) (on (x .result .now) enable)) _ refl (c .enable .ensures))
 
 returns-3 : tie.Need-returns-3
 returns-3 c = let g = c .before .before .before .request3 .given in
     let x = c .before .part-of3 in
     let s = c .before .before .before .before .before .before .before in
-    rw (g .1, ← (x .ensures)) (record { answer = c .disable .ensures; content = none-told _ (s .args .card) (askedWork (s .args .card) (on (x .result .now) disable)) refl })
+    rw (g .1, ← (x .ensures)) (record { answer = c .disable .ensures; content = none-told _ (s .args .card) (askedWork (s .args .card) (on (x .result .now) disable)) refl }, none-room _ (s .args .card) (askedWork (s .args .card) (on (x .result .now) disable)) _ refl (c .disable .ensures))
 
 returns-4 : tie.Need-returns-4
 returns-4 c = let g = c .before .before .before .request4 .given in
     let x = c .before .part-of4 in
     let s = c .before .before .before .before .before .before .before in
-    rw (g .1, ← (x .ensures)) (record { answer = c .set-fall-back .ensures; content = none-told _ (s .args .card) (askedWork (s .args .card) (on (x .result .now) setFallBack)) refl })
+    rw (g .1, ← (x .ensures)) (record { answer = c .set-fall-back .ensures; content = none-told _ (s .args .card) (askedWork (s .args .card) (on (x .result .now) setFallBack)) refl }, none-room _ (s .args .card) (askedWork (s .args .card) (on (x .result .now) setFallBack)) _ refl (c .set-fall-back .ensures))
 
 same-length-2 : tie.Need-same-length-2
 same-length-2 c = search needs
@@ -137,7 +138,7 @@ returns-5 c = let g = c .before .before .before .before .before .before .before 
     let k = c .before .before .acknowledged2 .ensures in
     let s = c .before .before .before .before .before .before .before .before .before .before .before in
     let w = askedWork (s .args .card) (on (x .result .now) delete) in
-    rw (g .1, ← (x .ensures)) (record { answer = k .0 ∙ e; content = put-same _ _ _ _ (k .1) (zero-told (s .args .card) w _ refl e) })
+    rw (g .1, ← (x .ensures)) (record { answer = k .0 ∙ e; content = put-same _ _ _ _ (k .1) (zero-told (s .args .card) w _ refl e) }, zero-room _ (s .args .card) w _ refl (k .0 ∙ e) (omega arith))
 
 same-length-3 : tie.Need-same-length-3
 same-length-3 c = search needs
@@ -149,7 +150,7 @@ returns-6 c = let g = c .before .before .before .before .before .before .before 
     let k = c .before .before .acknowledged3 .ensures in
     let s = c .before .before .before .before .before .before .before .before .before .before .before in
     let w = askedWork (s .args .card) (on (x .result .now) (masterDelete (s .args .verdict))) in
-    rw (g .1, ← (x .ensures)) (record { answer = k .0 ∙ e; content = put-same _ _ _ _ (k .1) (zero-told (s .args .card) w _ refl e) })
+    rw (g .1, ← (x .ensures)) (record { answer = k .0 ∙ e; content = put-same _ _ _ _ (k .1) (zero-told (s .args .card) w _ refl e) }, zero-room _ (s .args .card) w _ refl (k .0 ∙ e) (omega arith))
 
 same-length-4 : tie.Need-same-length-4
 same-length-4 c = search needs

@@ -24,7 +24,7 @@ returns : tie.Need-returns
 unfolding wordOf
 returns c = let w = c .before .before .before .before .before .write-status .ensures in
     let n = whole (w .0) (let k = w .1 in omega arith) in
-    record { answer = rw (c .answer .ensures, c .before .step-to .ensures, n); content = w .0 .content }
+    (record { answer = rw (c .answer .ensures, c .before .step-to .ensures, n); content = w .0 .content }, rw (c .answer .ensures, n) (let k = w .1 in omega arith))
 
 pub status-of-all-spec : {M : Type 1} → statement M
 status-of-all-spec =

@@ -27,7 +27,7 @@ returns c = let po = c .before .before .before in
     let s = po .before .before .before in
     let card = s .args .card in
     let z = held-none (card .places) (s .args .aid .now) (full card _ (s .good .0)) (sym (po .place-of .ensures) ∙ c .before .enum-told .given .1) in
-    record { answer = rw z (c .refused .ensures); content = rw z (sym (put-none _ 0)) }
+    (record { answer = rw z (c .refused .ensures); content = rw z (sym (put-none _ 0)) }, rw (c .refused .ensures) (omega arith))
 
 write-one-status-requires : tie.Need-write-one-status-requires
 write-one-status-requires c κs = search needs
@@ -53,7 +53,7 @@ returns-2 c = let k = c .before .before .before .before .before .before .before 
     let h = held-some (card .places) (s .args .aid .now) _ (full card _ (s .good .0)) (sym (po .place-of .ensures) ∙ k .before .t .given .1) in
     let w = c .before .before .before .before .before .write-one-status .ensures in
     let n = whole (w .0) (let u = w .1 in omega arith) in
-    record { answer = rw (h .1) (rw (c .answer .ensures, c .before .step-to .ensures, n, h .0)); content = rw (h .1, h .0) (w .0 .content) }
+    (record { answer = rw (h .1) (rw (c .answer .ensures, c .before .step-to .ensures, n, h .0)); content = rw (h .1, h .0) (w .0 .content) }, rw (c .answer .ensures, n) (let u = w .1 in omega arith))
 
 pub status-of-one-spec : {M : Type 1} → statement M
 status-of-one-spec =

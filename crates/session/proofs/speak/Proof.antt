@@ -1,11 +1,6 @@
-use mathlib.Core.Path.{_≡_, refl}
 use borrow.Author.Needs.{needs}
 use Rattle.session.proofs.speak.Statement.{statement}
 use Rattle.session.proofs.speak.Tie as tie
-use Rattle.session.proofs.speak.Reads as reads
-use Rattle.session.proofs.speak.Lts as lts
-use Rattle.answers.proofs.write_explained.Reads as write-explained-reads
-use Rattle.answers.proofs.write_answer.Reads as write-answer-reads
 
 write-explained-requires : tie.Need-write-explained-requires
 write-explained-requires c κs = search needs
@@ -14,7 +9,8 @@ same-length : tie.Need-same-length
 same-length c = search needs
 
 returns : tie.Need-returns
-returns c = (refl, (refl, rw (c .before .before .before .before .if1 .taken) (c .before .before .write-explained .ensures .0)))
+returns c =
+    rw (c .before .before .before .before .if1 .taken) (c .before .before .write-explained .ensures .0)
 
 write-answer-requires : tie.Need-write-answer-requires
 write-answer-requires c κs = search needs
@@ -23,7 +19,8 @@ same-length-2 : tie.Need-same-length-2
 same-length-2 c = search needs
 
 returns-2 : tie.Need-returns-2
-returns-2 c = (refl, (refl, rw (c .before .before .before .before .if1 .left) (c .before .before .write-answer .ensures .0)))
+returns-2 c =
+    rw (c .before .before .before .before .if1 .left) (c .before .before .write-answer .ensures .0)
 
 pub speak-spec : {M : Type 1} → statement M
 speak-spec =

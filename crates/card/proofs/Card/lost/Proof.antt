@@ -1,4 +1,5 @@
 use Rattle.card.specs.Steps.{lostStep}
+use Rattle.card.specs.Notifications.{noticeOf}
 use borrow.Author.Needs.{needs}
 use Rattle.card.proofs.Card.lost.Statement.{statement}
 use Rattle.card.proofs.Card.lost.Tie as tie
@@ -6,15 +7,15 @@ use Rattle.card.proofs.Card.lost.Tie as tie
 cut-off-requires : tie.Need-cut-off-requires
 cut-off-requires c κs = search needs
 
+noticed-requires : tie.Need-noticed-requires
+noticed-requires c κs = search needs
+
 none-requires : tie.Need-none-requires
 none-requires c κs = search needs
 
-step-to-requires : tie.Need-step-to-requires
-step-to-requires c κs = search needs
-
 returns : tie.Need-returns
-unfolding lostStep
-returns c = rw (c .step-to .ensures, c .before .none .ensures, c .before .before .cut-off .ensures)
+unfolding lostStep noticeOf
+returns c = rw (c .none .ensures, c .before .noticed .ensures, c .before .before .cut-off .ensures)
 
 pub lost-spec : {M : Type 1} → statement M
-lost-spec = tie.close (tie.spec cut-off-requires none-requires step-to-requires returns)
+lost-spec = tie.close (tie.spec cut-off-requires noticed-requires none-requires returns)

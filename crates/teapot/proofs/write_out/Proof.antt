@@ -1,0 +1,21 @@
+use mathlib.Core.Path.{sym}
+use Prim.Native.Nat.{_≤_}
+use denote.Ref.{now}
+use lib.ListN.{length}
+use lib.Seq.{length-take-le}
+use borrow.Author.Needs.{needs}
+use Rattle.teapot.proofs.write_out.Statement.{statement}
+use Rattle.teapot.proofs.write_out.Tie as tie
+
+slice-aggregate-write-all : tie.Need-slice-aggregate-write-all
+slice-aggregate-write-all c = let h : c .before .before .args .n ≤ length (now (c .before .before .args .out)) = search needs in
+    sym (length-take-le _ _ h)
+
+write-all-requires : tie.Need-write-all-requires
+write-all-requires c κs = search needs
+
+returns : tie.Need-returns
+returns c = search needs
+
+pub write-out-spec : {M : Type 1} → statement M
+write-out-spec = tie.close (tie.spec slice-aggregate-write-all write-all-requires returns)
