@@ -1,5 +1,10 @@
 // The manager of the root domain: every command and every further call, answered whole.
 // Each call asks first whether the card is sound; `known_..` is the same for a card known to be, for runs of many calls.
+pub use calls::known_finished;
+pub use calls::known_keyed;
+pub use calls::known_lost;
+pub use calls::known_stored;
+pub use calls::known_tick;
 use card::Answer;
 use card::Card;
 use command::Reading;
@@ -163,41 +168,6 @@ pub fn fresh(eid: &[u8], aid: &[u8], capacity: u32, quota: u32, used: u32, volat
     ensures { λ r. ⌜ r ≡ handed (freshOutcome (now (eid .entry)) (now (aid .entry)) capacity quota used volatile) ⌝ }
 {
     Card::fresh(eid, aid, capacity, quota, used, volatile)
-}
-
-// Keyed, on a card known to be sound.
-pub fn known_keyed(card: Card, aid: &[u8]) -> Answer
-    ensures { λ r. ⌜ r ≡ handed (known card (work card (Keyed (now (aid .entry))))) ⌝ }
-{
-    calls::known_keyed(card, aid)
-}
-
-// Stored, on a card known to be sound.
-pub fn known_stored(card: Card, aid: &[u8], n: u32) -> Answer
-    ensures { λ r. ⌜ r ≡ handed (known card (work card (Stored (now (aid .entry)) n))) ⌝ }
-{
-    calls::known_stored(card, aid, n)
-}
-
-// Finished, on a card known to be sound.
-pub fn known_finished(card: Card, aid: &[u8], policy: u8) -> Answer
-    ensures { λ r. ⌜ r ≡ handed (known card (work card (Finished (now (aid .entry)) policy))) ⌝ }
-{
-    calls::known_finished(card, aid, policy)
-}
-
-// A tick, on a card known to be sound.
-pub fn known_tick(card: Card) -> Answer
-    ensures { λ r. ⌜ r ≡ handed (known card (work card Tick)) ⌝ }
-{
-    calls::known_tick(card)
-}
-
-// Network lost, on a card known to be sound.
-pub fn known_lost(card: Card) -> Answer
-    ensures { λ r. ⌜ r ≡ handed (known card (work card Lost)) ⌝ }
-{
-    calls::known_lost(card)
 }
 
 pub fn keyed(card: Card, aid: &[u8]) -> Answer

@@ -7,10 +7,10 @@ use mathlib.Core.Bool.{Bool, true}
 use native.Mathlib.Omega.{arith}
 use lib.ListN.{length, take, drop, length-append}
 use lib.Seq.{take-append-seam, take-append-le}
-use Rattle.choice.proofs.Branches.{each, by-lt}
+use Rattle.choice.proofs.Branches.{by-lt}
 use Rattle.text.specs.Put.{put, Wrote}
 use Rattle.text.specs.Words.{part}
-use Rattle.text.specs.Hex.{isHex, spelled, hexLeft}
+use Rattle.text.specs.Hex.{spelled, spelledIn}
 use Rattle.text.proofs.PutLaws.{put-front, length-put, wrote-as}
 use Rattle.card.specs.Answers.{Outcome, handed, known}
 use Rattle.card.specs.declared.Card.{Card}
@@ -31,15 +31,11 @@ taken-front l vs rest h =
     take-append-le (length vs) (put l 0 vs) rest k ∙ taken-put l vs h
 
 -- the bytes that a word spells
-left-fits : (w : List ℕ) (room : ℕ) → length (hexLeft w room) ≤ room
-unfolding hexLeft
-left-fits w room =
-    each (λ (x : List ℕ). length x ≤ room) (isHex w)
-    (λ e. by-lt (λ (x : List ℕ). length x ≤ room) room (length (spelled w)) (λ k. omega arith) (λ k. omega arith))
-    (λ e. omega arith)
+in-fits : (w : List ℕ) (room : ℕ) → length (spelledIn w room) ≤ room
+in-fits w room = by-lt (λ (x : List ℕ). length x ≤ room) room (length (spelled w)) (λ k. omega arith) (λ k. omega arith)
 
 pub bytes-fit : (s : List ℕ) (span : Span) → length (bytesOf s span) ≤ mostBytes
-bytes-fit s span = left-fits (part s (span .from) (span .to)) mostBytes
+bytes-fit s span = in-fits (part s (span .from) (span .to)) mostBytes
 
 -- a word's bytes, in a buffer for a line: the slice of so many bytes can be taken, has that size, and is the word's bytes
 module _ (s : List ℕ) (span : Span) (l : List ℕ) {m : List ℕ} {n : ℕ}

@@ -1,16 +1,11 @@
 -- The word of a line that a span names, where it lies in the line and where it does not. Assumes nothing.
-use mathlib.Core.Path.{_≡_, refl, sym, _∙_}
+use mathlib.Core.Path.{_≡_, sym, _∙_}
 use Prim.Native.Nat.{ℕ, _-_, _≤_, _<_}
 use native.Mathlib.Omega.{arith}
 use mathlib.Core.List.{List, []}
-use mathlib.Core.Bool.{Bool, true, false}
 use lib.ListN.{length, take, drop, length-drop, drop-of-length-le}
 use lib.Seq.{take-all, take-nil}
-use Rattle.choice.specs.Choice.{pick, isBelow}
 use Rattle.text.specs.Words.{part}
-use Rattle.text.specs.Hex.{isHex, spelled, hexReadOf, hexLeft}
-use Rattle.text.specs.declared.hex.HexRead.{HexRead}
-use Rattle.text.specs.declared.hex.HexRead.the-variants.{Bytes, NoRoom, Wrong}
 
 -- nothing is left past the end
 past-end : (s : List ℕ) → take (length s - length s) (drop (length s) s) ≡ []
@@ -32,22 +27,3 @@ pub word-rest : (s : List ℕ) (a e : ℕ) → a ≤ length s → length s < e �
 word-rest s a e h k =
     let l = length-drop a s in
     take-all (length s - a) (drop a s) (omega arith) ∙ sym (take-all (e - a) (drop a s) (omega arith))
-
--- what reading a hex word leaves has the length that it tells, and is nothing where it is refused
-abbrev pub LeftIs : HexRead → List ℕ → Type 0
-LeftIs (Bytes n) l = n ≡ length l
-LeftIs NoRoom l = 0 ≡ length l
-LeftIs Wrong l = 0 ≡ length l
-
-left-case : (b d : Bool) (l : List ℕ) → LeftIs (pick b (pick d NoRoom (Bytes (length l))) Wrong) (pick b (pick d [] l) [])
-unfolding pick
-left-case true true l = refl
-left-case true false l = refl
-left-case false d l = refl
-
-left-is : (s : List ℕ) (room : ℕ) → LeftIs (hexReadOf s room) (hexLeft s room)
-unfolding hexReadOf hexLeft
-left-is s room = left-case (isHex s) (isBelow room (length (spelled s))) (spelled s)
-
-pub left-told : (s : List ℕ) (room : ℕ) (r : HexRead) → r ≡ hexReadOf s room → LeftIs r (hexLeft s room)
-left-told s room r e = rw e (left-is s room)

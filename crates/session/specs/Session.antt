@@ -5,7 +5,7 @@ use mathlib.Core.Path.{_≡_}
 use mathlib.Core.List.{List, [], _∷_, _++_}
 use mathlib.Core.Bool.{Bool, true, false, cond}
 use Rattle.text.specs.Words.{part}
-use Rattle.text.specs.Hex.{hexLeft}
+use Rattle.text.specs.Hex.{spelledIn}
 use Rattle.text.specs.Put.{Wrote}
 use Rattle.status.specs.StatusWords.{isDone}
 use Rattle.status.specs.declared.Status.the-variants.{Unsound}
@@ -31,9 +31,9 @@ use Rattle.session.specs.declared.Turn.{Turn}
 abbrev pub mostBytes : ℕ
 mostBytes = 2048
 
--- the bytes that a word of the line spells
+-- the bytes that a word of the line spells, once the line's order was read: its words are hex then
 abbrev pub bytesOf : List ℕ → Span → List ℕ
-bytesOf s span = hexLeft (part s (span .from) (span .to)) mostBytes
+bytesOf s span = spelledIn (part s (span .from) (span .to)) mostBytes
 
 -- `card` hands in any record: 6F 00 where it is not sound, else 90 00 and its ticks
 abbrev pub handedIn : Card → Outcome
@@ -73,6 +73,19 @@ saidBy answer c found explain n s order.Tick = told explain found (answer Tick)
 saidBy answer c found explain n s order.Lost = told explain found (answer Lost)
 saidBy answer c found explain n s order.Record = toldFirst explain (handedIn (recordOf s .card))
 saidBy answer c found explain n s (order.Wrong reason) = faulty c found n reason
+
+-- the orders that are calls on the card
+abbrev pub isCall : Order → Bool
+isCall order.Nothing = false
+isCall (order.Fresh eid aid capacity quota used volatile) = false
+isCall (order.Command verdict bytes room) = true
+isCall (order.Keyed aid) = true
+isCall (order.Stored aid n) = true
+isCall (order.Finished aid policy) = true
+isCall order.Tick = true
+isCall order.Lost = true
+isCall order.Record = false
+isCall (order.Wrong reason) = false
 
 -- a call on a card that was found sound, or was not
 abbrev pub answerTo : Bool → Card → Call → Outcome

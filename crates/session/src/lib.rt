@@ -11,8 +11,7 @@ use script::Reason;
 use script::Span;
 use script::read_line;
 use script::read_record;
-use text::HexRead;
-use text::read_hex;
+use text::spell_hex;
 ghost use mathlib.Core.Path.{_≡_};
 ghost use mathlib.Core.Bool.{true};
 ghost use mathlib.Core.List.{[]};
@@ -21,11 +20,12 @@ ghost use lib.ListN.{length};
 ghost use Rattle.text.specs.Words.{part};
 ghost use Rattle.text.specs.Put.{put, Wrote};
 ghost use Rattle.status.specs.StatusWords.{isDone};
-ghost use Rattle.card.specs.Answers.{handed};
+ghost use Rattle.card.specs.Answers.{handed, known};
 ghost use Rattle.card.specs.Fresh.{freshOutcome};
-ghost use Rattle.manager.specs.Calls.{Call.Command, Call.Keyed, Call.Stored, Call.Finished, Call.Tick, Call.Lost};
+ghost use Rattle.manager.specs.Calls.{Call.Command, Call.Keyed, Call.Stored, Call.Finished};
+ghost use Rattle.manager.specs.Manager.{work};
 ghost use Rattle.script.specs.Records.{recordOf};
-ghost use Rattle.session.specs.Session.{bytesOf, handedIn, answerTo, spoken, told, faulty, firstTurn, lineOf, Spoke};
+ghost use Rattle.session.specs.Session.{bytesOf, handedIn, isCall, spoken, told, faulty, firstTurn, lineOf, Spoke};
 
 // Where a session stands: its card, whether that card is sound, up to where the lent buffer is filled, and whether the run goes on.
 // Soundness is asked where a card is handed in, and kept: every call leaves a sound card sound.
@@ -80,63 +80,31 @@ fn word_at(s: &[u8], span: Span) -> &[u8]
 fn spell(s: &[u8], span: Span, out: &mut [u8; MOST]) -> usize
     ensures { λ r. ⌜ (r ≡ length (bytesOf (now (s .entry)) span)) × (now (out .exit) ≡ put (now (out .entry)) 0 (bytesOf (now (s .entry)) span)) ⌝ }
 {
-    let read = read_hex(word_at(s, span), out);
-    match read {
-        HexRead::Bytes(n) => n,
-        HexRead::NoRoom => 0,
-        HexRead::Wrong => 0,
-    }
+    spell_hex(word_at(s, span), out)
 }
 
-fn keyed(card: Card, sound: bool, s: &[u8], span: Span) -> Answer
-    ensures { λ r. ⌜ r ≡ handed (answerTo sound card (Keyed (bytesOf (now (s .entry)) span))) ⌝ }
+fn keyed(card: Card, s: &[u8], span: Span) -> Answer
+    ensures { λ r. ⌜ r ≡ handed (known card (work card (Keyed (bytesOf (now (s .entry)) span)))) ⌝ }
 {
-    if !sound {
-        return card.unsound();
-    }
     let mut aid = [0u8; MOST];
     let n = spell(s, span, &mut aid);
     manager::known_keyed(card, &aid[..n])
 }
 
-fn stored(card: Card, sound: bool, s: &[u8], span: Span, count: u32) -> Answer
-    ensures { λ r. ⌜ r ≡ handed (answerTo sound card (Stored (bytesOf (now (s .entry)) span) count)) ⌝ }
+fn stored(card: Card, s: &[u8], span: Span, count: u32) -> Answer
+    ensures { λ r. ⌜ r ≡ handed (known card (work card (Stored (bytesOf (now (s .entry)) span) count))) ⌝ }
 {
-    if !sound {
-        return card.unsound();
-    }
     let mut aid = [0u8; MOST];
     let n = spell(s, span, &mut aid);
     manager::known_stored(card, &aid[..n], count)
 }
 
-fn finished(card: Card, sound: bool, s: &[u8], span: Span, policy: u8) -> Answer
-    ensures { λ r. ⌜ r ≡ handed (answerTo sound card (Finished (bytesOf (now (s .entry)) span) policy)) ⌝ }
+fn finished(card: Card, s: &[u8], span: Span, policy: u8) -> Answer
+    ensures { λ r. ⌜ r ≡ handed (known card (work card (Finished (bytesOf (now (s .entry)) span) policy))) ⌝ }
 {
-    if !sound {
-        return card.unsound();
-    }
     let mut aid = [0u8; MOST];
     let n = spell(s, span, &mut aid);
     manager::known_finished(card, &aid[..n], policy)
-}
-
-fn tick(card: Card, sound: bool) -> Answer
-    ensures { λ r. ⌜ r ≡ handed (answerTo sound card Tick) ⌝ }
-{
-    if !sound {
-        return card.unsound();
-    }
-    manager::known_tick(card)
-}
-
-fn lost(card: Card, sound: bool) -> Answer
-    ensures { λ r. ⌜ r ≡ handed (answerTo sound card Lost) ⌝ }
-{
-    if !sound {
-        return card.unsound();
-    }
-    manager::known_lost(card)
 }
 
 fn fresh(
@@ -209,27 +177,24 @@ fn tell_first(explain: bool, answer: Answer, out: &mut [u8], at: usize) -> Turn
 }
 
 fn command(
-    turn: Turn,
+    card: Card,
     explain: bool,
     verdict: u8,
     s: &[u8],
     span: Span,
     room: usize,
     out: &mut [u8],
+    at: usize,
 ) -> Turn
     requires { ⌜ room ≤ 1024 ⌝ }
-    ensures { λ r. ⌜ Spoke (now (out .entry)) (turn .filled) (told explain (turn .sound) (answerTo (turn .sound) (turn .card) (Command verdict (bytesOf (now (s .entry)) span) room))) r (now (out .exit)) ⌝ }
+    ensures { λ r. ⌜ Spoke (now (out .entry)) at (told explain true (known card (work card (Command verdict (bytesOf (now (s .entry)) span) room)))) r (now (out .exit)) ⌝ }
 {
-    let card = turn.card;
-    if !turn.sound {
-        return tell(explain, false, card.unsound(), out, turn.filled);
-    }
     let mut bytes = [0u8; MOST];
     let n = spell(s, span, &mut bytes);
     let mut buffer = [0u8; ROOM];
     let answer = manager::known_command(card, verdict, &bytes[..n], &mut buffer[..room]);
     let length = answer.length;
-    let filled = speak(explain, answer, &buffer[..length], out, turn.filled);
+    let filled = speak(explain, answer, &buffer[..length], out, at);
     let after = answer.card;
     Turn {
         card: after,
@@ -262,14 +227,34 @@ fn passed_over(turn: Turn) -> Turn
     after
 }
 
+// Is it a call on the card?
+fn is_call(order: Order) -> bool
+    ensures { λ r. ⌜ r ≡ isCall order ⌝ }
+{
+    match order {
+        Order::Nothing => false,
+        Order::Fresh { .. } => false,
+        Order::Command { .. } => true,
+        Order::Keyed { .. } => true,
+        Order::Stored { .. } => true,
+        Order::Finished { .. } => true,
+        Order::Tick => true,
+        Order::Lost => true,
+        Order::Record => false,
+        Order::Wrong(_) => false,
+    }
+}
+
 // Line `number` of a script.
 pub fn take_line(turn: Turn, explain: bool, number: u64, s: &[u8], out: &mut [u8]) -> Turn
     ensures { λ r. ⌜ Spoke (now (out .entry)) (turn .filled) (lineOf (turn .card) (turn .sound) explain number (now (s .entry))) r (now (out .exit)) ⌝ }
 {
     let order = read_line(s);
     let card = turn.card;
-    let sound = turn.sound;
     let at = turn.filled;
+    if is_call(order) & !turn.sound {
+        return tell(explain, false, card.unsound(), out, at);
+    }
     match order {
         Order::Nothing => passed_over(turn),
         Order::Fresh {
@@ -289,20 +274,14 @@ pub fn take_line(turn: Turn, explain: bool, number: u64, s: &[u8], out: &mut [u8
             verdict,
             bytes,
             room,
-        } => command(turn, explain, verdict, s, bytes, room, out),
-        Order::Keyed { aid } => tell(explain, sound, keyed(card, sound, s, aid), out, at),
-        Order::Stored { aid, n } => tell(explain, sound, stored(card, sound, s, aid, n), out, at),
+        } => command(card, explain, verdict, s, bytes, room, out, at),
+        Order::Keyed { aid } => tell(explain, true, keyed(card, s, aid), out, at),
+        Order::Stored { aid, n } => tell(explain, true, stored(card, s, aid, n), out, at),
         Order::Finished { aid, policy } => {
-            tell(
-                explain,
-                sound,
-                finished(card, sound, s, aid, policy),
-                out,
-                at,
-            )
+            tell(explain, true, finished(card, s, aid, policy), out, at)
         }
-        Order::Tick => tell(explain, sound, tick(card, sound), out, at),
-        Order::Lost => tell(explain, sound, lost(card, sound), out, at),
+        Order::Tick => tell(explain, true, manager::known_tick(card), out, at),
+        Order::Lost => tell(explain, true, manager::known_lost(card), out, at),
         Order::Record => tell_first(explain, record_in(s), out, at),
         Order::Wrong(reason) => fault(turn, number, reason, out),
     }

@@ -8,7 +8,7 @@ use mathlib.Core.Bool.{Bool, true, false}
 use lib.ListN.{length, getD, set, drop, length-drop}
 use Rattle.choice.specs.Choice.{pick, isBelow}
 use Rattle.text.specs.Words.{sameOf}
-use Rattle.text.specs.Hex.{nibbleOf, pairsOf, isHex, byteOf, spelled, hexByteOf, hexReadOf, hexLeft, hexText, hexWord}
+use Rattle.text.specs.Hex.{nibbleOf, pairsOf, isHex, byteOf, spelled, spelledIn, hexByteOf, hexReadOf, hexLeft, hexText, hexWord}
 use Rattle.text.specs.declared.hex.Byte.the-variants as byte
 use Rattle.text.specs.declared.hex.HexRead.{HexRead}
 use Rattle.text.specs.declared.hex.HexRead.the-variants.{Bytes, NoRoom, Wrong}
@@ -92,8 +92,14 @@ unfolding isHex
 hex-some [] h = absurd (h refl)
 hex-some (c ∷ cs) h = refl
 
--- the three answers of reading, and what each leaves
+-- the three answers of reading, and what each leaves; without the test, the two that are left
 module _ (s : List ℕ) (room : ℕ) where
+  pub in-fits : length s / 2 ≤ room → spelled s ≡ spelledIn s room
+  in-fits h = let k : length (spelled s) ≤ room = rw (spelled-length s) h in nlt! _ k refl
+
+  pub in-full : room < length s / 2 → [] ≡ spelledIn s room
+  in-full h = let k : room < length (spelled s) = rw (spelled-length s) h in lt! _ k refl
+
   pub hex-fits : isHex s ≡ true → length s / 2 ≤ room → (Bytes (length s / 2) ≡ hexReadOf s room) × (spelled s ≡ hexLeft s room)
   unfolding hexReadOf hexLeft
   hex-fits e h =

@@ -52,9 +52,13 @@ hexByteOf (a ∷ b ∷ c ∷ r) = byte.Wrong
 unfoldable pub hexReadOf : List ℕ → ℕ → HexRead
 hexReadOf s room = pick (isHex s) (pick (isBelow room (length (spelled s))) NoRoom (Bytes (length (spelled s)))) Wrong
 
+-- the bytes, where `room` of them fit; else none
+abbrev pub spelledIn : List ℕ → ℕ → List ℕ
+spelledIn s room = pick (isBelow room (length (spelled s))) [] (spelled s)
+
 -- which bytes it leaves; none where it is refused
 unfoldable pub hexLeft : List ℕ → ℕ → List ℕ
-hexLeft s room = pick (isHex s) (pick (isBelow room (length (spelled s))) [] (spelled s)) []
+hexLeft s room = pick (isHex s) (spelledIn s room) []
 
 -- the hex digit of the low four bits
 unfoldable pub glyphOf : ℕ → ℕ

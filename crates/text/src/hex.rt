@@ -3,7 +3,7 @@ ghost use mathlib.Core.Path.{_≡_};
 ghost use Prim.Native.Nat.{_+_, _*_, _≤_};
 ghost use lib.ListN.{length};
 ghost use Rattle.text.specs.Put.{put};
-ghost use Rattle.text.specs.Hex.{nibbleOf, byteOf, pairsOf, isHex, spelled, hexByteOf, hexReadOf, hexLeft};
+ghost use Rattle.text.specs.Hex.{nibbleOf, byteOf, pairsOf, isHex, spelled, spelledIn, hexByteOf, hexReadOf, hexLeft};
 use crate::words::same;
 
 // The value of a hex digit, or 16.
@@ -104,6 +104,20 @@ fn spell(s: &[u8], out: &mut [u8])
         i += 2;
         k += 1;
     }
+}
+
+// The same for any buffer, and how many bytes there are; where they do not fit, none is written. It does not ask whether the text is
+// hex: it is for a word that was found to be.
+pub fn spell_hex(s: &[u8], out: &mut [u8]) -> usize
+    ensures { λ r. ⌜ (r ≡ length (spelledIn (now (s .entry)) (length (now (out .entry)))))
+        × (now (out .exit) ≡ put (now (out .entry)) 0 (spelledIn (now (s .entry)) (length (now (out .entry))))) ⌝ }
+{
+    let n = s.len() / 2;
+    if out.len() < n {
+        return 0;
+    }
+    spell(s, out);
+    n
 }
 
 pub enum HexRead {

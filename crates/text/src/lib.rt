@@ -10,6 +10,7 @@ pub use hex::HexRead;
 pub use hex::hex_byte;
 pub use hex::is_hex;
 pub use hex::read_hex;
+pub use hex::spell_hex;
 pub use numbers::Number;
 pub use numbers::decimal;
 pub use words::Word;

@@ -1,48 +1,29 @@
--- `session::command`: a card that was not found sound is refused; else the slice handed on is the bytes of the word, and the response
--- is what stands at the front of the buffer lent.
+-- `session::command`: the slice handed on is the bytes of the word, and the response is what stands at the front of the buffer lent.
 use mathlib.Core.Path.{refl, sym}
-use mathlib.Core.Bool.{true, false}
+use mathlib.Core.Bool.{true}
 use Prim.Native.Nat.{_≤_}
 use lib.Seq.{length-take-le}
 use denote.Ref.{now}
-use borrow.Author.Tests.{not-true, not-false}
-use Rattle.status.specs.declared.Status.the-variants.{Unsound}
-use Rattle.card.specs.Answers.{known, refusedAt}
+use Rattle.card.specs.Answers.{known}
 use Rattle.manager.specs.Calls.{Call.Command}
 use Rattle.manager.specs.Manager.{work}
 use Rattle.session.specs.Session.{bytesOf}
-use Rattle.session.proofs.Silent.{told-silent}
 use Rattle.session.proofs.Spelled.{word-fits, word-is, word-size, answer-is, response-is, response-size, response-fits, spoke-told}
 use borrow.Author.Needs.{needs}
 use Rattle.session.proofs.command.Statement.{statement}
 use Rattle.session.proofs.command.Tie as tie
-
-unsound-requires : tie.Need-unsound-requires
-unsound-requires c κs = search needs
-
-tell-requires : tie.Need-tell-requires
-tell-requires c κs = search needs
-
-same-length : tie.Need-same-length
-same-length c = search needs
-
-returns : tie.Need-returns
-returns c =
-    let a = c .before .before .before .before .before .before .before .before .before .before .args in
-    rw (not-true (a .turn .sound) (c .before .before .before .before .before .if1 .taken))
-    (told-silent (a .explain) false (refusedAt 0 (a .turn .card) Unsound) refl (c .before .before .before .before .unsound .ensures) (c .before .before .tell .ensures))
 
 spell-requires : tie.Need-spell-requires
 spell-requires c κs = search needs
 
 array-share-prefix-bytes : tie.Need-array-share-prefix-bytes
 array-share-prefix-bytes c =
-    let a = c .before .before .before .before .before .before .before .args in
+    let a = c .before .before .before .before .args in
     word-fits (now (a .s)) (a .span) _ (c .spell .ensures) refl
 
 slice-aggregate-known-command : tie.Need-slice-aggregate-known-command
 slice-aggregate-known-command c =
-    let a = c .before .before .before .before .before .before .before .before .args in
+    let a = c .before .before .before .before .before .args in
     word-size (now (a .s)) (a .span) _ (c .before .spell .ensures) refl
 
 array-borrow-prefix-buffer : tie.Need-array-borrow-prefix-buffer
@@ -50,7 +31,7 @@ array-borrow-prefix-buffer c = search needs
 
 slice-aggregate-known-command-2 : tie.Need-slice-aggregate-known-command-2
 slice-aggregate-known-command-2 c =
-    let a = c .before .before .before .before .before .before .before .before .before .args in
+    let a = c .before .before .before .before .before .before .args in
     let h : a .room ≤ 1024 = search needs in
     sym (length-take-le (a .room) _ h)
 
@@ -59,44 +40,39 @@ known-command-requires c κs = search needs
 
 array-share-prefix-buffer : tie.Need-array-share-prefix-buffer
 array-share-prefix-buffer c =
-    let a = c .before .before .before .before .before .before .before .before .before .before .before .args in
+    let a = c .before .before .before .before .before .before .before .before .args in
     let h : a .room ≤ 1024 = search needs in
     let word = word-is (now (a .s)) (a .span) _ (c .before .before .before .before .spell .ensures) refl in
-    response-fits (a .turn .card) (a .verdict) _ (a .room) (c .before .known-command .ensures) word (length-take-le (a .room) _ h) _
+    response-fits (a .card) (a .verdict) _ (a .room) (c .before .known-command .ensures) word (length-take-le (a .room) _ h) _
 
 slice-aggregate-speak : tie.Need-slice-aggregate-speak
 slice-aggregate-speak c =
-    let a = c .before .before .before .before .before .before .before .before .before .before .before .before .args in
+    let a = c .before .before .before .before .before .before .before .before .before .args in
     let h : a .room ≤ 1024 = search needs in
     let word = word-is (now (a .s)) (a .span) _ (c .before .before .before .before .before .spell .ensures) refl in
-    response-size (a .turn .card) (a .verdict) _ (a .room) (c .before .before .known-command .ensures) word (length-take-le (a .room) _ h) _
+    response-size (a .card) (a .verdict) _ (a .room) (c .before .before .known-command .ensures) word (length-take-le (a .room) _ h) _
 
 speak-requires : tie.Need-speak-requires
 speak-requires c κs = search needs
 
-same-length-2 : tie.Need-same-length-2
-same-length-2 c = search needs
+same-length : tie.Need-same-length
+same-length c = search needs
 
-returns-2 : tie.Need-returns-2
-returns-2 c =
-    let a = c .before .before .before .before .before .before .before .before .before .before .before .before .before .before .before .before .before .args in
+returns : tie.Need-returns
+returns c =
+    let a = c .before .before .before .before .before .before .before .before .before .before .before .before .before .before .args in
     let h : a .room ≤ 1024 = search needs in
     let word = word-is (now (a .s)) (a .span) _ (c .before .before .before .before .before .before .before .before .before .before .spell .ensures) refl in
     let heard = c .before .before .before .before .before .before .before .known-command .ensures in
-    rw (not-false (a .turn .sound) (c .before .before .before .before .before .before .before .before .before .before .before .before .if1 .left))
-    (spoke-told (a .explain) true (known (a .turn .card) (work (a .turn .card) (Command (a .verdict) (bytesOf (now (a .s)) (a .span)) (a .room))))
-    (answer-is (a .turn .card) (a .verdict) _ (a .room) heard word (length-take-le (a .room) _ h))
-    (response-is (a .turn .card) (a .verdict) _ (a .room) heard word (length-take-le (a .room) _ h) _)
-    refl refl refl (c .before .before .before .speak .ensures))
+    spoke-told (a .explain) true (known (a .card) (work (a .card) (Command (a .verdict) (bytesOf (now (a .s)) (a .span)) (a .room))))
+    (answer-is (a .card) (a .verdict) _ (a .room) heard word (length-take-le (a .room) _ h))
+    (response-is (a .card) (a .verdict) _ (a .room) heard word (length-take-le (a .room) _ h) _)
+    refl refl refl (c .before .before .before .speak .ensures)
 
 pub command-spec : {M : Type 1} → statement M
 command-spec =
     tie.close
     (tie.spec
-    unsound-requires
-    tell-requires
-    same-length
-    returns
     spell-requires
     array-share-prefix-bytes
     slice-aggregate-known-command
@@ -106,5 +82,5 @@ command-spec =
     array-share-prefix-buffer
     slice-aggregate-speak
     speak-requires
-    same-length-2
-    returns-2)
+    same-length
+    returns)

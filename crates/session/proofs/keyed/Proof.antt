@@ -1,9 +1,9 @@
--- `session::keyed`: a card that was not found sound is refused; else the slice handed on is the bytes of the word.
+-- `session::keyed`: the slice handed on is the bytes of the word.
 use mathlib.Core.Path.{refl, ap, _∙_}
 use mathlib.Core.List.{List}
 use Prim.Native.Nat.{ℕ}
 use denote.Ref.{now}
-use borrow.Author.Tests.{not-true, not-false}
+use Rattle.status.specs.Rows.{wordOf}
 use Rattle.card.specs.Answers.{handed, known}
 use Rattle.manager.specs.Calls.{Call.Keyed}
 use Rattle.manager.specs.Manager.{work}
@@ -12,42 +12,33 @@ use borrow.Author.Needs.{needs}
 use Rattle.session.proofs.keyed.Statement.{statement}
 use Rattle.session.proofs.keyed.Tie as tie
 
-unsound-requires : tie.Need-unsound-requires
-unsound-requires c κs = search needs
-
-returns : tie.Need-returns
-returns c =
-    rw (not-true (c .before .before .before .args .sound) (c .before .if1 .taken)) (c .unsound .ensures)
-
 spell-requires : tie.Need-spell-requires
 spell-requires c κs = search needs
 
 array-share-prefix-aid : tie.Need-array-share-prefix-aid
 array-share-prefix-aid c =
-    let a = c .before .before .before .before .args in word-fits (now (a .s)) (a .span) _ (c .spell .ensures) refl
+    let a = c .before .before .before .args in word-fits (now (a .s)) (a .span) _ (c .spell .ensures) refl
 
 slice-aggregate-known-keyed : tie.Need-slice-aggregate-known-keyed
 slice-aggregate-known-keyed c =
-    let a = c .before .before .before .before .before .args in word-size (now (a .s)) (a .span) _ (c .before .spell .ensures) refl
+    let a = c .before .before .before .before .args in word-size (now (a .s)) (a .span) _ (c .before .spell .ensures) refl
 
 known-keyed-requires : tie.Need-known-keyed-requires
 known-keyed-requires c κs = search needs
 
-returns-2 : tie.Need-returns-2
-returns-2 c =
-    let a = c .before .before .before .before .before .before .args in
-    rw (not-false (a .sound) (c .before .before .before .before .if1 .left))
-    (c .known-keyed .ensures
-    ∙ ap (λ (aid : List ℕ). handed (known (a .card) (work (a .card) (Keyed aid)))) (word-is (now (a .s)) (a .span) _ (c .before .before .spell .ensures) refl))
+returns : tie.Need-returns
+unfolding wordOf
+returns c =
+    let a = c .before .before .before .before .before .args in
+    c .known-keyed .ensures
+    ∙ ap (λ (aid : List ℕ). handed (known (a .card) (work (a .card) (Keyed aid)))) (word-is (now (a .s)) (a .span) _ (c .before .before .spell .ensures) refl)
 
 pub keyed-spec : {M : Type 1} → statement M
 keyed-spec =
     tie.close
     (tie.spec
-    unsound-requires
-    returns
     spell-requires
     array-share-prefix-aid
     slice-aggregate-known-keyed
     known-keyed-requires
-    returns-2)
+    returns)
