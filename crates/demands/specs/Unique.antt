@@ -1,6 +1,7 @@
 -- Document 01, 'What the contracts have to settle': "Prove that two answers meeting one promise are equal". The promise of a call is
--- `Handed`: the answer is its outcome's, and the lent buffer holds the response and then its old bytes. Said over any outcome, so that
--- it covers a call on any card (`step`), a call on a card known to be sound (`known`) and fresh (`freshOutcome`).
+-- `Handed`: the answer is its outcome's, and the lent buffer holds the response and then its old bytes (a command's `Served` is that and
+-- more). Said over any outcome, so that it covers a call on any card (`step`), a call on a card known to be sound (`known`) and fresh
+-- (`freshOutcome`).
 use Prim.Native.Nat.{ℕ}
 use mathlib.Core.Path.{_≡_}
 use mathlib.Core.List.{List}
