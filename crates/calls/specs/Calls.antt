@@ -1,5 +1,5 @@
 -- Document 01, 'Steps': keyed, stored, finished, tick and lost. Each has its rows of the table after 6F 00, in the table's order,
--- its step, and no response. "Tick and lost are refused only by 6F 00."
+-- its step, and no response. "Tick and lost are refused only by 6F 00." The tests are named here and used again in the whole table.
 use Prim.Native.Nat.{ℕ, _+_}
 use mathlib.Core.List.{List, [], _∷_}
 use mathlib.Core.Bool.{Bool, not, _&&_}
@@ -18,9 +18,37 @@ use Rattle.card.specs.Answers.{Work}
 use Rattle.card.specs.declared.Card.{Card}
 use Rattle.card.specs.declared.Step.{Step}
 
+-- "6A 80: .. inner call's values wrong": "An AID handed to an inner call is wrong unless it has 5 to 16 bytes."
+abbrev pub aidWrong : List ℕ → Bool
+aidWrong aid = not (aidOk aid)
+
+abbrev pub finishWrong : List ℕ → ℕ → Bool
+finishWrong aid policy = not (aidOk aid && policyOk policy)
+
 -- "6A 88: target AID not held"
 abbrev pub heldRow : Card → List ℕ → Row
 heldRow c aid = row (not (held (profileOf c aid))) NotHeld
+
+-- "69 85: target in the wrong state": "Keyed: SELECTABLE", "Stored n: PERSONALIZED only", "Finished ..: PERSONALIZED, used over 0"
+abbrev pub notToKey : Isdp → Bool
+notToKey p = not (eqb (p .life) selectable)
+
+abbrev pub notToStore : Isdp → Bool
+notToStore p = not (eqb (p .life) personalized)
+
+abbrev pub notToFinish : Isdp → Bool
+notToFinish p = not (eqb (p .life) personalized && ltb 0 (p .used))
+
+-- "6A 84: .. stored: used + n over quota"
+abbrev pub overQuota : Isdp → ℕ → Bool
+overQuota p n = not (leb (p .used + n) (p .quota))
+
+-- "to PERSONALIZED", "used grows by n (0 allowed)"; the third is `finish`, "to DISABLED" with its policy
+abbrev pub afterKeyed : Isdp → Isdp
+afterKeyed p = withLife p personalized
+
+abbrev pub afterStored : Isdp → ℕ → Isdp
+afterStored p n = withUsed p (p .used + n)
 
 -- the profile with this AID is written anew
 abbrev pub rewritten : Card → List ℕ → Isdp → Step
@@ -32,42 +60,31 @@ tickWork c = record { rows = []; step = tickStep c; response = [] }
 abbrev pub lostWork : Card → Work
 lostWork c = record { rows = []; step = lostStep c; response = [] }
 
--- "Keyed: SELECTABLE to PERSONALIZED." "An AID handed to an inner call is wrong unless it has 5 to 16 bytes."
 abbrev pub keyedWork : Card → List ℕ → Work
 keyedWork c aid =
     record {
-      rows =
-          row (not (aidOk aid)) DataWrong
-          ∷ heldRow c aid
-          ∷ row (not (eqb (profileOf c aid .life) selectable)) StateWrong
-          ∷ [];
-      step = rewritten c aid (withLife (profileOf c aid) personalized);
+      rows = row (aidWrong aid) DataWrong ∷ heldRow c aid ∷ row (notToKey (profileOf c aid)) StateWrong ∷ [];
+      step = rewritten c aid (afterKeyed (profileOf c aid));
       response = [];
     }
 
--- "Stored n: PERSONALIZED only, used grows by n (0 allowed)." "6A 84: .. used + n over quota"
 abbrev pub storedWork : Card → List ℕ → ℕ → Work
 storedWork c aid n =
     record {
       rows =
-          row (not (aidOk aid)) DataWrong
+          row (aidWrong aid) DataWrong
           ∷ heldRow c aid
-          ∷ row (not (eqb (profileOf c aid .life) personalized)) StateWrong
-          ∷ row (not (leb (profileOf c aid .used + n) (profileOf c aid .quota))) NoRoom
+          ∷ row (notToStore (profileOf c aid)) StateWrong
+          ∷ row (overQuota (profileOf c aid) n) NoRoom
           ∷ [];
-      step = rewritten c aid (withUsed (profileOf c aid) (profileOf c aid .used + n));
+      step = rewritten c aid (afterStored (profileOf c aid) n);
       response = [];
     }
 
--- "Finished with a policy: PERSONALIZED, used over 0, to DISABLED. Wrong state 69 85."
 abbrev pub finishedWork : Card → List ℕ → ℕ → Work
 finishedWork c aid policy =
     record {
-      rows =
-          row (not (aidOk aid && policyOk policy)) DataWrong
-          ∷ heldRow c aid
-          ∷ row (not (eqb (profileOf c aid .life) personalized && ltb 0 (profileOf c aid .used))) StateWrong
-          ∷ [];
+      rows = row (finishWrong aid policy) DataWrong ∷ heldRow c aid ∷ row (notToFinish (profileOf c aid)) StateWrong ∷ [];
       step = rewritten c aid (finish (profileOf c aid) policy);
       response = [];
     }

@@ -1,15 +1,13 @@
 -- Document 01, 'Status words': the table, row for row. "Given exactly when, in this order".
 use Prim.Native.Nat.{ℕ}
-use mathlib.Core.List.{List, [], _∷_, _++_}
-use mathlib.Core.Bool.{Bool, true, false, not, _&&_}
+use mathlib.Core.List.{List, [], _∷_}
+use mathlib.Core.Bool.{Bool, false, not}
 use lib.Dec.{ltb}
 use Rattle.status.specs.Rows.{Row, row}
-use Rattle.status.specs.declared.Status.the-variants.{Unsound, BufferShort, LengthWrong, ClassWrong, InstructionWrong, ParametersWrong, DataWrong, StateWrong, NotHeld, PolicyForbids, VerdictWrong, NoRoom}
-use Rattle.isdp.specs.Aids.{aidOk}
-use Rattle.isdp.specs.Policy.{policyOk}
-use Rattle.card.specs.Sound.{sound}
+use Rattle.status.specs.declared.Status.the-variants.{BufferShort, LengthWrong, ClassWrong, InstructionWrong, ParametersWrong, DataWrong, StateWrong, NotHeld, PolicyForbids, VerdictWrong, NoRoom}
 use Rattle.card.specs.Answers.{soundRow}
 use Rattle.card.specs.declared.Card.{Card}
+use Rattle.calls.specs.Calls.{aidWrong, finishWrong}
 use Rattle.command.specs.Framing.{lengthWrong, classWrong, instructionWrong, parametersWrong, shapeWrong}
 use Rattle.command.specs.Requests.{dataWrong}
 use Rattle.steps.specs.Conditions.{changeWrong, targetMissing, alreadyHeld, stateWrong, policyForbids, verdictWrong, noRoom}
@@ -40,9 +38,9 @@ inCommand test Lost = false
 -- "data field, DGI, or inner call's values wrong"
 abbrev pub valuesWrong : Card → Call → Bool
 valuesWrong c (Command verdict s room) = dataWrong s (c .capacity)
-valuesWrong c (Keyed aid) = not (aidOk aid)
-valuesWrong c (Stored aid n) = not (aidOk aid)
-valuesWrong c (Finished aid policy) = not (aidOk aid && policyOk policy)
+valuesWrong c (Keyed aid) = aidWrong aid
+valuesWrong c (Stored aid n) = aidWrong aid
+valuesWrong c (Finished aid policy) = finishWrong aid policy
 valuesWrong c Tick = false
 valuesWrong c Lost = false
 

@@ -7,12 +7,13 @@ use Rattle.status.specs.Rows.{Row, row}
 use Rattle.status.specs.declared.Status.the-variants.{DataWrong, StateWrong, NotHeld, PolicyForbids, VerdictWrong, NoRoom}
 use Rattle.isdp.specs.Sizes.{mostPlaces}
 use Rattle.isdp.specs.Policy.{forbidsDisabling, forbidsDeletion}
-use Rattle.isdp.specs.LifeCycle.{selectable, personalized, disabled, isEnabled, isFinished}
+use Rattle.isdp.specs.LifeCycle.{disabled, isEnabled, isFinished}
 use Rattle.isdp.specs.Place.{held}
 use Rattle.places.specs.Places.{at}
 use Rattle.card.specs.Cards.{isQuiet, placeOf, profileOf, enabledPlace, freePlace, freeIn, mayBeDeleted}
 use Rattle.card.specs.Clock.{outstanding}
 use Rattle.card.specs.declared.Card.{Card}
+use Rattle.calls.specs.Calls.{notToKey, notToStore, notToFinish, overQuota}
 use Rattle.steps.specs.Asked.{Act, Act.enable, Act.disable, Act.delete, Act.masterDelete, Act.setFallBack, Act.status, Act.keyed, Act.stored, Act.finished, Asked, Asked.unread, Asked.create, Asked.on, Asked.confirm, Asked.statusOfAll, Asked.getData, Asked.tick, Asked.lost}
 
 -- "69 85: a change is open, for create, enable, disable, delete, master delete, set fall-back; none is open, for confirmation"
@@ -67,9 +68,9 @@ actStateWrong c aid delete = not (mayBeDeleted c (placeOf c aid))
 actStateWrong c aid (masterDelete verdict) = not (mayBeDeleted c (placeOf c aid))
 actStateWrong c aid setFallBack = not (isFinished (profileOf c aid .life))
 actStateWrong c aid (status life fallback) = false
-actStateWrong c aid keyed = not (eqb (profileOf c aid .life) selectable)
-actStateWrong c aid (stored n) = not (eqb (profileOf c aid .life) personalized)
-actStateWrong c aid (finished policy) = not (eqb (profileOf c aid .life) personalized && ltb 0 (profileOf c aid .used))
+actStateWrong c aid keyed = notToKey (profileOf c aid)
+actStateWrong c aid (stored n) = notToStore (profileOf c aid)
+actStateWrong c aid (finished policy) = notToFinish (profileOf c aid)
 
 abbrev pub stateWrong : Card → Asked → Bool
 stateWrong c unread = false
@@ -134,7 +135,7 @@ actNoRoom c aid (masterDelete verdict) = false
 actNoRoom c aid setFallBack = false
 actNoRoom c aid (status life fallback) = false
 actNoRoom c aid keyed = false
-actNoRoom c aid (stored n) = not (leb (profileOf c aid .used + n) (profileOf c aid .quota))
+actNoRoom c aid (stored n) = overQuota (profileOf c aid) n
 actNoRoom c aid (finished policy) = false
 
 abbrev pub noRoom : Card → Asked → Bool

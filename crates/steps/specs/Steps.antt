@@ -1,11 +1,10 @@
 -- Document 01, 'Steps' and 'Responses': what an accepted call does and answers.
-use Prim.Native.Nat.{ℕ, _+_}
+use Prim.Native.Nat.{ℕ}
 use mathlib.Core.List.{List, [], _∷_}
-use mathlib.Core.Bool.{Bool}
 use mathlib.Core.Path.{_≡_}
 use lib.ListN.{set}
 use Rattle.isdp.specs.Aids.{noAid}
-use Rattle.isdp.specs.LifeCycle.{selectable, personalized, withLife, withUsed, finish}
+use Rattle.isdp.specs.LifeCycle.{selectable, finish}
 use Rattle.isdp.specs.Place.{vacant, made}
 use Rattle.card.specs.Cards.{placeOf, profileOf, freePlace, withPlaces, withFallback}
 use Rattle.card.specs.Clock.{opened}
@@ -14,7 +13,7 @@ use Rattle.card.specs.Answers.{Outcome, Work, handed}
 use Rattle.card.specs.declared.Card.{Card}
 use Rattle.card.specs.declared.Step.{Step}
 use Rattle.card.specs.declared.Answer.{Answer}
-use Rattle.calls.specs.Calls.{rewritten}
+use Rattle.calls.specs.Calls.{rewritten, afterKeyed, afterStored}
 use Rattle.responses.specs.Responses.{statusResponse, oneStatus, dataResponse, deletedResponse}
 use Rattle.text.specs.Put.{put}
 use Rattle.steps.specs.Asked.{Act, Act.enable, Act.disable, Act.delete, Act.masterDelete, Act.setFallBack, Act.status, Act.keyed, Act.stored, Act.finished, Asked, Asked.unread, Asked.create, Asked.on, Asked.confirm, Asked.statusOfAll, Asked.getData, Asked.tick, Asked.lost}
@@ -35,8 +34,8 @@ actStep c aid (masterDelete verdict) = rewritten c aid vacant
 -- "Set fall-back: .. Naming the holder changes nothing"
 actStep c aid setFallBack = stepTo c (withFallback c (placeOf c aid)) noAid
 actStep c aid (status life fallback) = still c
-actStep c aid keyed = rewritten c aid (withLife (profileOf c aid) personalized)
-actStep c aid (stored n) = rewritten c aid (withUsed (profileOf c aid) (profileOf c aid .used + n))
+actStep c aid keyed = rewritten c aid (afterKeyed (profileOf c aid))
+actStep c aid (stored n) = rewritten c aid (afterStored (profileOf c aid) n)
 actStep c aid (finished policy) = rewritten c aid (finish (profileOf c aid) policy)
 
 abbrev pub stepOf : Card → Asked → Step
