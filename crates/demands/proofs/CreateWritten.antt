@@ -52,7 +52,7 @@ asks-create verdict s (request.GetStatusOfOne part life shown) v q = let z : _�
 asks-create verdict s request.GetData v q = let z : _≡_ {A = ℕ} 0 1 = cc in absurd (omega arith)
 
 -- the request that was read
-read-some : (s : List ℕ) (x : Reading) (w : Wanted) → readAs s x ≡ some w → (r : Request) × ((reading.Read r ≡ x) × (wantedOf s r ≡ w))
+pub read-some : (s : List ℕ) (x : Reading) (w : Wanted) → readAs s x ≡ some w → (r : Request) × ((reading.Read r ≡ x) × (wantedOf s r ≡ w))
 read-some s (reading.Read r) w q = (r, (refl, cc))
 read-some s (reading.Refused word) w q = let z : _≡_ {A = ℕ} 0 1 = cc in absurd (omega arith)
 

@@ -29,7 +29,8 @@ use Rattle.choice.specs.Choice.{pick, atMost, isBelow, isSame}
 use Rattle.tlv.specs.Tlv.{tagAt, lengthAt, afterLength, afterTag, headAt, expectOf, expectAt}
 use Rattle.tlv.specs.Encoding.{window, Bytes}
 use Rattle.fields.specs.Alone.{aloneAt}
-use Rattle.fields.specs.StoreData.{dgiAt, namedBy, storeDataAt}
+use Rattle.fields.specs.StoreData.{dgiAt, namedBy, confirmationAt, storeDataAt}
+use Rattle.fields.specs.Grammar.{confirmation}
 use Rattle.install.specs.Parameters.{protocolsWithin, protocolsAt, numberAt, grantOf, memoryAt, parametersAt}
 use Rattle.install.specs.Install.{prefixedOf, prefixedAt, namesAt, rightsAt, installOf}
 use Rattle.install.specs.Grammar.{Created}
@@ -46,7 +47,9 @@ use Rattle.demands.specs.Demand1.{Demand1Met}
 use Rattle.demands.specs.Demand2.{Demand2Met}
 use Rattle.demands.specs.Ticks.{TicksMet}
 use Rattle.demands.specs.Create.{SoundRequest, CreateMet}
+use Rattle.demands.specs.Confirmation.{ConfirmationMet}
 use Rattle.demands.proofs.CreateWritten.{written-asks}
+use Rattle.demands.proofs.Confirmation.{confirmation-taken}
 use Rattle.demands.proofs.Words.{word-is}
 use Rattle.demands.proofs.Create.{room-decides}
 
@@ -182,4 +185,33 @@ opening-answers-met =
       unwanted = aidEnding 2;
       asks-disable = refl;
       disabled-done = refl;
+    }
+
+-- the confirmations of 1 and 2 in bytes, read by a card in Trial whose outstanding number is 1
+abbrev confirmBytes : ℕ → List ℕ
+confirmBytes n = 0x80 ∷ 0xE2 ∷ 0x89 ∷ 0x00 ∷ 0x07 ∷ 0x3A ∷ 0x08 ∷ 0x04 ∷ 0x4E ∷ 0x02 ∷ 0 ∷ n ∷ 0x00 ∷ []
+
+confirm-reads : (readAs (confirmBytes 1) (readOf (confirmBytes 1) 1000) ≡ some (written.storeData (confirmation 1))) × (readAs (confirmBytes 2) (readOf (confirmBytes 2) 1000) ≡ some (written.storeData (confirmation 2)))
+unfolding readOf wordOf window lengthWrong classRight classWrong instructionWrong parametersRight parametersWrong shapeRight shapeWrong fieldOf dataWrong pick atMost isBelow isSame tagAt lengthAt afterLength afterTag headAt expectOf expectAt aloneAt dgiAt namedBy confirmationAt storeDataAt
+confirm-reads = (refl, refl)
+
+trial-sound : sound trial ≡ true
+unfolding sound phaseOk allOf placeOk zeros padded distinct anyOf clash isFor countOf quotas sameBytes
+trial-sound = refl
+
+pub confirmation-met : ConfirmationMet
+confirmation-met =
+    let e = command-written (confirmBytes 1) 1000 (written.storeData (confirmation 1)) (bytes-of (confirmBytes 1) refl) (confirm-reads .0) in
+    let f = command-written (confirmBytes 2) 1000 (written.storeData (confirmation 2)) (bytes-of (confirmBytes 2) refl) (confirm-reads .1) in
+    record {
+      card = trial;
+      card-sound = trial-sound;
+      bytes = confirmBytes 1;
+      number = 1;
+      encoded = e;
+      is-taken = confirmation-taken trial 0 (confirmBytes 1) 256 1 trial-sound (omega arith) e;
+      later = confirmBytes 2;
+      after = 2;
+      encoded-later = f;
+      not-taken = confirmation-taken trial 0 (confirmBytes 2) 256 2 trial-sound (omega arith) f;
     }

@@ -5,6 +5,7 @@ pub mod Demand2
 pub mod Ticks
 pub mod OpeningAnswers
 pub mod CreateWritten
+pub mod Confirmation
 pub mod Create
 pub mod Unique
 pub mod Small

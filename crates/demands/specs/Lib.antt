@@ -8,6 +8,7 @@ pub mod Create
 pub mod Unique
 pub mod Small
 pub mod Change
+pub mod Confirmation
 pub mod Inputs
 pub mod Examples
 pub mod Witnesses

@@ -1,0 +1,35 @@
+-- Document 01, 'Steps': "Confirmation: .. closes the change". Of every command that writes one, as the grammar of its bytes has it.
+use Prim.Native.Nat.{ℕ, _≤_}
+use mathlib.Core.Path.{_≡_}
+use mathlib.Core.List.{List}
+use mathlib.Core.Bool.{true, false}
+use Rattle.card.specs.Sound.{sound}
+use Rattle.card.specs.Clock.{outstanding}
+use Rattle.card.specs.declared.Card.{Card}
+use Rattle.fields.specs.Grammar.{confirmation}
+use Rattle.command.specs.Grammar.{Encodes, storeData}
+use Rattle.manager.specs.Calls.{Call.Command}
+use Rattle.manager.specs.Table.{leastBuffer}
+use Rattle.demands.specs.Change.{taken}
+
+-- it is accepted exactly where its number is the outstanding one; where no change is open there is none
+abbrev pub ConfirmationTaken : Type 0
+ConfirmationTaken =
+    (c : Card) (verdict : ℕ) (s : List ℕ) (room number : ℕ)
+    → sound c ≡ true
+    → leastBuffer ≤ room
+    → Encodes (c .capacity) (storeData (confirmation number)) s
+    → taken c (Command verdict s room) ≡ outstanding (c .phase) number
+
+-- a card in Trial takes one, and not its neighbour's
+pub record ConfirmationMet : Type 0 where
+  pub card : Card
+  pub card-sound : sound card ≡ true
+  pub bytes : List ℕ
+  pub number : ℕ
+  pub encoded : Encodes (card .capacity) (storeData (confirmation number)) bytes
+  pub is-taken : taken card (Command 0 bytes 256) ≡ true
+  pub later : List ℕ
+  pub after : ℕ
+  pub encoded-later : Encodes (card .capacity) (storeData (confirmation after)) later
+  pub not-taken : taken card (Command 0 later 256) ≡ false
