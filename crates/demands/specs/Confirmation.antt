@@ -1,4 +1,4 @@
--- Document 01, 'Steps': "Confirmation: .. closes the change". Of every command that writes one, as the grammar of its bytes has it.
+-- Document 01, 'Steps': "Confirmation: closes the change." Of every command that writes one, as the grammar of its bytes has it.
 use Prim.Native.Nat.{ℕ, _≤_}
 use mathlib.Core.Path.{_≡_}
 use mathlib.Core.List.{List}

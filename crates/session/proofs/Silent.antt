@@ -1,9 +1,10 @@
 -- Only a command has a response: whatever the other lines come to, accepted or refused, their outcome carries none, so the text
 -- that `tell` writes is the text of the outcome. By cases of the word. Assumes nothing.
-use Prim.Native.Nat.{ℕ}
+use Prim.Native.Nat.{ℕ, _≤_}
 use mathlib.Core.Path.{_≡_, refl, ap, sym, _∙_, subst}
 use mathlib.Core.List.{List, [], _∷_}
 use mathlib.Core.Bool.{Bool, true, false, not, cond, _&&_, false≢true}
+use lib.ListN.{length}
 use Rattle.status.specs.StatusWords.{isDone}
 use Rattle.status.specs.Rows.{row, wordOf}
 use Rattle.status.specs.declared.Status.{Status}
@@ -25,7 +26,7 @@ use Rattle.script.specs.Orders.{orderOf}
 use Rattle.script.specs.declared.arguments.Span.{Span}
 use Rattle.script.specs.declared.orders.Order.{Order}
 use Rattle.script.specs.declared.orders.Order.the-variants as order
-use Rattle.session.specs.Session.{bytesOf, handedIn, isCall, told, toldFirst, spoken, answerTo, Said, saidBy, lineOf, Spoke}
+use Rattle.session.specs.Session.{bytesOf, handedIn, isCall, told, toldFirst, spoken, answerTo, Said, saidBy, lineOf, mostText, Spoke}
 use Rattle.session.specs.declared.Turn.{Turn}
 
 in-both : (c : Card) (word : Status) (s : Step) (done : Bool) → cond done (accepted s []) (refused c word) .response ≡ []
@@ -45,18 +46,18 @@ handed-in-silent c = decided-silent c (wordOf (soundRow c ∷ [])) (stepTo c c n
 
 -- an answer written without a response, as `tell` promises it
 abbrev pub Silently : List ℕ → ℕ → Bool → Bool → Answer → Turn → List ℕ → Type 0
-Silently old at explain found a r new = (r .card ≡ a .card) × ((r .sound ≡ found) × ((r .goes ≡ true) × Wrote old at (spoken explain a []) (r .filled) new))
+Silently old at explain found a r new = (r .card ≡ a .card) × ((r .sound ≡ found) × ((r .goes ≡ true) × (Wrote old at (spoken explain a []) (r .filled) new × (length (spoken explain a []) ≤ mostText))))
 
 -- of a silent outcome it is what is told of it
 pub told-silent : {old new : List ℕ} {at : ℕ} {a : Answer} {r : Turn} (explain found : Bool) (o : Outcome) → o .response ≡ [] → a ≡ handed o → Silently old at explain found a r new → Spoke old at (told explain found o) r new
 told-silent explain found o none e t =
+    let p = ap (λ (x : Answer). spoken explain x []) e ∙ ap (spoken explain (handed o)) (sym none) in
     record {
       same-card = t .0 ∙ ap (λ (x : Answer). x .card) e;
       same-sound = t .1 .0;
       same-goes = t .1 .1 .0;
-      wrote =
-          wrote-as _ (ap (λ (x : Answer). spoken explain x []) e ∙ ap (spoken explain (handed o)) (sym none))
-          (t .1 .1 .1);
+      wrote = wrote-as _ p (t .1 .1 .1 .0);
+      short = subst (λ (x : List ℕ). length x ≤ mostText) p (t .1 .1 .1 .1);
     }
 
 -- what a line says is read off its order

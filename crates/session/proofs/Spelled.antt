@@ -1,7 +1,7 @@
 -- What is written to the front of a buffer is read back from it whole: the bytes of a word fit in the buffer for a line, and a
 -- response in the one lent to the command, as the manager promises. Assumes nothing.
-use Prim.Native.Nat.{ℕ, _≤_}
-use mathlib.Core.Path.{_≡_, sym, ap, _∙_}
+use Prim.Native.Nat.{ℕ, _+_, _*_, _≤_}
+use mathlib.Core.Path.{_≡_, sym, ap, _∙_, subst}
 use mathlib.Core.List.{List, _++_}
 use mathlib.Core.Bool.{Bool, true}
 use native.Mathlib.Omega.{arith}
@@ -17,8 +17,9 @@ use Rattle.card.specs.declared.Card.{Card}
 use Rattle.card.specs.declared.Answer.{Answer}
 use Rattle.manager.specs.Calls.{Call.Command}
 use Rattle.manager.specs.Manager.{work, Served}
+use Rattle.answers.specs.Explained.{mostExplained}
 use Rattle.script.specs.declared.arguments.Span.{Span}
-use Rattle.session.specs.Session.{mostBytes, bytesOf, spoken, told, Spoke}
+use Rattle.session.specs.Session.{mostBytes, bytesOf, spoken, told, mostText, Spoke}
 use Rattle.session.specs.declared.Turn.{Turn}
 
 -- read back, from the buffer itself and from a longer one that it is the front of
@@ -77,13 +78,22 @@ module _ (c : Card) (verdict : ℕ) (s : List ℕ) (room : ℕ) {t l new : List 
         let k = h .1 in
         rw (length-append new rest) (omega arith)
 
+    -- so that its line is within the longest
+    pub text-short : room ≤ 1024 → (long : ℕ) → long ≤ length (take (r .length) (new ++ rest)) * 2 + mostExplained → long ≤ mostText
+    text-short small long k =
+        let n = response-size in
+        let m = h .1 in
+        omega arith
+
 -- what was spoken is what the outcome is told as
 pub spoke-told : {old new rsp : List ℕ} {at : ℕ} {r : Turn} {a : Answer} (explain found : Bool) (o : Outcome) → a ≡ handed o → rsp ≡ o .response → r .card ≡ a .card
-    → r .sound ≡ found → r .goes ≡ true → Wrote old at (spoken explain a rsp) (r .filled) new → Spoke old at (told explain found o) r new
-spoke-told {rsp = rsp} explain found o e f p q g w =
+    → r .sound ≡ found → r .goes ≡ true → Wrote old at (spoken explain a rsp) (r .filled) new → length (spoken explain a rsp) ≤ mostText → Spoke old at (told explain found o) r new
+spoke-told {rsp = rsp} explain found o e f p q g w k =
+    let z = ap (λ (x : Answer). spoken explain x rsp) e ∙ ap (spoken explain (handed o)) f in
     record {
       same-card = p ∙ ap (λ (x : Answer). x .card) e;
       same-sound = q;
       same-goes = g;
-      wrote = wrote-as _ (ap (λ (x : Answer). spoken explain x rsp) e ∙ ap (spoken explain (handed o)) f) w;
+      wrote = wrote-as _ z w;
+      short = subst (λ (x : List ℕ). length x ≤ mostText) z k;
     }

@@ -1,9 +1,10 @@
 -- A session with a script: what a line makes of the card, and the text that answers it. "Each call writes SW RESPONSE NOTIFICATION
 -- TICKS"; with `explain` it writes for a person instead; a line that cannot be read is named, and the run stops there.
-use Prim.Native.Nat.{ℕ, suc}
+use Prim.Native.Nat.{ℕ, suc, _+_, _*_, _≤_}
 use mathlib.Core.Path.{_≡_}
 use mathlib.Core.List.{List, [], _∷_, _++_}
 use mathlib.Core.Bool.{Bool, true, false, cond}
+use lib.ListN.{length}
 use Rattle.text.specs.Words.{part}
 use Rattle.text.specs.Hex.{spelledIn}
 use Rattle.text.specs.Put.{Wrote}
@@ -24,7 +25,7 @@ use Rattle.script.specs.declared.arguments.Reason.{Reason}
 use Rattle.script.specs.declared.orders.Order.{Order}
 use Rattle.script.specs.declared.orders.Order.the-variants as order
 use Rattle.answers.specs.Lines.{answerLine, reasonLine}
-use Rattle.answers.specs.Explained.{explainedText}
+use Rattle.answers.specs.Explained.{explainedText, mostExplained}
 use Rattle.session.specs.declared.Turn.{Turn}
 
 -- a byte string of a line has at most so many bytes: two digits each, in a line of 4,096
@@ -117,9 +118,14 @@ abbrev pub AskedOnce : Type 0
 AskedOnce =
     (explain : Bool) (lines : List (List ℕ)) → scriptBy lineOf zeroCard false explain 1 lines ≡ scriptBy askedLine zeroCard false explain 1 lines
 
+-- no text of a line is longer: two digits for each byte of the largest response buffer, and what stands beside them
+abbrev pub mostText : ℕ
+mostText = 1024 * 2 + mostExplained
+
 -- a line as the code hands it out: the text stands in the lent buffer from `at` on
 pub record Spoke (old : List ℕ) (at : ℕ) (x : Said) (r : Turn) (new : List ℕ) : Type 0 where
   pub same-card : r .card ≡ x .card
   pub same-sound : r .sound ≡ x .sound
   pub same-goes : r .goes ≡ x .goes
   pub wrote : Wrote old at (x .text) (r .filled) new
+  pub short : length (x .text) ≤ mostText

@@ -15,7 +15,7 @@ use text::spell_hex;
 ghost use mathlib.Core.Path.{_≡_};
 ghost use mathlib.Core.Bool.{true};
 ghost use mathlib.Core.List.{[]};
-ghost use Prim.Native.Nat.{_≤_};
+ghost use Prim.Native.Nat.{_+_, _*_, _≤_};
 ghost use lib.ListN.{length};
 ghost use Rattle.text.specs.Words.{part};
 ghost use Rattle.text.specs.Put.{put, Wrote};
@@ -25,7 +25,8 @@ ghost use Rattle.card.specs.Fresh.{freshOutcome};
 ghost use Rattle.manager.specs.Calls.{Call.Command, Call.Keyed, Call.Stored, Call.Finished};
 ghost use Rattle.manager.specs.Manager.{work};
 ghost use Rattle.script.specs.Records.{recordOf};
-ghost use Rattle.session.specs.Session.{bytesOf, handedIn, isCall, spoken, told, faulty, firstTurn, lineOf, Spoke};
+ghost use Rattle.answers.specs.Explained.{mostExplained};
+ghost use Rattle.session.specs.Session.{bytesOf, handedIn, isCall, spoken, told, faulty, firstTurn, lineOf, mostText, Spoke};
 
 // Where a session stands: its card, whether that card is sound, up to where the lent buffer is filled, and whether the run goes on.
 // Soundness is asked where a card is handed in, and kept: every call leaves a sound card sound.
@@ -145,7 +146,7 @@ fn record_in(s: &[u8]) -> Answer
 
 // An answer written out, on one line or for a person; up to where the buffer is then filled.
 fn speak(explain: bool, answer: Answer, response: &[u8], out: &mut [u8], at: usize) -> usize
-    ensures { λ r. ⌜ Wrote (now (out .entry)) at (spoken explain answer (now (response .entry))) r (now (out .exit)) ⌝ }
+    ensures { λ r. ⌜ Wrote (now (out .entry)) at (spoken explain answer (now (response .entry))) r (now (out .exit)) × (length (spoken explain answer (now (response .entry))) ≤ length (now (response .entry)) * 2 + mostExplained) ⌝ }
 {
     if explain {
         return write_explained(answer, response, out, at);
@@ -155,7 +156,7 @@ fn speak(explain: bool, answer: Answer, response: &[u8], out: &mut [u8], at: usi
 
 // An answer without a response.
 fn tell(explain: bool, sound: bool, answer: Answer, out: &mut [u8], at: usize) -> Turn
-    ensures { λ r. ⌜ (r .card ≡ answer .card) × ((r .sound ≡ sound) × ((r .goes ≡ true) × Wrote (now (out .entry)) at (spoken explain answer []) (r .filled) (now (out .exit)))) ⌝ }
+    ensures { λ r. ⌜ (r .card ≡ answer .card) × ((r .sound ≡ sound) × ((r .goes ≡ true) × (Wrote (now (out .entry)) at (spoken explain answer []) (r .filled) (now (out .exit)) × (length (spoken explain answer []) ≤ mostText)))) ⌝ }
 {
     let none = [0u8; 1];
     let filled = speak(explain, answer, &none[..0], out, at);
@@ -170,7 +171,7 @@ fn tell(explain: bool, sound: bool, answer: Answer, out: &mut [u8], at: usize) -
 
 // An answer of a call that hands in a card: it is sound exactly where the call is accepted.
 fn tell_first(explain: bool, answer: Answer, out: &mut [u8], at: usize) -> Turn
-    ensures { λ r. ⌜ (r .card ≡ answer .card) × ((r .sound ≡ isDone (answer .status)) × ((r .goes ≡ true) × Wrote (now (out .entry)) at (spoken explain answer []) (r .filled) (now (out .exit)))) ⌝ }
+    ensures { λ r. ⌜ (r .card ≡ answer .card) × ((r .sound ≡ isDone (answer .status)) × ((r .goes ≡ true) × (Wrote (now (out .entry)) at (spoken explain answer []) (r .filled) (now (out .exit)) × (length (spoken explain answer []) ≤ mostText)))) ⌝ }
 {
     let status = answer.status;
     tell(explain, status.is_done(), answer, out, at)

@@ -15,7 +15,7 @@ ghost use mathlib.Core.Path.{_≡_};
 ghost use Prim.Native.Nat.{_≤_, _<_};
 ghost use lib.ListN.{length};
 
-// The bytes collected before they are written out, and the room that is kept for the answer of one line.
+// The bytes collected before they are written out, and the room that is kept for the answer of one line: it is longer than any.
 const OUT: usize = 16384;
 
 const ANSWER: usize = 4096;

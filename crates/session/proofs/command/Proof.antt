@@ -8,7 +8,7 @@ use Rattle.card.specs.Answers.{known}
 use Rattle.manager.specs.Calls.{Call.Command}
 use Rattle.manager.specs.Manager.{work}
 use Rattle.session.specs.Session.{bytesOf}
-use Rattle.session.proofs.Spelled.{word-fits, word-is, word-size, answer-is, response-is, response-size, response-fits, spoke-told}
+use Rattle.session.proofs.Spelled.{word-fits, word-is, word-size, answer-is, response-is, response-size, response-fits, text-short, spoke-told}
 use borrow.Author.Needs.{needs}
 use Rattle.session.proofs.command.Statement.{statement}
 use Rattle.session.proofs.command.Tie as tie
@@ -67,7 +67,8 @@ returns c =
     spoke-told (a .explain) true (known (a .card) (work (a .card) (Command (a .verdict) (bytesOf (now (a .s)) (a .span)) (a .room))))
     (answer-is (a .card) (a .verdict) _ (a .room) heard word (length-take-le (a .room) _ h))
     (response-is (a .card) (a .verdict) _ (a .room) heard word (length-take-le (a .room) _ h) _)
-    refl refl refl (c .before .before .before .speak .ensures)
+    refl refl refl (c .before .before .before .speak .ensures .0)
+    (text-short (a .card) (a .verdict) _ (a .room) heard word (length-take-le (a .room) _ h) _ h _ (c .before .before .before .speak .ensures .1))
 
 pub command-spec : {M : Type 1} → statement M
 command-spec =

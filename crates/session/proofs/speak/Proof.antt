@@ -1,3 +1,4 @@
+use native.Mathlib.Omega.{arith}
 use borrow.Author.Needs.{needs}
 use Rattle.session.proofs.speak.Statement.{statement}
 use Rattle.session.proofs.speak.Tie as tie
@@ -10,7 +11,7 @@ same-length c = search needs
 
 returns : tie.Need-returns
 returns c =
-    rw (c .before .before .before .before .if1 .taken) (c .before .before .write-explained .ensures .0)
+    rw (c .before .before .before .before .if1 .taken) (c .before .before .write-explained .ensures)
 
 write-answer-requires : tie.Need-write-answer-requires
 write-answer-requires c κs = search needs
@@ -20,7 +21,8 @@ same-length-2 c = search needs
 
 returns-2 : tie.Need-returns-2
 returns-2 c =
-    rw (c .before .before .before .before .if1 .left) (c .before .before .write-answer .ensures .0)
+    rw (c .before .before .before .before .if1 .left) (let w = c .before .before .write-answer .ensures in
+    (w .0, let k = w .1 in omega arith))
 
 pub speak-spec : {M : Type 1} → statement M
 speak-spec =

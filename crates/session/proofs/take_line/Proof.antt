@@ -1,6 +1,7 @@
 -- `session::take_line`: a call on a card that was not found sound is refused; else each arm cites the promise of what it calls, and
 -- the line is read off its order.
 use mathlib.Core.Path.{refl, ap, sym, _∙_}
+use native.Mathlib.Omega.{arith}
 use denote.Ref.{now}
 use Rattle.status.specs.Rows.{wordOf}
 use Rattle.text.proofs.PutLaws.{wrote-none}
@@ -121,7 +122,7 @@ returns-2 c =
     let a = c .before .before .before .before .before .before .before .before .before .before .args in
     let e = c .passed-over .ensures in
     as-ordered _ _ _ _ _ _ (sym (c .before .enum-told .given .1) ∙ c .before .before .before .before .before .before .before .read-line .ensures)
-    (record { same-card = ap (λ (t : Turn). t .card) e; same-sound = ap (λ (t : Turn). t .sound) e; same-goes = ap (λ (t : Turn). t .goes) e; wrote = rw e (wrote-none _ (a .turn .filled)) })
+    (record { same-card = ap (λ (t : Turn). t .card) e; same-sound = ap (λ (t : Turn). t .sound) e; same-goes = ap (λ (t : Turn). t .goes) e; wrote = rw e (wrote-none _ (a .turn .filled)); short = omega arith })
 
 same-length-2 : tie.Need-same-length-2
 same-length-2 c = search needs
