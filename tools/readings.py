@@ -2,14 +2,13 @@
 """Writes readings.stdin and readings.stdout: command bytes for `peer read 1000`.
 The answer beside each command is written here from document 01 and RULINGS; the peer's
 answers are stored only if they all agree with it."""
-import pathlib, subprocess, sys
+import subprocess, sys
 
 sys.dont_write_bytecode = True
 from commands import *
+from engine import HERE, built
 
-HERE = pathlib.Path(__file__).resolve().parent
-PEER = HERE / "peer/target/release/peer"
-subprocess.run(["cargo", "build", "--release", "--offline", "--quiet"], cwd=HERE / "peer", check=True)
+PEER = built("peer")
 lines, wanted = [], []
 
 

@@ -2,15 +2,13 @@
 """Writes marked.script and scenarios.script with their stdouts.
 The answer beside each call is written here from document 01 and RULINGS; the peer's
 answers are stored only if they all agree with it."""
-import pathlib, subprocess, sys
+import subprocess, sys
 
 sys.dont_write_bytecode = True
 from commands import *
+from engine import HERE, built
 
-HERE = pathlib.Path(__file__).resolve().parent
-PEER = HERE / "peer/target/release/peer"
-subprocess.run(["cargo", "build", "--release", "--offline", "--quiet"], cwd=HERE / "peer", check=True)
-EID = "89001012012341234012345678901224"
+PEER = built("peer")
 VOLATILE = 0x01020304
 
 lines, wanted, names = [], [], 0
@@ -127,6 +125,16 @@ def table(*rows, ticks=0):
 
 def figures(n, free, ticks=0, volatile=VOLATILE):
     command("80CAFF2100", done(ticks, response=f"FF210F8101{n:02X}8204{free:08X}8304{volatile:08X}"))
+
+
+def not_ready(step):
+    """An AID that is not held, and a profile SELECTABLE and PERSONALIZED."""
+    fresh()
+    makes(2)
+    step(3, no("6A88"))
+    step(2, no("6985"))
+    keyed(2)
+    step(2, no("6985"))
 
 
 def card(answer, capacity=1000, volatile=7, last=0, fall_back=0, phase="Q", places=(), eid=EID):
@@ -362,12 +370,7 @@ enables(2, done(20, notification=note(2, 1, 2)))
 table((1, D, True), (2, E), ticks=20)
 
 name("enable refused: not held, then each wrong state")
-fresh()
-makes(2)
-enables(3, no("6A88"))
-enables(2, no("6985"))
-keyed(2)
-enables(2, no("6985"))
+not_ready(enables)
 enables(1, no("6985"))
 
 name("enable refused: the enabled profile forbids disabling")
@@ -429,12 +432,7 @@ confirms(2)
 table((1, E, True), (2, D))
 
 name("disable refused: not held, each wrong state, the fall-back")
-fresh()
-makes(2)
-disables(3, no("6A88"))
-disables(2, no("6985"))
-keyed(2)
-disables(2, no("6985"))
+not_ready(disables)
 stored(2, 1)
 finished(2)
 disables(2, no("6985"))
@@ -457,12 +455,7 @@ figures(1, 900)
 deletes(2, no("6A88"))
 
 name("delete refused: each wrong state, the fall-back, the policy, a change open")
-fresh()
-makes(2)
-deletes(3, no("6A88"))
-deletes(2, no("6985"))
-keyed(2)
-deletes(2, no("6985"))
+not_ready(deletes)
 deletes(1, no("6985"))
 stored(2, 1)
 finished(2, 2)
@@ -507,12 +500,7 @@ sets(1)
 table((1, E, True), (2, D))
 
 name("set fall-back refused: not held, SELECTABLE, PERSONALIZED, a change open")
-fresh()
-makes(2)
-sets(3, no("6A88"))
-sets(2, no("6985"))
-keyed(2)
-sets(2, no("6985"))
+not_ready(sets)
 stored(2, 1)
 finished(2)
 enables(2, done(20, notification=note(2, 1, 2)))
