@@ -1,5 +1,6 @@
 //! The manager: each call of document 01, its tests in the table's order, its step, its answer.
 //! A step changes the card or the buffer only after its last test, so a refusal leaves both alone.
+//! Soundness is asked where a card is handed in, and kept: no step from a sound card makes an unsound one.
 
 use crate::card::*;
 use crate::read::{read, Request};
@@ -36,10 +37,30 @@ fn refused(status: u16, ticks: u32) -> Answer {
     Answer { status, written: 0, notification: None, ticks }
 }
 
-fn on_sound(card: &mut Card, step: impl FnOnce(&mut Card) -> Result<Done, u16>) -> Answer {
-    if !card.is_sound() {
+/// A card, and what was found of it when it was handed in.
+#[derive(Clone, Copy, PartialEq, Eq, Debug)]
+pub struct Kept {
+    card: Card,
+    sound: bool,
+}
+
+impl Kept {
+    pub const ZEROS: Kept = Kept { card: Card::ZEROS, sound: false };
+
+    pub fn of(card: Card) -> Kept {
+        Kept { card, sound: card.is_sound() }
+    }
+
+    pub fn card(&self) -> &Card {
+        &self.card
+    }
+}
+
+fn on_sound(kept: &mut Kept, step: impl FnOnce(&mut Card) -> Result<Done, u16>) -> Answer {
+    if !kept.sound {
         return refused(NOT_SOUND, 0);
     }
+    let card = &mut kept.card;
     match step(card) {
         Ok(Done { written, notification }) => {
             Answer { status: DONE, written, notification, ticks: card.ticks_to_come() }
@@ -49,27 +70,29 @@ fn on_sound(card: &mut Card, step: impl FnOnce(&mut Card) -> Result<Done, u16>) 
 }
 
 /// A refused fresh hands back the record of zeros, and that is the card from then on.
-pub fn fresh(eid: &[u8], aid: &[u8], capacity: u32, quota: u32, used: u32, volatile: u32) -> (Card, Answer) {
+pub fn fresh(eid: &[u8], aid: &[u8], capacity: u32, quota: u32, used: u32, volatile: u32) -> (Kept, Answer) {
     match Card::fresh(eid, aid, capacity, quota, used, volatile) {
-        Some(card) => (card, Answer { status: DONE, written: 0, notification: None, ticks: 0 }),
-        None => (Card::ZEROS, refused(WRONG_DATA, 0)),
+        Some(card) => (Kept::of(card), Answer { status: DONE, written: 0, notification: None, ticks: 0 }),
+        None => (Kept::ZEROS, refused(WRONG_DATA, 0)),
     }
 }
 
-pub fn hand_in(card: &mut Card) -> Answer {
-    on_sound(card, |_| Ok(Done::default()))
+pub fn hand_in(card: Card) -> (Kept, Answer) {
+    let mut kept = Kept::of(card);
+    let answer = on_sound(&mut kept, |_| Ok(Done::default()));
+    (kept, answer)
 }
 
-pub fn tick(card: &mut Card) -> Answer {
-    on_sound(card, |card| Ok(Done { written: 0, notification: card.tick() }))
+pub fn tick(kept: &mut Kept) -> Answer {
+    on_sound(kept, |card| Ok(Done { written: 0, notification: card.tick() }))
 }
 
-pub fn lost(card: &mut Card) -> Answer {
-    on_sound(card, |card| Ok(Done { written: 0, notification: card.lost() }))
+pub fn lost(kept: &mut Kept) -> Answer {
+    on_sound(kept, |card| Ok(Done { written: 0, notification: card.lost() }))
 }
 
-pub fn keyed(card: &mut Card, aid: &[u8]) -> Answer {
-    on_sound(card, |card| {
+pub fn keyed(kept: &mut Kept, aid: &[u8]) -> Answer {
+    on_sound(kept, |card| {
         let index = named(card, aid)?;
         let place = &mut card.places[index];
         require(place.life_cycle == SELECTABLE, NOT_NOW)?;
@@ -78,8 +101,8 @@ pub fn keyed(card: &mut Card, aid: &[u8]) -> Answer {
     })
 }
 
-pub fn stored(card: &mut Card, aid: &[u8], n: u32) -> Answer {
-    on_sound(card, |card| {
+pub fn stored(kept: &mut Kept, aid: &[u8], n: u32) -> Answer {
+    on_sound(kept, |card| {
         let index = named(card, aid)?;
         let place = &mut card.places[index];
         require(place.life_cycle == PERSONALIZED, NOT_NOW)?;
@@ -90,8 +113,8 @@ pub fn stored(card: &mut Card, aid: &[u8], n: u32) -> Answer {
     })
 }
 
-pub fn finished(card: &mut Card, aid: &[u8], policy: u8) -> Answer {
-    on_sound(card, |card| {
+pub fn finished(kept: &mut Kept, aid: &[u8], policy: u8) -> Answer {
+    on_sound(kept, |card| {
         require(policy_is_right(policy), WRONG_DATA)?;
         let index = named(card, aid)?;
         let place = &mut card.places[index];
@@ -102,8 +125,8 @@ pub fn finished(card: &mut Card, aid: &[u8], policy: u8) -> Answer {
     })
 }
 
-pub fn command(card: &mut Card, verdict: u8, bytes: &[u8], buffer: &mut [u8]) -> Answer {
-    on_sound(card, |card| {
+pub fn command(kept: &mut Kept, verdict: u8, bytes: &[u8], buffer: &mut [u8]) -> Answer {
+    on_sound(kept, |card| {
         require(buffer.len() >= BUFFER_LEAST, BUFFER_SHORT)?;
         match read(bytes, card.capacity)? {
             Request::Create { aid, quota } => create(card, aid, quota, buffer),

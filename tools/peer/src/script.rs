@@ -2,7 +2,7 @@
 //! Works on bytes, not text: whatever is not a space belongs to a word.
 
 use crate::card::*;
-use crate::manager::{self, Answer};
+use crate::manager::{self, Answer, Kept};
 use crate::read::{read, Request};
 use std::fmt::Write;
 
@@ -203,41 +203,48 @@ fn put_answer(out: &mut String, answer: &Answer, response: &[u8]) {
 
 /// The card that a script's calls act on. Before any fresh or card it is the record of zeros.
 pub struct Script {
-    pub card: Card,
+    kept: Kept,
 }
 
 impl Script {
     pub fn new() -> Script {
-        Script { card: Card::ZEROS }
+        Script { kept: Kept::ZEROS }
+    }
+
+    /// For the generator, whose calls suit the card.
+    #[allow(dead_code)]
+    pub fn card(&self) -> &Card {
+        self.kept.card()
     }
 
     /// Answers one line (given without its line end) by adding to `out`.
     pub fn line(&mut self, line: &[u8], out: &mut String) -> Result<(), Bad> {
         let Some(words) = words(line)? else { return Ok(()) };
-        let card = &mut self.card;
+        let kept = &mut self.kept;
         let answer = match call(&words)? {
             Call::Fresh { eid, aid, capacity, quota, used, volatile } => {
                 let (new, answer) = manager::fresh(&eid, &aid, capacity, quota, used, volatile);
-                *card = new;
+                *kept = new;
                 answer
             }
             Call::Command { verdict, bytes, length } => {
                 let mut buffer = [0u8; BUFFER_MOST as usize];
                 let lent = &mut buffer[..length];
                 lend(lent);
-                let answer = manager::command(card, verdict, &bytes, lent);
+                let answer = manager::command(kept, verdict, &bytes, lent);
                 assert!(is_as_lent(lent, answer.written), "a byte past the response was written");
                 put_answer(out, &answer, &lent[..answer.written]);
                 return Ok(());
             }
-            Call::Keyed(aid) => manager::keyed(card, &aid),
-            Call::Stored(aid, n) => manager::stored(card, &aid, n),
-            Call::Finished(aid, policy) => manager::finished(card, &aid, policy),
-            Call::Tick => manager::tick(card),
-            Call::Lost => manager::lost(card),
+            Call::Keyed(aid) => manager::keyed(kept, &aid),
+            Call::Stored(aid, n) => manager::stored(kept, &aid, n),
+            Call::Finished(aid, policy) => manager::finished(kept, &aid, policy),
+            Call::Tick => manager::tick(kept),
+            Call::Lost => manager::lost(kept),
             Call::HandIn(new) => {
-                *card = new;
-                manager::hand_in(card)
+                let (new, answer) = manager::hand_in(new);
+                *kept = new;
+                answer
             }
         };
         put_answer(out, &answer, &[]);

@@ -3,7 +3,7 @@
 //! Every expected line is written from the papers, none is copied from a run.
 
 use crate::card::*;
-use crate::manager;
+use crate::manager::{self, Kept};
 use crate::script::{reading, Bad, Script};
 
 const FRESH: &str = "fresh 00112233445566778899AABBCCDDEEFF A000000001 1000 100 0 16909060";
@@ -236,15 +236,17 @@ fn refusals_leave_the_card_and_steps_keep_it_sound() {
     commands.push(vec![0x80, 0xE2, 0x89, 0, 7, 0x3A, 8, 4, 0x4E, 2, 0xFF, 0xFF]);
     for card in sound_cards() {
         for bytes in &commands {
-            let mut new = card;
-            let answer = manager::command(&mut new, 0, bytes, &mut [0; 256]);
+            let mut kept = Kept::of(card);
+            let answer = manager::command(&mut kept, 0, bytes, &mut [0; 256]);
+            let new = *kept.card();
+            assert_eq!(kept, Kept::of(new));
             assert!(new.is_sound());
             assert!(answer.status == 0x9000 || new == card);
             assert_eq!(answer.ticks, new.ticks_to_come());
         }
-        let mut new = card;
-        manager::lost(&mut new);
-        assert!(new.is_sound());
+        let mut kept = Kept::of(card);
+        manager::lost(&mut kept);
+        assert!(kept.card().is_sound());
     }
 }
 
@@ -256,9 +258,9 @@ fn unsound_cards() {
         let mut card = sound;
         change(&mut card);
         assert!(!card.is_sound(), "{card:?}");
-        let before = card;
-        let answer = manager::tick(&mut card);
-        assert_eq!((answer.status, answer.ticks, card), (0x6F00, 0, before));
+        let mut kept = Kept::of(card);
+        let answer = manager::tick(&mut kept);
+        assert_eq!((answer.status, answer.ticks, *kept.card()), (0x6F00, 0, card));
     };
     broken(&|card| card.capacity = 0);
     broken(&|card| card.capacity = 1_048_577);

@@ -123,7 +123,7 @@ impl Generator {
     }
 
     fn places(&self, wanted: impl Fn(usize, &Place) -> bool) -> Vec<usize> {
-        let places = self.model.card.places.iter().enumerate();
+        let places = self.model.card().places.iter().enumerate();
         places.filter(|(index, place)| place.is_held() && wanted(*index, place)).map(|(index, _)| index).collect()
     }
 
@@ -135,7 +135,7 @@ impl Generator {
         let among = if roll < 80 && !suited.is_empty() { suited } else { held };
         if roll < 92 && !among.is_empty() {
             let index = self.random.pick(&among);
-            return self.model.card.places[index].aid.bytes().to_vec();
+            return self.model.card().places[index].aid.bytes().to_vec();
         }
         if roll < 97 {
             self.any_aid()
@@ -395,7 +395,7 @@ impl Generator {
     }
 
     fn create(&mut self) {
-        let card = self.model.card;
+        let card = *self.model.card();
         let mut aid = self.any_aid();
         if card.find(&aid).is_some() && self.random.chance(80) {
             aid = self.any_aid();
@@ -464,7 +464,7 @@ impl Generator {
     }
 
     fn confirm(&mut self, right: usize) {
-        let last = self.model.card.last;
+        let last = self.model.card().last;
         let number = if self.random.chance(right) {
             last
         } else {
@@ -475,7 +475,7 @@ impl Generator {
     }
 
     fn delete(&mut self, master: bool) {
-        let fall_back = usize::from(self.model.card.fall_back);
+        let fall_back = usize::from(self.model.card().fall_back);
         let aid = self.target(|index, place| place.life_cycle == DISABLED && index != fall_back);
         let mut field = tlv(&[0x4F], &aid);
         let mut verdict = self.verdict();
@@ -532,7 +532,7 @@ impl Generator {
 
     fn stored(&mut self) {
         let aid = self.target(|_, place| place.life_cycle == PERSONALIZED);
-        let place = self.model.card.find(&aid).map(|index| self.model.card.places[index]);
+        let place = self.model.card().find(&aid).map(|index| self.model.card().places[index]);
         let room = place.map_or(9, |place| place.quota.saturating_sub(place.used));
         let some = self.random.number(1, room / 2 + 1);
         let n = self.random.pick(&[some, some, some, some, room, room.wrapping_add(1), 0, u32::MAX]);
@@ -563,7 +563,7 @@ impl Generator {
 
     /// On a full card mostly a delete, so that the places come and go.
     fn create_if_room(&mut self) {
-        let card = self.model.card;
+        let card = *self.model.card();
         let room = card.is_sound() && card.lowest_free_place().is_some() && card.free() > 0;
         if room || self.random.chance(15) {
             self.create();
@@ -614,7 +614,7 @@ impl Generator {
 
     fn call(&mut self) {
         let roll = self.random.below(100);
-        if self.model.card.is_open() {
+        if self.model.card().is_open() {
             match roll {
                 0..=21 => self.ticks(),
                 22..=51 => self.confirm(75),
@@ -661,7 +661,7 @@ impl Generator {
 
     /// Where hardly any command can be accepted, a chapter is not worth its full length.
     fn is_stuck(&self) -> bool {
-        let card = &self.model.card;
+        let card = self.model.card();
         let alone = card.held() == 1 && card.free() == 0;
         let bound = card.places[card.enabled()].policy & DISABLING_FORBIDDEN != 0 && card.is_fall_back(card.enabled());
         !card.is_open() && (alone || bound)
