@@ -1,7 +1,8 @@
-//! The independent peer of `teapot`: reads a script and answers each call on a line of its own.
-//! `peer [FILE]` plays a script; `peer read CAPACITY [FILE]` shows how the command reader takes
-//! each line's bytes. Thin: lines in, text out.
+//! The independent peer of `teapot`: takes its arguments (docs/SCRIPT.md) and answers as it does.
+//! `peer read CAPACITY [FILE]` shows how the command reader takes each line's bytes.
+//! Thin: lines in, text out.
 
+mod answers;
 mod card;
 mod manager;
 mod read;
@@ -10,7 +11,7 @@ mod status;
 #[cfg(test)]
 mod tests;
 
-use script::{Bad, Script, LINE_MOST};
+use script::{Bad, Options, Script, LINE_MOST};
 use std::fs::File;
 use std::io::{self, ErrorKind, Read, Write};
 use std::process::ExitCode;
@@ -21,11 +22,9 @@ fn main() -> ExitCode {
     let arguments: Vec<String> = std::env::args().skip(1).collect();
     let arguments: Vec<&str> = arguments.iter().map(String::as_str).collect();
     let played = match arguments[..] {
-        ["read", capacity] => readings(capacity, None),
-        ["read", capacity, file] => readings(capacity, Some(file)),
-        [] => play(None),
-        [file] => play(Some(file)),
-        _ => Err(io::Error::new(ErrorKind::InvalidInput, "usage: peer [FILE] | peer read CAPACITY [FILE]")),
+        ["read", capacity] => readings(capacity, "-"),
+        ["read", capacity, file] => readings(capacity, file),
+        _ => play(&arguments),
     };
     match played {
         Ok(true) => ExitCode::SUCCESS,
@@ -37,19 +36,41 @@ fn main() -> ExitCode {
     }
 }
 
-fn input(file: Option<&str>) -> io::Result<Box<dyn Read>> {
+fn input(file: &str) -> io::Result<Box<dyn Read>> {
     Ok(match file {
-        None => Box::new(io::stdin().lock()),
-        Some(file) => Box::new(File::open(file)?),
+        "-" => Box::new(io::stdin().lock()),
+        _ => Box::new(File::open(file)?),
     })
 }
 
-fn play(file: Option<&str>) -> io::Result<bool> {
-    let mut script = Script::new();
+/// Hands back whether every line could be read; at the first that could not the run stops.
+fn play(arguments: &[&str]) -> io::Result<bool> {
+    let mut options = Options::default();
+    let mut named = false;
+    for argument in arguments {
+        match *argument {
+            "explain" => options.explained = true,
+            "ask" => options.asks = true,
+            file => {
+                named = true;
+                if !play_one(file, options)? {
+                    return Ok(false);
+                }
+            }
+        }
+    }
+    if named {
+        return Ok(true);
+    }
+    play_one("-", options)
+}
+
+fn play_one(file: &str, options: Options) -> io::Result<bool> {
+    let mut script = Script::new(options);
     each_line(input(file)?, |line, out| script.line(line, out))
 }
 
-fn readings(capacity: &str, file: Option<&str>) -> io::Result<bool> {
+fn readings(capacity: &str, file: &str) -> io::Result<bool> {
     let capacity: u32 = capacity.parse().map_err(|_| io::Error::new(ErrorKind::InvalidInput, "bad capacity"))?;
     each_line(input(file)?, |line, out| script::reading(line, capacity, out))
 }

@@ -1,6 +1,7 @@
-//! The script language of `teapot`: what a line means, and what an answer line says.
+//! The script language of `teapot`: what a line means, and the card that the lines act on.
 //! Works on bytes, not text: whatever is not a space belongs to a word.
 
+use crate::answers::{put_explained, put_hex, put_line};
 use crate::card::*;
 use crate::manager::{self, Answer, Kept};
 use crate::read::{read, Request};
@@ -177,38 +178,22 @@ fn call(words: &[&[u8]]) -> Result<Call, Bad> {
     })
 }
 
-fn put_hex(out: &mut String, bytes: &[u8]) {
-    if bytes.is_empty() {
-        out.push('-');
-    }
-    for byte in bytes {
-        for nibble in [byte >> 4, byte & 0x0F] {
-            out.push(char::from(b"0123456789ABCDEF"[usize::from(nibble)]));
-        }
-    }
-}
-
-fn put_answer(out: &mut String, answer: &Answer, response: &[u8]) {
-    let _ = write!(out, "{:04X} ", answer.status);
-    put_hex(out, response);
-    match &answer.notification {
-        None => out.push_str(" -"),
-        Some(notification) => {
-            let _ = write!(out, " {:02X}:{:04X}:", notification.kind, notification.number);
-            put_hex(out, notification.aid.bytes());
-        }
-    }
-    let _ = writeln!(out, " {}", answer.ticks);
+#[derive(Clone, Copy, Default)]
+pub struct Options {
+    pub explained: bool,
+    /// Every call asks for itself whether the card is sound.
+    pub asks: bool,
 }
 
 /// The card that a script's calls act on. Before any fresh or card it is the record of zeros.
 pub struct Script {
     kept: Kept,
+    options: Options,
 }
 
 impl Script {
-    pub fn new() -> Script {
-        Script { kept: Kept::ZEROS }
+    pub fn new(options: Options) -> Script {
+        Script { kept: Kept::ZEROS, options }
     }
 
     /// For the generator, whose calls suit the card.
@@ -220,8 +205,12 @@ impl Script {
     /// Answers one line (given without its line end) by adding to `out`.
     pub fn line(&mut self, line: &[u8], out: &mut String) -> Result<(), Bad> {
         let Some(words) = words(line)? else { return Ok(()) };
+        let call = call(&words)?;
         let kept = &mut self.kept;
-        let answer = match call(&words)? {
+        if self.options.asks {
+            *kept = Kept::of(*kept.card());
+        }
+        let answer = match call {
             Call::Fresh { eid, aid, capacity, quota, used, volatile } => {
                 let (new, answer) = manager::fresh(&eid, &aid, capacity, quota, used, volatile);
                 *kept = new;
@@ -233,7 +222,7 @@ impl Script {
                 lend(lent);
                 let answer = manager::command(kept, verdict, &bytes, lent);
                 assert!(is_as_lent(lent, answer.written), "a byte past the response was written");
-                put_answer(out, &answer, &lent[..answer.written]);
+                self.put(out, &answer, &lent[..answer.written]);
                 return Ok(());
             }
             Call::Keyed(aid) => manager::keyed(kept, &aid),
@@ -247,8 +236,16 @@ impl Script {
                 answer
             }
         };
-        put_answer(out, &answer, &[]);
+        self.put(out, &answer, &[]);
         Ok(())
+    }
+
+    fn put(&self, out: &mut String, answer: &Answer, response: &[u8]) {
+        if self.options.explained {
+            put_explained(out, self.kept.card(), answer, response);
+        } else {
+            put_line(out, answer, response);
+        }
     }
 }
 

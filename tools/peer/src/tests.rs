@@ -4,7 +4,7 @@
 
 use crate::card::*;
 use crate::manager::{self, Kept};
-use crate::script::{reading, Bad, Script};
+use crate::script::{reading, Bad, Options, Script};
 
 const FRESH: &str = "fresh 00112233445566778899AABBCCDDEEFF A000000001 1000 100 0 16909060";
 const CREATE_02: &str = "command 0 80E60C003C10A0000005591010FFFFFFFF8900000D0010A0000005591010FFFFFFFF8900000E0005A0000000020380C0000EC90481020370EF068304000000320000";
@@ -15,7 +15,11 @@ const CONFIRM_1: &str = "command 0 80E28900073A08044E02000100";
 const STATUS: &str = "command 0 80F24002024F0000";
 
 fn play(lines: &[&str]) -> Vec<String> {
-    let mut script = Script::new();
+    played(lines, Options::default())
+}
+
+fn played(lines: &[&str], options: Options) -> Vec<String> {
+    let mut script = Script::new(options);
     lines
         .iter()
         .map(|line| {
@@ -131,9 +135,56 @@ fn marked_examples_7_to_12() {
     assert_eq!(play(&[&["lost", STATUS]]), format!("{enabled_f}0"));
 }
 
+fn explained(lines: &[&str]) -> String {
+    played(lines, Options { explained: true, asks: false }).pop().unwrap()
+}
+
+#[test]
+fn explained_form() {
+    let refused = "fresh - A000000001 1000 100 0 0";
+    assert_eq!(
+        explained(&[refused]),
+        "6A 80 data field or values wrong, or AID already held\n  no profile is held\nphase quiet\nticks to come 0"
+    );
+    let head = "  place  AID         state           quota     used  fall-back  policy\n";
+    let start = with_02(4);
+    let mut lines: Vec<&str> = start.iter().map(String::as_str).collect();
+    lines.push(ENABLE_02);
+    let table = "      0  A000000001  DISABLED          100        0  yes        none
+      1  A000000002  ENABLED            50        5             deleted once disabled
+phase trial: previous at place 0, ticks left 10, number 1
+ticks to come 20";
+    assert_eq!(explained(&lines), format!("90 00 done\nnotification 1: changed, A000000002 enabled\n{head}{table}"));
+    lines.push("command 0 80F240");
+    assert_eq!(explained(&lines).lines().next().unwrap(), "67 00 command length or length shape wrong");
+    lines.push("command 0 80F240020B4F05A0000000025C029F70");
+    assert_eq!(explained(&lines).lines().nth(1).unwrap(), "response E30B4F05A0000000029F70013F");
+    let strange = "card 00112233445566778899AABBCCDDEEFF 0 0 9 3 F:255:65535 - -:3F:1:1:1 A0:AB:4294967295:12345678:255 A1:07:0:0:3 - - - -";
+    assert_eq!(
+        explained(&[strange]),
+        "6F 00 the card is not sound
+  place  AID  state           quota     used  fall-back  policy
+      2  A0  AB            4294967295  12345678             FF
+      3  A1  SELECTABLE          0        0  yes        disabling and deletion forbidden
+phase fallen: ticks left 255, number 65535
+ticks to come 0"
+    );
+}
+
+#[test]
+fn asking_at_every_call_changes_no_answer() {
+    let start = with_02(0);
+    let mut lines: Vec<&str> = vec!["tick"];
+    lines.extend(start.iter().map(String::as_str));
+    lines.extend([ENABLE_02, "lost", CREATE_02]);
+    lines.extend(ticks(20));
+    lines.extend(["fresh - - 0 0 0 0", "tick"]);
+    assert_eq!(played(&lines, Options { explained: false, asks: true }), play(&lines));
+}
+
 #[test]
 fn bad_lines() {
-    let bad = |line: &str| Script::new().line(line.as_bytes(), &mut String::new());
+    let bad = |line: &str| Script::new(Options::default()).line(line.as_bytes(), &mut String::new());
     assert_eq!(bad(&"#".repeat(4097)), Err(Bad::TooLong));
     assert_eq!(bad(&"#".repeat(4096)), Ok(()));
     assert_eq!(bad("Tick 1"), Err(Bad::UnknownWord));

@@ -5,6 +5,8 @@
 // The generator needs only part of each module it shares with the peer.
 #![allow(dead_code)]
 
+#[path = "../answers.rs"]
+mod answers;
 #[path = "../card.rs"]
 mod card;
 #[path = "../manager.rs"]
@@ -17,7 +19,7 @@ mod script;
 mod status;
 
 use card::*;
-use script::{hex_word, Script};
+use script::{hex_word, Options, Script};
 use std::process::ExitCode;
 
 /// SplitMix64: small, seeded by any number, and the same on every machine.
@@ -758,8 +760,13 @@ fn main() -> ExitCode {
         eprintln!("usage: generate SEED CALLS [bad]");
         return ExitCode::from(2);
     };
-    let mut generator =
-        Generator { random: Random(seed), model: Script::new(), aids: Vec::new(), out: String::new(), calls: 0 };
+    let mut generator = Generator {
+        random: Random(seed),
+        model: Script::new(Options::default()),
+        aids: Vec::new(),
+        out: String::new(),
+        calls: 0,
+    };
     while generator.calls < calls as usize {
         generator.chapter(calls as usize);
     }
