@@ -205,12 +205,11 @@ impl Script {
     /// Answers one line (given without its line end) by adding to `out`.
     pub fn line(&mut self, line: &[u8], out: &mut String) -> Result<(), Bad> {
         let Some(words) = words(line)? else { return Ok(()) };
-        let call = call(&words)?;
         let kept = &mut self.kept;
         if self.options.asks {
             *kept = Kept::of(*kept.card());
         }
-        let answer = match call {
+        let answer = match call(&words)? {
             Call::Fresh { eid, aid, capacity, quota, used, volatile } => {
                 let (new, answer) = manager::fresh(&eid, &aid, capacity, quota, used, volatile);
                 *kept = new;
