@@ -17,6 +17,7 @@ def apdu(header, data, le=""):
     return header.replace(" ", "") + f"{n:02X}" + data + le
 
 
+PLACES = 8
 EID = "89001012012341234012345678901224"
 F, B = "A000000001", "A000000002"
 AID16 = "A0000005591010FFFFFFFF8900001000"

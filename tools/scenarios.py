@@ -138,7 +138,7 @@ def not_ready(step):
 
 
 def card(answer, capacity=1000, volatile=7, last=0, fall_back=0, phase="Q", places=(), eid=EID):
-    places = list(places) + ["-"] * (8 - len(places))
+    places = list(places) + ["-"] * (PLACES - len(places))
     call(f"card {eid} {capacity} {volatile} {last} {fall_back} {phase} " + " ".join(places), answer)
 
 
@@ -885,7 +885,7 @@ card(done(), places=[place(1, E), place(aid(1) + "00", D)])
 card(no("6F00"), places=[place(1, E), place(2, E)])
 card(no("6F00"), places=[place(1, D), place(2, D)])
 card(no("6F00"), fall_back=2, places=good)
-card(no("6F00"), fall_back=8, places=good)
+card(no("6F00"), fall_back=PLACES, places=good)
 card(no("6F00"), fall_back=255, places=good)
 card(no("6F00"), fall_back=1, places=[place(1, E), place(2, S)])
 card(no("6F00"), fall_back=1, places=[place(1, E), place(2, P)])

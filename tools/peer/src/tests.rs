@@ -6,6 +6,7 @@ use crate::card::*;
 use crate::manager::{self, Kept};
 use crate::script::{reading, Bad, Options, Script};
 
+const EID: &str = "00112233445566778899AABBCCDDEEFF";
 const FRESH: &str = "fresh 00112233445566778899AABBCCDDEEFF A000000001 1000 100 0 16909060";
 const CREATE_02: &str = "command 0 80E60C003C10A0000005591010FFFFFFFF8900000D0010A0000005591010FFFFFFFF8900000E0005A0000000020380C0000EC90481020370EF068304000000320000";
 const ENABLE_02: &str = "command 0 80E288000A3A03074F05A000000002";
@@ -36,6 +37,11 @@ fn last(lines: &[&str]) -> String {
 
 fn create(aid: u8, quota: u32) -> String {
     format!("command 0 80E60C002405A00000000105A00000000105A0000000{aid:02X}01800EC90481020370EF068304{quota:08X}00")
+}
+
+/// A card line with the places given, and places of zeros after them.
+fn card_line(eid: &str, numbers: &str, phase: &str, places: &[&str]) -> String {
+    format!("card {eid} {numbers} {phase} {}{}", places.join(" "), " -".repeat(PLACES - places.len()))
 }
 
 /// A card on which 02 stands DISABLED with the given policy.
@@ -127,9 +133,8 @@ fn marked_examples_7_to_12() {
     assert_eq!(play(&[&disabled, &ticks(30)]), "9000 - - 0");
     assert_eq!(play(&[&disabled, &ticks(30), &[STATUS]]), format!("{enabled_f}0"));
 
-    let worn =
-        "card 00112233445566778899AABBCCDDEEFF 1000 0 65535 0 Q A000000001:3F:100:0:0 A000000002:1F:50:5:0 - - - - - -";
-    assert_eq!(last(&[worn, ENABLE_02]), "9000 - 02:0000:A000000002 20");
+    let worn = card_line(EID, "1000 0 65535 0", "Q", &["A000000001:3F:100:0:0", "A000000002:1F:50:5:0"]);
+    assert_eq!(last(&[&worn, ENABLE_02]), "9000 - 02:0000:A000000002 20");
 
     assert_eq!(play(&[&["lost"]]), "9000 - - 0");
     assert_eq!(play(&[&["lost", STATUS]]), format!("{enabled_f}0"));
@@ -159,9 +164,10 @@ ticks to come 20";
     assert_eq!(explained(&lines).lines().next().unwrap(), "67 00 command length or length shape wrong");
     lines.push("command 0 80F240020B4F05A0000000025C029F70");
     assert_eq!(explained(&lines).lines().nth(1).unwrap(), "response E30B4F05A0000000029F70013F");
-    let strange = "card 00112233445566778899AABBCCDDEEFF 0 0 9 3 F:255:65535 - -:3F:1:1:1 A0:AB:4294967295:12345678:255 A1:07:0:0:3 - - - -";
+    let places = ["-", "-:3F:1:1:1", "A0:AB:4294967295:12345678:255", "A1:07:0:0:3"];
+    let strange = card_line(EID, "0 0 9 3", "F:255:65535", &places);
     assert_eq!(
-        explained(&[strange]),
+        explained(&[&strange]),
         "6F 00 the card is not sound
   place  AID  state           quota     used  fall-back  policy
       2  A0  AB            4294967295  12345678             FF
@@ -197,9 +203,8 @@ fn bad_lines() {
     assert_eq!(bad("  stored   -  0004294967295  "), Ok(()));
     assert_eq!(bad("command 256 -"), Err(Bad::Number));
     assert_eq!(bad("command 255 - 1025"), Err(Bad::Number));
-    assert_eq!(bad("card 00 0 0 0 0 Q - - - - - - - -"), Err(Bad::Hex));
-    let card =
-        |phase: &str, place: &str| bad(&format!("card {} 0 0 0 0 {phase} - - - - - - - {place}", "00".repeat(16)));
+    assert_eq!(bad(&card_line("00", "0 0 0 0", "Q", &["-"])), Err(Bad::Hex));
+    let card = |phase: &str, place: &str| bad(&card_line(EID, "0 0 0 0", phase, &[place]));
     assert_eq!(card("Q", "-"), Ok(()));
     assert_eq!(card("T:0:0", "x"), Err(Bad::Phase));
     assert_eq!(card("B:256:0", "-"), Err(Bad::Phase));

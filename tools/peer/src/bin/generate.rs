@@ -252,7 +252,7 @@ impl Generator {
         let place = &mut card.places[index];
         match self.random.below(19) {
             0 => card.capacity = self.random.pick(&[0, 1, 1_048_577, u32::MAX]),
-            1 => card.fall_back = self.random.pick(&[8, 9, 200, 255]),
+            1 => card.fall_back = self.random.pick(&[PLACES as u8, PLACES as u8 + 1, 200, 255]),
             2 => place.life_cycle = self.random.pick(&[0x00, 0x03, 0x0B, 0x7F, 0x83, any]),
             3 => place.quota = self.random.pick(&[0, u32::MAX, 1_048_577]),
             4 => place.used = self.random.pick(&[1, u32::MAX]),
@@ -264,7 +264,7 @@ impl Generator {
             10 => card.phase = Phase::Back { left: self.random.pick(&[0, 11, 255]), number: card.last },
             11 => card.phase = Phase::Back { left: 5, number: card.last.wrapping_add(1) },
             12 => {
-                let previous = self.random.pick(&[enabled as u8, 8, 200, index as u8]);
+                let previous = self.random.pick(&[enabled as u8, PLACES as u8, 200, index as u8]);
                 card.phase = Phase::Trial { previous, left: 5, number: card.last };
             }
             13 => card.phase = Phase::Fallen { left: 5, number: card.last },
@@ -690,6 +690,8 @@ impl Generator {
 
     fn bad_line(&mut self) -> String {
         let eid = "00".repeat(16);
+        let rest = " -".repeat(PLACES - 1);
+        let none = " -".repeat(PLACES);
         let lines = [
             "x".repeat(4097),
             format!("#{}", " ".repeat(4096)),
@@ -726,28 +728,28 @@ impl Generator {
             format!("fresh {eid} A000000001 1000 100 0 0 0"),
             format!("fresh {eid} A000000001 1000 100 0 4294967296"),
             format!("fresh {eid}0 A000000001 1000 100 0 0"),
-            format!("card {eid} 1000 0 0 0 Q - - - - - - -"),
-            format!("card {eid} 1000 0 0 0 Q - - - - - - - - -"),
-            format!("card {eid}00 1000 0 0 0 Q - - - - - - - -"),
-            "card - 1000 0 0 0 Q - - - - - - - -".to_owned(),
-            format!("card {eid} 1000 0 65536 0 Q - - - - - - - -"),
-            format!("card {eid} 1000 0 0 256 Q - - - - - - - -"),
-            format!("card {eid} 1000 0 0 0 q - - - - - - - -"),
-            format!("card {eid} 1000 0 0 0 Q: - - - - - - - -"),
-            format!("card {eid} 1000 0 0 0 T:0:1 - - - - - - - -"),
-            format!("card {eid} 1000 0 0 0 T:256:1:0 - - - - - - - -"),
-            format!("card {eid} 1000 0 0 0 B:1:65536 - - - - - - - -"),
-            format!("card {eid} 1000 0 0 0 B::0 - - - - - - - -"),
-            format!("card {eid} 1000 0 0 0 F:1:0:0 - - - - - - - -"),
-            format!("card {eid} 1000 0 0 0 Q x - - - - - - -"),
-            format!("card {eid} 1000 0 0 0 Q A000000001:3F:1:1 - - - - - - -"),
-            format!("card {eid} 1000 0 0 0 Q A000000001:3F:1:1:0:0 - - - - - - -"),
-            format!("card {eid} 1000 0 0 0 Q A000000001:3:1:1:0 - - - - - - -"),
-            format!("card {eid} 1000 0 0 0 Q A000000001:-:1:1:0 - - - - - - -"),
-            format!("card {eid} 1000 0 0 0 Q A000000001:3F:1:1:256 - - - - - - -"),
-            format!("card {eid} 1000 0 0 0 Q :3F:1:1:0 - - - - - - -"),
-            format!("card {eid} 1000 0 0 0 Q {}:3F:1:1:0 - - - - - - -", "A0".repeat(17)),
-            format!("card {eid} 1000 0 0 0 X x - - - - - - -"),
+            format!("card {eid} 1000 0 0 0 Q{rest}"),
+            format!("card {eid} 1000 0 0 0 Q{none} -"),
+            format!("card {eid}00 1000 0 0 0 Q{none}"),
+            format!("card - 1000 0 0 0 Q{none}"),
+            format!("card {eid} 1000 0 65536 0 Q{none}"),
+            format!("card {eid} 1000 0 0 256 Q{none}"),
+            format!("card {eid} 1000 0 0 0 q{none}"),
+            format!("card {eid} 1000 0 0 0 Q:{none}"),
+            format!("card {eid} 1000 0 0 0 T:0:1{none}"),
+            format!("card {eid} 1000 0 0 0 T:256:1:0{none}"),
+            format!("card {eid} 1000 0 0 0 B:1:65536{none}"),
+            format!("card {eid} 1000 0 0 0 B::0{none}"),
+            format!("card {eid} 1000 0 0 0 F:1:0:0{none}"),
+            format!("card {eid} 1000 0 0 0 Q x{rest}"),
+            format!("card {eid} 1000 0 0 0 Q A000000001:3F:1:1{rest}"),
+            format!("card {eid} 1000 0 0 0 Q A000000001:3F:1:1:0:0{rest}"),
+            format!("card {eid} 1000 0 0 0 Q A000000001:3:1:1:0{rest}"),
+            format!("card {eid} 1000 0 0 0 Q A000000001:-:1:1:0{rest}"),
+            format!("card {eid} 1000 0 0 0 Q A000000001:3F:1:1:256{rest}"),
+            format!("card {eid} 1000 0 0 0 Q :3F:1:1:0{rest}"),
+            format!("card {eid} 1000 0 0 0 Q {}:3F:1:1:0{rest}", "A0".repeat(17)),
+            format!("card {eid} 1000 0 0 0 X x{rest}"),
         ];
         lines[self.random.below(lines.len())].clone()
     }
