@@ -1,17 +1,17 @@
 -- What every answer keeps, whatever its table: its status is the table's word, a refusal hands back the card it was given, and a
 -- call on a card known to be sound answers as the checked one. By cases on whether the word is a success. Assumes nothing.
-use mathlib.Core.Path.{_≡_, refl, ap, sym, _∙_}
-use mathlib.Core.List.{List, [], _∷_}
+use mathlib.Core.Path.{_≡_, refl, sym, _∙_}
+use mathlib.Core.List.{List, []}
 use mathlib.Core.Bool.{Bool, true, false, not, cond, false≢true}
 use Prim.Native.Nat.{ℕ}
 use Rattle.status.specs.StatusWords.{isDone}
-use Rattle.status.specs.Rows.{Row, wordOf}
+use Rattle.status.specs.Rows.{wordOf}
 use Rattle.status.specs.declared.Status.{Status}
-use Rattle.status.specs.declared.Status.the-variants.{Unsound, Done}
+use Rattle.status.specs.declared.Status.the-variants.{Unsound}
 use Rattle.card.specs.Sound.{sound}
 use Rattle.card.specs.Ticks.{ticksToCome, ticksByPhase}
 use Rattle.card.specs.Notifications.{silent}
-use Rattle.card.specs.Answers.{Outcome, Work, refusedAt, acceptedAt, refused, accepted, settle, soundRow, outcome, known}
+use Rattle.card.specs.Answers.{Outcome, Work, refusedAt, acceptedAt, refused, accepted, settle, outcome, known}
 use Rattle.card.specs.declared.Card.{Card}
 use Rattle.card.specs.declared.Step.{Step}
 use Rattle.card.proofs.Counts.{counted}

@@ -17,7 +17,7 @@ use Rattle.places.specs.Places.{at, quotas, allOf, countOf, distinct, enableAt}
 use Rattle.places.proofs.Lives.{enable-lives, lives-length, lives-quotas, lives-distinct, enable-one, enable-at, enable-ok, enable-done, within}
 use Rattle.card.specs.Cards.{isQuiet, onFallback, withChange, withPhase}
 use Rattle.card.specs.Sound.{sized, sizesOk, placesOk, rolesOk, openOk, phaseIn, phaseOk, sound}
-use Rattle.card.specs.Clock.{nextOf, moved, fallen, tickIn, tickOf, lostOf}
+use Rattle.card.specs.Clock.{nextOf, moved, tickIn, tickOf, lostOf}
 use Rattle.card.specs.declared.Card.{Card}
 use Rattle.card.specs.declared.Phase.{Phase}
 use Rattle.card.specs.declared.Phase.the-variants.{Quiet, Trial, Back, Fallen}

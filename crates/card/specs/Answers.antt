@@ -2,7 +2,7 @@
 -- no notification"; "Every answer carries the ticks still to come .., 0 when Quiet, with 6F 00 and with a refused fresh."
 use Prim.Native.Nat.{ℕ}
 use mathlib.Core.List.{List, [], _∷_}
-use mathlib.Core.Bool.{Bool, true, false, not, cond}
+use mathlib.Core.Bool.{not, cond}
 use lib.ListN.{length}
 use Rattle.status.specs.StatusWords.{isDone}
 use Rattle.status.specs.Rows.{Row, row, wordOf}

@@ -577,15 +577,13 @@ impl Card {
     pub fn tick(self) -> Step
         ensures { λ r. ⌜ r ≡ tickStep self ⌝ }
     {
-        let after = self.ticked();
-        after.step_since(self.last, Aid::none())
+        self.ticked().step_since(self.last, Aid::none())
     }
 
     pub fn lost(self) -> Step
         ensures { λ r. ⌜ r ≡ lostStep self ⌝ }
     {
-        let after = self.without_network();
-        after.step_since(self.last, Aid::none())
+        self.without_network().step_since(self.last, Aid::none())
     }
 
     // Trial is closed by its confirmation, and the previous profile may go with it.

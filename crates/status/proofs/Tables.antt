@@ -1,6 +1,6 @@
 -- The table of status words: a word is given by the first row whose condition holds, and a success only where none does.
 -- By induction over the rows. Assumes nothing.
-use mathlib.Core.Path.{_≡_, refl, sym}
+use mathlib.Core.Path.{_≡_, refl}
 use mathlib.Core.List.{List, [], _∷_, _++_}
 use mathlib.Core.Bool.{Bool, true, false, not, cond, _&&_, false≢true}
 use Rattle.status.specs.StatusWords.{isDone}
