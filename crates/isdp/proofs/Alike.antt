@@ -1,6 +1,6 @@
 -- When two places bear one AID: the comparison is even-handed, looks at nothing but the AID, and a place not held clashes with none.
 -- Assumes nothing.
-use mathlib.Core.Path.{_≡_, refl, ap, sym}
+use mathlib.Core.Path.{_≡_, refl, sym}
 use Prim.Native.Nat.{ℕ}
 use mathlib.Core.List.{List, [], _∷_}
 use mathlib.Core.Bool.{Bool, true, false, _&&_, and-false, false≢true}
@@ -40,14 +40,14 @@ same-self [] = refl
 same-self (x ∷ xs) = rw (eq-eqb x x refl, same-self xs)
 
 -- a place that bears the AID of another
-module _ (x p : Isdp) (e : x .aid ≡ p .aid) (f : x .len ≡ p .len) where
+module _ (x p : Isdp) (e : x .aid ≡ p .aid) where
   pub clash-left : (q : Isdp) → clash x q ≡ clash p q
   unfolding clash
-  clash-left q = rw (e, f)
+  clash-left q = rw e
 
   pub clash-right : (q : Isdp) → clash q x ≡ clash q p
   unfolding clash isFor
-  clash-right q = rw (e, f)
+  clash-right q = rw e
 
 pub clash-none : (p : Isdp) → clash p vacant ≡ false
 unfolding clash isFor

@@ -1,7 +1,7 @@
 -- Laws on byte strings as the loops go over them: a turn, and the end, of the comparison, of the test for zeros and of the padding.
 -- Each turn takes `drop i` apart once. Assumes nothing.
 use mathlib.Core.Path.{_≡_, refl, ap, sym}
-use Prim.Native.Nat.{ℕ, suc, _+_, _-_, _≤_, _<_}
+use Prim.Native.Nat.{ℕ, zero, suc, _+_, _-_, _≤_, _<_}
 use native.Mathlib.Numerals.{add-one}
 use native.Mathlib.Omega.{arith}
 use mathlib.Core.List.{List, [], _∷_, _++_, append-nil}
@@ -76,3 +76,14 @@ unfolding padded
 pad-whole s e =
     let h : length s ≤ 16 = omega arith in
     rw (take-all 16 s h, e) (append-nil s)
+
+-- of a byte string that was cut, as many bytes as there are
+pub taken : (n : ℕ) (s : List ℕ) → take (length (take n s)) s ≡ take n s
+taken zero s = refl
+taken (suc n) [] = refl
+taken (suc n) (x ∷ xs) = ap (λ (l : List ℕ). x ∷ l) (taken n xs)
+
+pub taken-within : (n : ℕ) (s : List ℕ) → length (take n s) ≤ length s
+taken-within zero s = omega arith
+taken-within (suc n) [] = omega arith
+taken-within (suc n) (x ∷ xs) = let h = taken-within n xs in omega arith

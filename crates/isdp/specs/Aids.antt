@@ -23,14 +23,18 @@ aidOk aid = leb leastAid (length aid) && leb (length aid) mostAid
 unfoldable pub padded : List ℕ → List ℕ
 padded aid = take mostAid aid ++ replicate (mostAid - length aid) 0
 
--- the AID of a place, as bytes
-abbrev pub aidOf : Isdp → List ℕ
-aidOf p = take (p .len) (p .aid)
-
--- the AID of a place, as it is handed out
-abbrev pub nameOf : Isdp → Aid
-nameOf p = record { bytes = p .aid; len = p .len }
+-- an AID as it is kept; of one that is too long, the first sixteen bytes
+abbrev pub named : List ℕ → Aid
+named aid = record { bytes = padded aid; len = length (take mostAid aid) }
 
 -- no AID
 abbrev pub noAid : Aid
 noAid = record { bytes = replicate mostAid 0; len = 0 }
+
+-- the bytes of an AID that is kept
+abbrev pub bytesOf : Aid → List ℕ
+bytesOf a = take (a .len) (a .bytes)
+
+-- the AID of a place, as bytes
+abbrev pub aidOf : Isdp → List ℕ
+aidOf p = bytesOf (p .aid)
