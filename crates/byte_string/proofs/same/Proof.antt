@@ -1,15 +1,15 @@
--- `words::same` meets its contract. The loop keeps: what is left is the same exactly where the whole is.
-use Rattle.text.specs.Words.{sameOf}
-use Rattle.text.proofs.WordLaws.{same-length, same-hit, same-miss, same-end}
+-- `same` meets its contract. The loop keeps: what is left is the same exactly where the whole is.
+use Rattle.byte_string.specs.Bytes.{sameBytes}
+use Rattle.byte_string.proofs.Alike.{same-length, same-hit, same-miss, same-end}
 use mathlib.Core.Path.{_≡_, sym, _∙_}
 use Prim.Native.Nat.{_-_, _≤_}
 use lib.ListN.{length, drop}
 use borrow.Author.Needs.{needs}
-use Rattle.text.proofs.words.same.Statement.{statement}
-use Rattle.text.proofs.words.same.Tie as tie
+use Rattle.byte_string.proofs.same.Statement.{statement}
+use Rattle.byte_string.proofs.same.Tie as tie
 
 abbrev Inv-loop : tie.InvT-loop
-Inv-loop a b i₀ i = (length a ≡ length b) × ((i ≤ length a) × (sameOf (drop i a) (drop i b) ≡ sameOf a b))
+Inv-loop a b i₀ i = (length a ≡ length b) × ((i ≤ length a) × (sameBytes (drop i a) (drop i b) ≡ sameBytes a b))
 
 abbrev μ-loop : tie.MeasureT-loop
 μ-loop a b i₀ i = length a - i
