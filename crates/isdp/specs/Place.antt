@@ -4,8 +4,9 @@ use mathlib.Core.List.{List, [], _∷_}
 use mathlib.Core.Bool.{Bool, true, false, not, cond, _&&_, _||_}
 use lib.ListN.{length, drop}
 use lib.Dec.{leb, eqb}
+use Rattle.byte_string.specs.Bytes.{sameBytes}
 use Rattle.isdp.specs.Sizes.{leastAid, mostAid}
-use Rattle.isdp.specs.Aids.{sameBytes, named, noAid, aidOf}
+use Rattle.isdp.specs.Aids.{named, noAid, aidOf}
 use Rattle.isdp.specs.Policy.{policyOk}
 use Rattle.isdp.specs.Profile.{profile}
 use Rattle.isdp.specs.LifeCycle.{selectable, personalized, disabled, enabled}

@@ -1,11 +1,12 @@
 // One ISD-P as the card holds it: AID, life cycle, quota, used bytes and policy, and the tests on it alone.
 // A place that is not held is the record of zeros; every function answers for every record, sound or not.
+use byte_string::same;
 ghost use mathlib.Core.Path.{_≡_};
 ghost use mathlib.Core.Bool.{cond, _&&_};
 ghost use Prim.Native.Nat.{_+_, _≤_};
 ghost use lib.ListN.{length, drop};
 ghost use lib.Dec.{leb, ltb, eqb};
-ghost use Rattle.isdp.specs.Aids.{sameBytes, aidOk, padded, named, noAid, bytesOf};
+ghost use Rattle.isdp.specs.Aids.{aidOk, padded, named, noAid, bytesOf};
 ghost use Rattle.isdp.specs.Policy.{policyOk, forbidsDisabling, forbidsDeletion, onceDisabled};
 ghost use Rattle.isdp.specs.LifeCycle.{isEnabled, withLife, withUsed, finish, off};
 ghost use Rattle.isdp.specs.Place.{vacant, made, isFor, zeros, lifeOk, emptyOk, heldOk, placeOk, clash};
@@ -33,23 +34,6 @@ impl Isdp {
     pub const DISABLED: u8 = 0x1F;
 
     pub const ENABLED: u8 = 0x3F;
-}
-
-// Are the two byte strings the same, in length too?
-pub fn same(a: &[u8], b: &[u8]) -> bool
-    ensures { λ r. ⌜ r ≡ sameBytes (now (a .entry)) (now (b .entry)) ⌝ }
-{
-    if a.len() != b.len() {
-        return false;
-    }
-    let mut i = 0;
-    while i < a.len() {
-        if a[i] != b[i] {
-            return false;
-        }
-        i += 1;
-    }
-    true
 }
 
 // Has the AID 5 to 16 bytes?
