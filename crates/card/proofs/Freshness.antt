@@ -11,7 +11,7 @@ use Rattle.status.specs.StatusWords.{isDone}
 use Rattle.status.specs.Rows.{row, wordOf}
 use Rattle.status.specs.declared.Status.the-variants.{DataWrong, Done}
 use Rattle.status.proofs.Tables.{passed}
-use Rattle.isdp.specs.Sizes.{mostPlaces, leastAid, eidSize, mostCapacity}
+use Rattle.isdp.specs.Sizes.{mostPlaces, eidSize, mostCapacity}
 use Rattle.isdp.specs.Aids.{aidOk, noAid}
 use Rattle.isdp.specs.LifeCycle.{enabled, isEnabled}
 use Rattle.isdp.specs.Place.{vacant, made, isFor, zeros, placeOk, clash}
@@ -66,7 +66,7 @@ fresh-parts eid aid capacity quota used volatile f =
     record {
       sizes = record { named = eqb-true (length eid) eidSize (and-l _ _ f); full = refl; numbered = omega arith; some = leb-true 1 capacity (and-l _ _ h1); most = leb-true capacity mostCapacity (and-l _ _ h2) };
       placed = record {
-        each = all-two (placeOk capacity) p (replicate (mostPlaces - 1) vacant) (made-ok capacity aid enabled quota used refl (and-l _ _ a) (and-r (leb leastAid (length aid)) _ a) (and-l _ _ h3) (and-l _ _ h4) (and-r (leb quota capacity) _ h4)) (rest-ok capacity);
+        each = all-two (placeOk capacity) p (replicate (mostPlaces - 1) vacant) (made-ok aid enabled quota used a capacity refl (and-l _ _ h3) (and-l _ _ h4) (and-r (leb quota capacity) _ h4)) (rest-ok capacity);
         apart = distinct-two p (replicate (mostPlaces - 1) vacant) (rest-clash p) rest-apart;
         room = room-of aid quota used capacity (leb-true quota capacity (and-l _ _ h4));
       };

@@ -45,7 +45,7 @@ not-on : (y z : Bool) → (y || z) ≡ false → z ≡ false
 not-on true z w = absurd (false≢true (sym w))
 not-on false z w = w
 
-module _ (c : Card) (i : ℕ) (x : Isdp) (s : Sound c) (n : at (c .places) i .life ≡ 0 → ⊥) (d : isFinished (at (c .places) i .life) ≡ false) (v : isEnabled x ≡ false) (o : placeOk (c .capacity) x ≡ true) (a : x .aid ≡ at (c .places) i .aid) (b : x .len ≡ at (c .places) i .len) (q : x .quota ≡ at (c .places) i .quota) where
+module _ (c : Card) (i : ℕ) (x : Isdp) (s : Sound c) (n : at (c .places) i .life ≡ 0 → ⊥) (d : isFinished (at (c .places) i .life) ≡ false) (v : isEnabled x ≡ false) (o : placeOk (c .capacity) x ≡ true) (a : x .aid ≡ at (c .places) i .aid) (q : x .quota ≡ at (c .places) i .quota) where
   pub off-before : isEnabled (at (c .places) i) ≡ false
   off-before = not-on (eqb (at (c .places) i .life) disabled) (isEnabled (at (c .places) i)) d
 
@@ -60,7 +60,7 @@ module _ (c : Card) (i : ℕ) (x : Isdp) (s : Sound c) (n : at (c .places) i .li
 
   pub rewrites : Sound (rewritten c i x)
   rewrites =
-      sets c i x (c .phase) s o (v ∙ sym off-before) (set-alike x (c .places) i a b ∙ s .placed .apart)
+      sets c i x (c .phase) s o (v ∙ sym off-before) (set-alike x (c .places) i a ∙ s .placed .apart)
       (let r = set-quotas x (c .places) i (within (c .places) i n) in let w = s .placed .room in omega arith)
       (rw (other (c .fallback) (s .roles .resort)) (s .roles .resort))
       (phase-kept (c .phase) (s .phased))

@@ -43,7 +43,7 @@ pub record Sizes (c : Card) : Type 0 where
   pub some : 1 ≤ c .capacity
   pub most : c .capacity ≤ mostCapacity
 
-pub record Placed (c : Card) : Type 0 where
+pub record Places (c : Card) : Type 0 where
   pub each : allOf (placeOk (c .capacity)) (c .places) ≡ true
   pub apart : distinct (c .places) ≡ true
   pub room : quotas (c .places) ≤ c .capacity
@@ -54,7 +54,7 @@ pub record Roles (c : Card) : Type 0 where
 
 pub record Sound (c : Card) : Type 0 where
   pub sizes : Sizes c
-  pub placed : Placed c
+  pub placed : Places c
   pub roles : Roles c
   pub phased : Phased (c .phase) c
 
@@ -95,7 +95,7 @@ sizes-parts c w =
       most = leb-true (c .capacity) mostCapacity (and-r (leb 1 (c .capacity)) _ e);
     }
 
-places-parts : (c : Card) → placesOk c ≡ true → Placed c
+places-parts : (c : Card) → placesOk c ≡ true → Places c
 places-parts c w =
     let e = and-r (allOf (placeOk (c .capacity)) (c .places)) _ w in
     record { each = and-l _ _ w; apart = and-l _ _ e; room = leb-true (quotas (c .places)) (c .capacity) (and-r (distinct (c .places)) _ e) }
@@ -118,7 +118,7 @@ parts c w =
 sizes-whole : (c : Card) → Sizes c → sizesOk c ≡ true
 sizes-whole c s = rw (s .named, s .full, le-leb (c .last) lastNumber (s .numbered), le-leb 1 (c .capacity) (s .some), le-leb (c .capacity) mostCapacity (s .most))
 
-places-whole : (c : Card) → Placed c → placesOk c ≡ true
+places-whole : (c : Card) → Places c → placesOk c ≡ true
 places-whole c s = rw (s .each, s .apart, le-leb (quotas (c .places)) (c .capacity) (s .room))
 
 roles-whole : (c : Card) → Roles c → rolesOk c ≡ true

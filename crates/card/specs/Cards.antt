@@ -4,7 +4,6 @@ use mathlib.Core.List.{List}
 use mathlib.Core.Bool.{Bool, true, false, not, _&&_}
 use lib.ListN.{set}
 use lib.Dec.{eqb}
-use Rattle.isdp.specs.Aids.{nameOf}
 use Rattle.isdp.specs.LifeCycle.{disabled, isEnabled}
 use Rattle.isdp.specs.Place.{vacant, isFor}
 use Rattle.isdp.specs.declared.Aid.{Aid}
@@ -36,7 +35,7 @@ freePlace c = seek isFree (c .places)
 
 -- "the AID of the profile then enabled"
 abbrev pub enabledAid : Card → Aid
-enabledAid c = nameOf (at (c .places) (enabledPlace c))
+enabledAid c = at (c .places) (enabledPlace c) .aid
 
 -- "Free is capacity less all quotas held"
 abbrev pub freeIn : Card → ℕ
@@ -54,13 +53,13 @@ mayBeDeleted c i = eqb (at (c .places) i .life) disabled && not (eqb i (c .fallb
 abbrev pub cardWith : List ℕ → ℕ → ℕ → ℕ → ℕ → Phase → List Isdp → Card
 cardWith eid capacity volatile last fallback phase places =
     record {
-      eid = eid;
       capacity = capacity;
       volatile = volatile;
+      places = places;
+      phase = phase;
       last = last;
       fallback = fallback;
-      phase = phase;
-      places = places;
+      eid = eid;
     }
 
 -- the same card in another state: its last number, fall-back, phase and places

@@ -1,7 +1,7 @@
 -- Document 01, 'Steps': tick, lost and confirmation with what they hand out.
 use Prim.Native.Nat.{ℕ}
 use mathlib.Core.Bool.{cond}
-use Rattle.isdp.specs.Aids.{nameOf, noAid}
+use Rattle.isdp.specs.Aids.{noAid}
 use Rattle.isdp.specs.declared.Aid.{Aid}
 use Rattle.places.specs.Places.{at}
 use Rattle.card.specs.Clock.{tickOf, lostOf, confirmOf, dropped}
@@ -27,7 +27,7 @@ lostStep c = stepTo c (lostOf c) noAid
 
 -- the AID that the confirmation deletes
 abbrev pub trialGone : Card → ℕ → Aid
-trialGone c previous = cond (dropped c previous) (nameOf (at (c .places) previous)) noAid
+trialGone c previous = cond (dropped c previous) (at (c .places) previous .aid) noAid
 
 abbrev pub goneIn : Phase → Card → Aid
 goneIn Quiet c = noAid

@@ -27,29 +27,20 @@ ghost use Rattle.card.specs.Fresh.{zeroCard, freshOk, freshCard, freshOu
 
 pub enum Phase {
     Quiet,
-    Trial {
-        previous: usize,
-        left: u8,
-        number: u16,
-    },
-    Back {
-        left: u8,
-        number: u16,
-    },
-    Fallen {
-        left: u8,
-        number: u16,
-    },
+    Trial { previous: u8, left: u8, number: u16 },
+    Back { left: u8, number: u16 },
+    Fallen { left: u8, number: u16 },
 }
 
+// The record goes by value: its fields stand in an order that leaves no gaps.
 pub struct Card {
-    pub eid: [u8; 16],
     pub capacity: u32,
     pub volatile: u32,
-    pub last: u16,
-    pub fallback: usize,
-    pub phase: Phase,
     pub places: [Isdp; Card::PLACES],
+    pub phase: Phase,
+    pub last: u16,
+    pub fallback: u8,
+    pub eid: [u8; 16],
 }
 
 pub enum Kind {
@@ -189,7 +180,7 @@ impl Card {
     }
 
     // The profile at a place; one that is not held past the last.
-    pub fn profile(self, i: usize) -> Isdp
+    pub fn profile(self, i: u8) -> Isdp
         ensures { λ r. ⌜ r ≡ at (self .places) i ⌝ }
     {
         let places = self.places;
@@ -197,7 +188,7 @@ impl Card {
     }
 
     // May the profile at a place be deleted, its policy apart?
-    pub fn may_be_deleted(self, i: usize) -> bool
+    pub fn may_be_deleted(self, i: u8) -> bool
         ensures { λ r. ⌜ r ≡ mayBeDeleted self i ⌝ }
     {
         let p = self.profile(i);
@@ -210,20 +201,20 @@ impl Card {
         capacity: u32,
         volatile: u32,
         last: u16,
-        fallback: usize,
+        fallback: u8,
         phase: Phase,
         places: [Isdp; Card::PLACES],
     ) -> Card
         ensures { λ r. ⌜ r ≡ cardWith eid capacity volatile last fallback phase places ⌝ }
     {
         Card {
-            eid,
             capacity,
             volatile,
+            places,
+            phase,
             last,
             fallback,
-            phase,
-            places,
+            eid,
         }
     }
 
@@ -243,7 +234,7 @@ impl Card {
         )
     }
 
-    fn with_place(self, i: usize, p: Isdp) -> Card
+    fn with_place(self, i: u8, p: Isdp) -> Card
         ensures { λ r. ⌜ r ≡ withPlaces self (set (self .places) i p) ⌝ }
     {
         let before = self.places;
@@ -254,27 +245,27 @@ impl Card {
     }
 
     // A free place filled with a new profile.
-    pub fn filled(self, i: usize, p: Isdp) -> Card
+    pub fn filled(self, i: u8, p: Isdp) -> Card
         ensures { λ r. ⌜ r ≡ filled self i p ⌝ }
     {
         self.with_place(i, p)
     }
 
     // A place cleared: the deletion.
-    pub fn cleared(self, i: usize) -> Card
+    pub fn cleared(self, i: u8) -> Card
         ensures { λ r. ⌜ r ≡ cleared self i ⌝ }
     {
         self.with_place(i, Isdp::none())
     }
 
     // A profile rewritten where it stands, with its AID and its quota.
-    pub fn rewritten(self, i: usize, p: Isdp) -> Card
+    pub fn rewritten(self, i: u8, p: Isdp) -> Card
         ensures { λ r. ⌜ r ≡ rewritten self i p ⌝ }
     {
         self.with_place(i, p)
     }
 
-    pub fn with_fallback(self, i: usize) -> Card
+    pub fn with_fallback(self, i: u8) -> Card
         ensures { λ r. ⌜ r ≡ withFallback self i ⌝ }
     {
         let mut after = self;
@@ -283,7 +274,7 @@ impl Card {
     }
 
     // The place is enabled, the next number is issued, and the phase opens.
-    fn moved(self, i: usize, phase: Phase) -> Card
+    fn moved(self, i: u8, phase: Phase) -> Card
         ensures { λ r. ⌜ r ≡ moved self i phase ⌝ }
     {
         let before = self.places;
@@ -401,11 +392,11 @@ impl Notification {
 
 impl Card {
     // The number of the enabled place, of places if there is none.
-    pub fn enabled_place(self) -> usize
+    pub fn enabled_place(self) -> u8
         ensures { λ r. ⌜ r ≡ enabledPlace self ⌝ }
     {
         let Found::At(e) = self.enabled() else {
-            return Card::PLACES;
+            return Card::PLACES as u8;
         };
         e
     }
@@ -418,7 +409,7 @@ impl Card {
         let eid = self.eid;
         let kind = phase.kind();
         let p = self.profile(self.enabled_place());
-        let aid = p.name();
+        let aid = p.aid;
         Notification {
             kind,
             number: self.last,
@@ -465,7 +456,7 @@ impl Card {
     }
 
     // A tick in Trial.
-    fn trial_ticked(self, previous: usize, left: u8, number: u16) -> Card
+    fn trial_ticked(self, previous: u8, left: u8, number: u16) -> Card
         ensures { λ r. ⌜ r ≡ tickIn (Trial previous left number) self ⌝ }
     {
         if left > 1 {
@@ -551,7 +542,7 @@ impl Card {
     }
 
     // The change to the profile at a place is opened: Trial.
-    pub fn opened(self, t: usize) -> Card
+    pub fn opened(self, t: u8) -> Card
         ensures { λ r. ⌜ r ≡ opened self t ⌝ }
     {
         let e = self.enabled_place();
@@ -567,7 +558,7 @@ impl Card {
     }
 
     // Does the confirmation delete the profile at a place?
-    fn drops(self, i: usize) -> bool
+    fn drops(self, i: u8) -> bool
         ensures { λ r. ⌜ r ≡ dropped self i ⌝ }
     {
         let p = self.profile(i);
@@ -587,14 +578,14 @@ impl Card {
     }
 
     // Trial is closed by its confirmation, and the previous profile may go with it.
-    fn trial_confirmed(self, previous: usize) -> Step
+    fn trial_confirmed(self, previous: u8) -> Step
         ensures { λ r. ⌜ r ≡ stepTo self (trialClosed self previous) (trialGone self previous) ⌝ }
     {
         let quiet = self.with_phase(Phase::Quiet);
         if self.drops(previous) {
             let p = self.profile(previous);
             let after = quiet.cleared(previous);
-            return after.step_since(self.last, p.name());
+            return after.step_since(self.last, p.aid);
         }
         quiet.step_since(self.last, Aid::none())
     }

@@ -15,16 +15,13 @@ profile-requires c κs = search needs
 cleared-requires : tie.Need-cleared-requires
 cleared-requires c κs = search needs
 
-name-requires : tie.Need-name-requires
-name-requires c κs = search needs
-
 step-since-requires : tie.Need-step-since-requires
 step-since-requires c κs = search needs
 
 returns : tie.Need-returns
-returns c = let t = c .before .before .before .before in
+returns c = let t = c .before .before .before in
     let d = t .before in
-    rw (sym (d .drops .ensures) ∙ t .if1 .taken) (rw (c .step-since .ensures, c .before .name .ensures, c .before .before .cleared .ensures, c .before .before .before .profile .ensures, d .before .with-phase .ensures))
+    rw (sym (d .drops .ensures) ∙ t .if1 .taken) (rw (c .step-since .ensures, c .before .cleared .ensures, c .before .before .profile .ensures, d .before .with-phase .ensures))
 
 none-requires : tie.Need-none-requires
 none-requires c κs = search needs
@@ -44,7 +41,6 @@ trial-confirmed-spec =
     drops-requires
     profile-requires
     cleared-requires
-    name-requires
     step-since-requires
     returns
     none-requires
