@@ -31,7 +31,7 @@ accepted (field.Found r) = reading.Read r
 -- the word of the first row whose condition holds, otherwise the request
 unfoldable pub readOf : List ℕ → ℕ → Reading
 readOf s capacity =
-    cond (isDone (wordOf (readingRows s capacity))) (accepted (fieldOf s capacity)) (reading.Refused (wordOf (readingRows s capacity)))
+    cond (isDone (wordOf status.Done (readingRows s capacity))) (accepted (fieldOf s capacity)) (reading.Refused (wordOf status.Done (readingRows s capacity)))
 
 -- the word of a refusal; 90 00 where the command was read
 abbrev pub readingWord : Reading → Status

@@ -1,22 +1,20 @@
 -- Every step keeps a sound card sound: each act by the facts that its passed rows give, and the law of what it does to the card.
 -- What the rows do not say, that the values read are legal, is the hypothesis `Legal`.
-use mathlib.Core.Path.{_≡_, refl, sym, subst}
+use mathlib.Core.Path.{_≡_, refl}
 use Prim.Native.Nat.{ℕ, _+_, _≤_}
 use native.Mathlib.Omega.{arith}
 use mathlib.Core.List.{List}
 use mathlib.Core.Bool.{true, false, not, _&&_, false≢true}
-use lib.ListN.{set}
 use lib.Dec.{ltb, eqb}
 use borrow.Author.Tests.{eqb-true, leb-true, ltb-true, not-true, not-false}
 use Rattle.isdp.specs.Sizes.{mostPlaces, wait}
 use Rattle.isdp.specs.Aids.{aidOk}
 use Rattle.isdp.specs.Policy.{policyOk}
 use Rattle.isdp.specs.LifeCycle.{disabled, enabled, personalized, isEnabled, isFinished}
-use Rattle.isdp.specs.Place.{vacant}
 use Rattle.isdp.proofs.Bools.{and-l, and-r, or-l, or-r}
 use Rattle.places.specs.Places.{at}
 use Rattle.places.proofs.Lives.{enable-at, within}
-use Rattle.card.specs.Cards.{isQuiet, placeOf, profileOf, enabledPlace, freePlace, freeIn, withChange, withPlaces, withFallback}
+use Rattle.card.specs.Cards.{isQuiet, placeOf, profileOf, enabledPlace, freePlace, freeIn, cleared}
 use Rattle.card.specs.Clock.{nextOf, opened}
 use Rattle.card.specs.Sound.{sound}
 use Rattle.card.specs.Steps.{tickStep, lostStep, confirmStep}
@@ -24,7 +22,7 @@ use Rattle.card.specs.declared.Card.{Card}
 use Rattle.card.specs.declared.Phase.{Phase}
 use Rattle.card.specs.declared.Phase.the-variants.{Quiet, Trial, Back, Fallen}
 use Rattle.card.proofs.Sounds.{Sound, parts, whole, nonzero, tick-sound, lost-sound}
-use Rattle.card.proofs.Rewrites.{deletes, confirm-sound}
+use Rattle.card.proofs.Rewrites.{deletes, refalls, confirm-sound}
 use Rattle.steps.specs.Asked.{Act, Act.enable, Act.disable, Act.delete, Act.masterDelete, Act.setFallBack, Act.status, Act.keyed, Act.stored, Act.finished, Asked, Asked.unread, Asked.create, Asked.on, Asked.confirm, Asked.statusOfAll, Asked.getData, Asked.tick, Asked.lost}
 use Rattle.steps.specs.Steps.{stepOf}
 use Rattle.steps.proofs.Rows.{Passed, rows-passed}
@@ -70,15 +68,6 @@ quiet-is (Fallen l n) e = absurd (false≢true e)
 quietly : (p : Phase) → not (isQuiet p) ≡ false → p ≡ Quiet
 quietly p e = quiet-is p (not-false _ e)
 
--- another fall-back
-refalls : (c : Card) (i : ℕ) → Sound c → c .phase ≡ Quiet → isFinished (at (c .places) i .life) ≡ true → Sound (withFallback c i)
-refalls c i s q d = record { named = s .named; full = s .full; numbered = s .numbered; some = s .some; most = s .most; each = s .each; apart = s .apart; one = s .one; resort = d; room = s .room; phased = rw q tt }
-
--- a deletion while no change is open
-clears : (c : Card) (i : ℕ) → Sound c → c .phase ≡ Quiet → at (c .places) i .life ≡ disabled → eqb i (c .fallback) ≡ false → Sound (withPlaces c (set (c .places) i vacant))
-clears c i s q d n =
-    subst (λ (p : Phase). Sound (withChange c (c .last) p (set (c .places) i vacant))) (sym q) (deletes c i s d n)
-
 -- what an enabling leaves: place t enabled, Trial, and the place enabled before as the previous one
 pub record Opened (c : Card) (t : ℕ) (d : Card) : Type 0 where
   pub still : sound d ≡ true
@@ -98,10 +87,10 @@ module _ (c : Card) (aid : List ℕ) (s : sound c ≡ true) where
       let h = not-false _ (p .state) in
       opened-at c (c .fallback) s (fallback-life c (placeOf c aid) (parts c s) (and-l (isEnabled (profileOf c aid)) _ h) (not-true _ (and-r (isEnabled (profileOf c aid)) _ h)))
 
-  delete-kept : not (isQuiet (c .phase)) ≡ false → not (eqb (profileOf c aid .life) disabled && not (eqb (placeOf c aid) (c .fallback))) ≡ false → sound (withPlaces c (set (c .places) (placeOf c aid) vacant)) ≡ true
+  delete-kept : not (isQuiet (c .phase)) ≡ false → not (eqb (profileOf c aid .life) disabled && not (eqb (placeOf c aid) (c .fallback))) ≡ false → sound (cleared c (placeOf c aid)) ≡ true
   delete-kept q d =
       let h = not-false _ d in
-      whole _ (clears c (placeOf c aid) (parts c s) (quietly (c .phase) q) (eqb-true _ _ (and-l (eqb (profileOf c aid .life) disabled) _ h)) (not-true _ (and-r (eqb (profileOf c aid .life) disabled) _ h)))
+      whole _ (deletes c (placeOf c aid) (parts c s) (quietly (c .phase) q) (eqb-true _ _ (and-l (eqb (profileOf c aid .life) disabled) _ h)) (not-true _ (and-r (eqb (profileOf c aid .life) disabled) _ h)))
 
   act-kept : (act : Act) → LegalAct act → Passed c (on aid act) → sound (stepOf c (on aid act) .card) ≡ true
   act-kept enable h p = enable-opens p .still
@@ -119,8 +108,8 @@ module _ (c : Card) (aid : List ℕ) (s : sound c ≡ true) where
   create-kept : (quota : ℕ) → Sizes c aid quota → Passed c (create aid quota) → sound (stepOf c (create aid quota) .card) ≡ true
   create-kept quota h p =
       let w = parts c s in
-      let f = w .full in
-      let m = w .room in
+      let f = w .sizes .full in
+      let m = w .placed .room in
       let k = ltb-true (freePlace c) mostPlaces (not-false _ (or-l (not (ltb (freePlace c) mostPlaces)) _ (p .room))) in
       let q = leb-true quota (freeIn c) (not-false _ (or-r (not (ltb (freePlace c) mostPlaces)) _ (p .room))) in
       whole _ (creates c aid quota w (quietly (c .phase) (p .change)) (h .named) (h .some) (let u = h .some in omega arith) (p .already) (omega arith))
