@@ -2,14 +2,14 @@
 use mathlib.Core.Path.{_≡_}
 use native.Mathlib.Omega.{arith}
 use lib.ListN.{length}
-use Rattle.text.proofs.PutLaws.{wrote-as, wrote-then}
+use Rattle.byte_string.proofs.PutLaws.{wrote-as, wrote-then}
 use Rattle.responses.proofs.Rows.{listed-small, status-row}
 use borrow.Author.Needs.{needs}
 use Rattle.responses.proofs.write_row.Statement.{statement}
 use Rattle.responses.proofs.write_row.Tie as tie
 
-held-bytes-requires : tie.Need-held-bytes-requires
-held-bytes-requires c κs = search needs
+size-requires : tie.Need-size-requires
+size-requires c κs = search needs
 
 listed-size-requires : tie.Need-listed-size-requires
 listed-size-requires c κs = search needs
@@ -23,7 +23,7 @@ add-size c = search needs
 add-size-2 : tie.Need-add-size-2
 add-size-2 c = let s = c .before .before .before in
     let h = listed-small (s .args .life) (s .args .fallback) in
-    omega (arith, c .listed-size .ensures, c .before .held-bytes .ensures)
+    omega (arith, c .listed-size .ensures, c .before .size .ensures)
 
 slice-aggregate-put-bytes : tie.Need-slice-aggregate-put-bytes
 slice-aggregate-put-bytes c = search needs
@@ -46,13 +46,13 @@ same-length c = search needs
 returns : tie.Need-returns
 returns c = let s = c .before .before .before .before .before .before .before .before .before .before .before .before .before .before .before .before .before .before .before .before .before in
     let n : length (s .args .p .aid) ≡ 16 = search needs in
-    wrote-as _ (status-row (s .args .p) (s .args .mark) (s .args .life) (s .args .fallback) _ _ n (c .before .before .before .before .before .before .before .before .before .before .before .before .before .before .before .before .before .before .before .held-bytes .ensures) (c .before .before .before .before .before .before .before .before .before .before .before .before .before .before .before .before .before .before .listed-size .ensures)) (wrote-then (wrote-then (wrote-then (c .before .before .before .before .before .before .before .before .before .before .before .before .before .before .before .put-bytes .ensures) (c .before .before .before .before .before .before .before .before .before .before .write-aid .ensures)) (c .before .before .before .before .before .before .write-life .ensures)) (c .before .before .write-mark .ensures))
+    wrote-as _ (status-row (s .args .p) (s .args .mark) (s .args .life) (s .args .fallback) _ _ n (c .before .before .before .before .before .before .before .before .before .before .before .before .before .before .before .before .before .before .before .size .ensures) (c .before .before .before .before .before .before .before .before .before .before .before .before .before .before .before .before .before .before .listed-size .ensures)) (wrote-then (wrote-then (wrote-then (c .before .before .before .before .before .before .before .before .before .before .before .before .before .before .before .put-bytes .ensures) (c .before .before .before .before .before .before .before .before .before .before .write-aid .ensures)) (c .before .before .before .before .before .before .write-life .ensures)) (c .before .before .write-mark .ensures))
 
 pub write-row-spec : {M : Type 1} → statement M
 write-row-spec =
     tie.close
     (tie.spec
-    held-bytes-requires
+    size-requires
     listed-size-requires
     cast-size
     add-size

@@ -5,7 +5,7 @@ use native.Mathlib.Omega.{arith}
 use lib.ListN.{length, getD, drop, length-append}
 use Rattle.isdp.specs.Sizes.{mostPlaces}
 use Rattle.card.proofs.Records.{full}
-use Rattle.text.proofs.PutLaws.{Writing, writing-starts, writing-as, writing-goes, writing-ends, wrote-as}
+use Rattle.byte_string.proofs.PutLaws.{Writing, writing-starts, writing-as, writing-goes, writing-ends, wrote-as}
 use Rattle.responses.specs.Responses.{mostRow, rowOf, rowsFrom}
 use Rattle.places.proofs.Records.{unread}
 use Rattle.responses.proofs.Rows.{rows-step, rows-end, status-rows}
