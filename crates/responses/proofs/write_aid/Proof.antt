@@ -22,12 +22,14 @@ put-bytes-requires : tie.Need-put-bytes-requires
 put-bytes-requires c κs = search needs
 
 array-share-prefix-bytes : tie.Need-array-share-prefix-bytes
-array-share-prefix-bytes c = search needs
+array-share-prefix-bytes c = let s = c .before .before .before .before .before .before .before .before .before in
+    let n : length (s .args .aid .bytes) ≡ 16 = search needs in
+    omega arith
 
 slice-aggregate-put-bytes-2 : tie.Need-slice-aggregate-put-bytes-2
-slice-aggregate-put-bytes-2 c = let s = c .before .before .before .before .before .before .before .before .before in
-    let n : length (s .args .t1) ≡ 16 = search needs in
-    sym (length-take-le _ (s .args .t1) (omega arith))
+slice-aggregate-put-bytes-2 c = let s = c .before .before .before .before .before .before .before .before .before .before in
+    let n : length (s .args .aid .bytes) ≡ 16 = search needs in
+    sym (length-take-le _ (s .args .aid .bytes) (omega arith))
 
 put-bytes-requires-2 : tie.Need-put-bytes-requires-2
 put-bytes-requires-2 c κs = search needs
@@ -36,9 +38,7 @@ same-length : tie.Need-same-length
 same-length c = search needs
 
 returns : tie.Need-returns
-returns c = let s = c .before .before .before .before .before .before .before .before .before .before .before .before in
-    let n : length (s .args .t1) ≡ 16 = search needs in
-    wrote-as _ (aid-element (s .args .t1) (s .args .len) _ n (c .before .before .before .before .before .before .before .before .before .before .size .ensures)) (wrote-then (c .before .before .before .before .before .before .before .put-bytes .ensures) (c .before .before .put-bytes2 .ensures))
+returns c = wrote-as _ (aid-element (c .before .before .before .before .before .before .before .before .before .before .before .before .before .args .aid) _ (c .before .before .before .before .before .before .before .before .before .before .before .size .ensures .0)) (wrote-then (c .before .before .before .before .before .before .before .put-bytes .ensures) (c .before .before .put-bytes2 .ensures))
 
 pub write-aid-spec : {M : Type 1} → statement M
 write-aid-spec =

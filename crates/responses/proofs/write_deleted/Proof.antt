@@ -36,9 +36,9 @@ same-length : tie.Need-same-length
 same-length c = search needs
 
 returns-2 : tie.Need-returns-2
-returns-2 c = let s = c .before .before .before .before .before .before .before .before .before .before .before .before .before .before in
+returns-2 c = let s = c .before .before .before .before .before .before .before .before .before .before .before .before .before in
     let n : length (s .args .aid .bytes) ≡ 16 = search needs in
-    (wrote-as _ (deleted-some (s .args .aid) _ n (c .before .before .before .before .before .before .before .before .before .before .before .if1 .left) (c .before .before .before .before .before .before .before .before .before .before .size .ensures)) (wrote-then (c .before .before .before .before .before .before .before .put-bytes .ensures) (c .before .before .write-aid .ensures)), deleted-length (s .args .aid) (omega arith))
+    (wrote-as _ (deleted-some (s .args .aid) _ (c .before .before .before .before .before .before .before .before .before .before .if1 .left) (c .before .before .before .before .before .before .before .before .before .size .ensures .0)) (wrote-then (c .before .before .before .before .before .before .put-bytes .ensures) (c .before .before .write-aid .ensures)), deleted-length (s .args .aid) (omega arith))
 
 pub write-deleted-spec : {M : Type 1} → statement M
 write-deleted-spec =

@@ -28,6 +28,9 @@ mul-p c = search needs
 array-copy-out-p : tie.Need-array-copy-out-p Inv-loop μ-loop
 array-copy-out-p c = search needs
 
+cast-mark-of : tie.Need-cast-mark-of Inv-loop μ-loop
+cast-mark-of c = search needs
+
 mark-of-requires : tie.Need-mark-of-requires Inv-loop μ-loop
 mark-of-requires c κs = search needs
 
@@ -72,6 +75,7 @@ write-status-spec =
     loop-holds
     mul-p
     array-copy-out-p
+    cast-mark-of
     mark-of-requires
     write-place-requires
     add-i
