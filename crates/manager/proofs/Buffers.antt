@@ -9,7 +9,7 @@ use lib.ListN.{length}
 use lib.Dec.{eqb}
 use Rattle.status.specs.StatusWords.{isDone}
 use Rattle.status.specs.Rows.{wordOf}
-use Rattle.text.specs.Put.{put, Wrote}
+use Rattle.byte_string.specs.Put.{put, Wrote}
 use Rattle.text.proofs.PutLaws.{after-fits, put-none}
 use Rattle.card.specs.Ticks.{ticksByPhase}
 use Rattle.card.specs.Answers.{Work, acceptedAt, refusedAt, handed, known}

@@ -20,7 +20,7 @@ ghost use mathlib.Core.Bool.{cond};
 ghost use Prim.Native.Nat.{_≤_};
 ghost use lib.ListN.{length};
 ghost use lib.Dec.{eqb};
-ghost use Rattle.text.specs.Put.{put};
+ghost use Rattle.byte_string.specs.Put.{put};
 ghost use Rattle.card.specs.Answers.{handed, known};
 ghost use Rattle.card.specs.Fresh.{freshOutcome};
 ghost use Rattle.steps.specs.Asked.{Act.status, Asked.on, Asked.confirm, Asked.statusOfAll, Asked.getData};
