@@ -2,8 +2,7 @@
 use Prim.Native.Nat.{ℕ}
 use mathlib.Core.List.{List}
 use mathlib.Core.Bool.{Bool}
-use lib.ListN.{take, drop}
-use Rattle.tlv.specs.declared.Part.{Part}
+use Rattle.byte_string.specs.Bytes.{partOf}
 use Rattle.command.specs.Requests.{fieldOf}
 use Rattle.command.specs.declared.request.Request.{Request}
 use Rattle.command.specs.declared.request.Request.the-variants as request
@@ -22,10 +21,6 @@ pub data Call : Type 0 where
   Finished : List ℕ → ℕ → Call
   Tick : Call
   Lost : Call
-
--- the bytes of a part of the command
-abbrev pub partOf : List ℕ → Part → List ℕ
-partOf s part = take (part .len) (drop (part .start) s)
 
 -- the call that the code's value names over the bytes it came in, with a response buffer of so many bytes lent
 abbrev pub callOf : List ℕ → ℕ → declared.Call → Call
