@@ -8,9 +8,10 @@ use native.Mathlib.Omega.{arith}
 use Rattle.byte_string.specs.Bytes.{between}
 use Rattle.tlv.specs.Tlv.{expectAt}
 use Rattle.tlv.specs.declared.Element.the-variants as element
-use Rattle.choice.proofs.Branches.{each-eq, each-lt}
+use Rattle.choice.proofs.Branches.{each, each-eq, each-lt}
 use Rattle.tlv.proofs.Inside.{Expected, expect-parts}
-use Rattle.fields.specs.Alone.{aloneAt}
+use Rattle.tlv.specs.Lists.{listWrong}
+use Rattle.reader.specs.Reader.{aloneAt}
 use Rattle.fields.specs.StoreData.{dgiAt, onDgi, confirmationAt, namedBy, storeDataAt}
 use Rattle.fields.specs.Delete.{verificationAt, onFilled, deletionAt}
 use Rattle.fields.specs.GetStatus.{tagsAt, onShown, listingAt}
@@ -20,7 +21,7 @@ use Rattle.fields.specs.declared.Verification.{Verification}
 use Rattle.fields.specs.declared.Verification.the-variants as verification
 use Rattle.fields.specs.declared.Tags.{Tags}
 use Rattle.fields.specs.declared.Tags.the-variants as tags
-use Rattle.fields.proofs.Only.{alone-expected}
+use Rattle.reader.proofs.Alone.{alone-expected}
 use Rattle.install.specs.Install.{installOf}
 use Rattle.install.specs.declared.Installation.{Installation}
 use Rattle.install.specs.declared.Installation.the-variants as installation
@@ -60,7 +61,7 @@ module _ (s : List ℕ) (capacity end : ℕ) where
   store-data-in : FieldIn s capacity (storeDataOf s end)
   unfolding storeDataAt confirmationAt namedBy
   store-data-in = each-dgi (λ z. FieldIn s capacity (onStoreData z)) (dgiAt s 5 end) tt λ n contents.
-      each-eq (λ z. FieldIn s capacity (onStoreData z)) (λ _. each-found (λ z. FieldIn s capacity (onStoreData z)) (aloneAt s contents end 0x4E 2 2) tt (λ k e q. tt))
+      each (λ z. FieldIn s capacity (onStoreData z)) (listWrong s contents end) (λ _. tt) λ _. each-eq (λ z. FieldIn s capacity (onStoreData z)) (λ _. each-found (λ z. FieldIn s capacity (onStoreData z)) (aloneAt s contents end 0x4E 2 2) tt (λ k e q. tt))
       (λ _. each-found (λ z. FieldIn s capacity (onStoreData z)) (aloneAt s contents end 0x4F 5 16) tt (λ k e q.
       let x = alone-expected s contents end 0x4F 5 16 k e q in
       let p = placed s capacity contents end 0x4F 5 k e (x .least) x in
@@ -69,7 +70,7 @@ module _ (s : List ℕ) (capacity end : ℕ) where
 
   deletion-in : FieldIn s capacity (deletionOf s end)
   unfolding deletionAt
-  deletion-in = each-found (λ z. FieldIn s capacity (onDeletion z)) (expectAt s 5 end 0x4F 5 16) tt λ k e q.
+  deletion-in = each (λ z. FieldIn s capacity (onDeletion z)) (listWrong s 5 end) (λ _. tt) λ _. each-found (λ z. FieldIn s capacity (onDeletion z)) (expectAt s 5 end 0x4F 5 16) tt λ k e q.
       let x = expect-parts s 5 end 0x4F 5 16 k e q in
       let p = placed s capacity 5 end 0x4F 5 k e (x .least) x in
       each-eq (λ z. FieldIn s capacity (onDeletion z)) (λ _. p) (λ _. each-found (λ z. FieldIn s capacity (onDeletion z)) (expectAt s e end 0xB6 0 255) tt (λ f t _.
@@ -78,7 +79,7 @@ module _ (s : List ℕ) (capacity end : ℕ) where
 
   listing-in : FieldIn s capacity (listingOf s end)
   unfolding listingAt
-  listing-in = each-found (λ z. FieldIn s capacity (onListing z)) (expectAt s 5 end 0x4F 0 16) tt λ k e q.
+  listing-in = each (λ z. FieldIn s capacity (onListing z)) (listWrong s 5 end) (λ _. tt) λ _. each-found (λ z. FieldIn s capacity (onListing z)) (expectAt s 5 end 0x4F 0 16) tt λ k e q.
       let x = expect-parts s 5 end 0x4F 0 16 k e q in
       each-shown (λ z. FieldIn s capacity (onListing z)) (tagsAt s e end) tt λ l m.
       each-eq (λ z. FieldIn s capacity (onListing z)) (λ _. tt) (λ _. each-lt (λ z. FieldIn s capacity (onListing z)) (λ _. tt) (λ h.

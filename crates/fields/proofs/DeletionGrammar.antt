@@ -9,21 +9,25 @@ use lib.ListN.{length}
 use Rattle.byte_string.specs.Bytes.{between, partOf}
 use Rattle.tlv.specs.Tlv.{expectAt}
 use Rattle.tlv.specs.declared.Element.the-variants as element
+use Rattle.tlv.specs.Lists.{listWrong}
+use Rattle.tlv.specs.Filled.{Filled, ended, primitive, constructed}
 use Rattle.tlv.specs.Encoding.{window, Bytes, encodeElement}
-use Rattle.choice.proofs.Branches.{each-eq, eq!, ne! }
+use Rattle.choice.proofs.Branches.{no!, each, each-eq, eq!, ne! }
 use Rattle.tlv.proofs.Inside.{Expected, expect-parts, expect-inside}
 use Rattle.tlv.proofs.Windows.{window-length, window-part}
+use Rattle.tlv.proofs.Fills.{filled-right, first-level, second-level}
 use Rattle.tlv.proofs.Written.{element-written}
-use Rattle.tlv.proofs.ReadBack.{one, two, element-back}
+use Rattle.tlv.specs.Grammar.{one, two}
+use Rattle.tlv.proofs.ReadBack.{element-back}
 use Rattle.fields.specs.declared.Verification.{Verification}
 use Rattle.fields.specs.declared.Verification.the-variants as verification
 use Rattle.fields.specs.declared.Deletion.{Deletion}
 use Rattle.fields.specs.declared.Deletion.the-variants as deletion
-use Rattle.fields.specs.Alone.{aloneAt}
+use Rattle.reader.specs.Reader.{aloneAt}
 use Rattle.fields.specs.Delete.{verificationAt, deletionAt}
 use Rattle.fields.specs.Grammar.{Named, Deleted, delete, masterDelete, deletedOf, Verified, Given, encodeVerification, LegalVerified, encodeMasterDelete, EncodesDeleted, DeletionBack, DeletionWritten}
-use Rattle.fields.proofs.Only.{alone-expected}
-use Rattle.fields.proofs.Parts.{alone-back, alone-written, part-named}
+use Rattle.reader.proofs.Alone.{alone-expected, alone-written, alone-back}
+use Rattle.fields.proofs.Parts.{part-named}
 use Rattle.fields.proofs.Cases.{each-filled, same-value, no-value}
 use Rattle.tlv.proofs.Branches.{each-found}
 use Rattle.tlv.proofs.Written.{elements-written}
@@ -31,14 +35,17 @@ use Rattle.tlv.proofs.Written.{elements-written}
 -- ---- an encoded field is read back
 
 verification-back : (s : List ℕ) (at end : ℕ) → at ≤ end → end ≤ length s → (v : Verified) → LegalVerified v
-    → window s at end ≡ encodeVerification v → verification.Filled ≡ verificationAt s at end
+    → window s at end ≡ encodeVerification v → (verification.Filled ≡ verificationAt s at end) × Filled s 2 at end
 unfolding encodeVerification verificationAt
 verification-back s at end ordered held v l q =
     let a = element-back s at end ordered held 0x42 1 255 (v .of42) _ (one (omega arith) (omega arith)) (l .given42 .least) (l .given42 .most) q in
     let b = element-back s (a .stop) end (a .within) held 0x45 1 255 (v .of45) _ (one (omega arith) (omega arith)) (l .given45 .least) (l .given45 .most) (a .after) in
     let c = element-back s (b .stop) end (b .within) held 0x5F20 1 255 (v .of5F20) _ (two (omega arith) (omega arith) (omega arith)) (l .given5F20 .least) (l .given5F20 .most) (b .after) in
     let d = alone-back s (c .stop) end (c .within) held 0x93 1 255 (v .of93) (one (omega arith) (omega arith)) (l .given93 .least) (l .given93 .most) (c .after) in
-    rw (← a .found) (rw (← b .found) (rw (← c .found) (rw (← d .found) refl)))
+    let l = second-level in (
+      rw (← a .found) (rw (← b .found) (rw (← c .found) (rw (← d .found) refl))),
+      primitive l (a .head) (primitive l (b .head) (primitive l (c .head) (primitive l (d .head) (ended l held)))),
+    )
 
 pub deletion-back : DeletionBack
 unfolding deletionAt
@@ -47,7 +54,8 @@ deletion-back s at end (delete aid) ordered held (named, q) =
     let n : end - a .stop ≡ 0 = sym (window-length s (a .stop) end held) ∙ ap length (a .after) in
     let w = a .within in let l = a .long in
     let m : a .stop ≡ end = omega arith in
-    let r : deletion.Delete (between (a .start) (a .stop)) ≡ deletionAt s at end = rw (← a .found) (eq! _ m refl) in
+    let f : Filled s 1 at end = primitive first-level (a .head) (subst (λ (k : ℕ). Filled s 1 k end) (sym m) (ended first-level held)) in
+    let r : deletion.Delete (between (a .start) (a .stop)) ≡ deletionAt s at end = no! _ (filled-right f) (rw (← a .found) (eq! _ m refl)) in
     rw (← r) (ap (λ (l : List ℕ). some (delete l)) (window-part s (a .start) (a .stop) (omega arith) ∙ a .value))
 deletion-back s at end (masterDelete aid) ordered held (v, (named, (l, q))) =
     let a = element-back s at end ordered held 0x4F 5 16 aid _ (one (omega arith) (omega arith)) (named .least) (named .most) q in
@@ -57,7 +65,8 @@ deletion-back s at end (masterDelete aid) ordered held (v, (named, (l, q))) =
     let t = alone-back s (b .stop) end (b .within) held 0x9E 1 255 (v .of9E) (one (omega arith) (omega arith)) (l .given9E .least) (l .given9E .most) (b .after) in
     let k = a .long in
     let r : deletion.MasterDelete (between (a .start) (a .stop)) ≡ deletionAt s at end =
-    rw (← a .found) (ne! _ (omega arith) (rw (← b .found) (rw (← f) (rw (← t .found) refl)))) in
+    no! _ (filled-right (primitive first-level (a .head) (constructed first-level (b .head) (f .1) (primitive first-level (t .head) (ended first-level held)))))
+    (rw (← a .found) (ne! _ (omega arith) (rw (← b .found) (rw (← f .0) (rw (← t .found) refl))))) in
     rw (← r) (ap (λ (l : List ℕ). some (masterDelete l)) (window-part s (a .start) (a .stop) (omega arith) ∙ a .value))
 
 -- ---- what is accepted is so encoded
@@ -149,7 +158,8 @@ module _ (s : List ℕ) (at end : ℕ) (w : Deleted) (b : Bytes s) where
 
   accepted : Accepted (deletionAt s at end)
   unfolding deletionAt
-  accepted = each-found Accepted (expectAt s at end 0x4F 5 16) (no-value (Encoded w) w) λ start stop q.
+  accepted = each Accepted (listWrong s at end) (λ _. no-value (Encoded w) w) λ _.
+      each-found Accepted (expectAt s at end 0x4F 5 16) (no-value (Encoded w) w) λ start stop q.
       each-eq Accepted (delete-written start stop q)
       (λ _. each-found Accepted (expectAt s stop end 0xB6 0 255) (no-value (Encoded w) w) λ from to q₂.
       each-filled Accepted (verificationAt s from to) (no-value (Encoded w) w) λ f.

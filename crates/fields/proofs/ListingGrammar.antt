@@ -9,21 +9,24 @@ use lib.ListN.{length}
 use Rattle.byte_string.specs.Bytes.{between, partOf}
 use Rattle.tlv.specs.Tlv.{expectAt}
 use Rattle.tlv.specs.declared.Element.the-variants as element
+use Rattle.tlv.specs.Lists.{listWrong}
+use Rattle.tlv.specs.Filled.{Filled, ended, primitive}
 use Rattle.tlv.specs.Encoding.{window, Bytes, encodeElement}
-use Rattle.choice.proofs.Branches.{each-lt, each-eq, nlt!, eq!, ne! }
+use Rattle.choice.proofs.Branches.{no!, each, each-lt, each-eq, nlt!, eq!, ne! }
 use Rattle.tlv.proofs.Inside.{expect-parts, expect-inside}
 use Rattle.tlv.proofs.Windows.{window-none, window-length, window-part}
+use Rattle.tlv.proofs.Fills.{filled-right, first-level}
 use Rattle.tlv.proofs.ReadBack.{element-back}
-use Rattle.tlv.proofs.ReadBack as legal
+use Rattle.tlv.specs.Grammar as legal
 use Rattle.fields.specs.declared.Tags.{Tags}
 use Rattle.fields.specs.declared.Tags.the-variants as tags
 use Rattle.fields.specs.declared.Listing.{Listing}
 use Rattle.fields.specs.declared.Listing.the-variants as listing
-use Rattle.fields.specs.Alone.{aloneAt}
+use Rattle.reader.specs.Reader.{aloneAt}
 use Rattle.fields.specs.GetStatus.{rowsOf, tagsAt, listingAt}
 use Rattle.fields.specs.Grammar.{Named, ListedTag, Asked, asked, Sought, all, one, Short, listedOf, encodeTags, encodeList, showsLife, showsFallBack, EncodesListed, ListingBack, ListingWritten}
-use Rattle.fields.proofs.Only.{alone-expected}
-use Rattle.fields.proofs.Parts.{alone-back, alone-written, part-named}
+use Rattle.reader.proofs.Alone.{alone-expected, alone-written, alone-back}
+use Rattle.fields.proofs.Parts.{part-named}
 use Rattle.fields.proofs.ListedTags.{listed-back, listed-written}
 use Rattle.fields.proofs.Cases.{each-shown, same-value, no-value}
 use Rattle.tlv.proofs.Branches.{each-found}
@@ -35,13 +38,15 @@ empty : (s : List ℕ) (at end : ℕ) → at ≤ end → end ≤ length s → wi
 empty s at end o h q = let n : end - at ≡ 0 = sym (window-length s at end h) ∙ ap length q in omega arith
 
 tags-back : (s : List ℕ) (at end : ℕ) → at ≤ end → end ≤ length s → (ts : Option (List ListedTag)) → Short ts
-    → window s at end ≡ encodeList ts → tags.Shown (showsLife ts) (showsFallBack ts) ≡ tagsAt s at end
+    → window s at end ≡ encodeList ts → (tags.Shown (showsLife ts) (showsFallBack ts) ≡ tagsAt s at end) × Filled s 1 at end
 unfolding tagsAt
-tags-back s at end o h none short q = eq! _ (empty s at end o h q) refl
+tags-back s at end o h none short q =
+    let e = empty s at end o h q in
+    (eq! _ e refl, subst (λ (k : ℕ). Filled s 1 k end) (sym e) (ended first-level h))
 tags-back s at end o h (some ts) short q =
     let a = alone-back s at end o h 0x5C 0 255 (encodeTags ts) (legal.one (omega arith) (omega arith)) (omega arith) short q in
     let i = alone-expected s at end 0x5C 0 255 (a .start) end (a .found) .inside in
-    ne! _ (omega arith) (rw (← a .found) (listed-back ts s (a .start) end (i .ordered) h (a .value)))
+    (ne! _ (omega arith) (rw (← a .found) (listed-back ts s (a .start) end (i .ordered) h (a .value))), primitive first-level (a .head) (ended first-level h))
 
 sought-most : {who : List ℕ} → Sought who → length who ≤ 16
 sought-most all = omega arith
@@ -64,8 +69,10 @@ unfolding listingAt
 listing-back s at end v o h e =
     let a = element-back s at end o h 0x4F 0 16 (v .who) (encodeList (e .tags)) (legal.one (omega arith) (omega arith)) (omega arith) (sought-most (e .sought)) (e .written) in
     let t = tags-back s (a .stop) end (a .within) h (e .tags) (e .short) (a .after) in
-    rw (← a .found) (rw (← t) (rw (← e .lifeAsked) (rw (← e .fallBackAsked)
-    (who-back s (v .life) (v .fallBackShown) (v .who) (e .sought) (a .start) (a .stop) (a .long) (a .value)))))
+    let r : rowsOf (a .start) (a .stop) (showsLife (e .tags)) (showsFallBack (e .tags)) ≡ listingAt s at end =
+    no! _ (filled-right (primitive first-level (a .head) (t .1))) (rw (← a .found) (rw (← t .0) refl)) in
+    rw (← r) (rw (← e .lifeAsked) (rw (← e .fallBackAsked)
+    (who-back s (v .life) (v .fallBackShown) (v .who) (e .sought) (a .start) (a .stop) (a .long) (a .value))))
 
 -- ---- what is accepted is so encoded
 
@@ -128,7 +135,8 @@ module _ (s : List ℕ) (at end : ℕ) (w : Asked) (b : Bytes s) where
 
   accepted : Accepted (listingAt s at end)
   unfolding listingAt
-  accepted = each-found Accepted (expectAt s at end 0x4F 0 16) (no-value (Encoded w) w) λ start stop q.
+  accepted = each Accepted (listWrong s at end) (λ _. no-value (Encoded w) w) λ _.
+      each-found Accepted (expectAt s at end 0x4F 0 16) (no-value (Encoded w) w) λ start stop q.
       each-shown Accepted (tagsAt s stop end) (no-value (Encoded w) w) λ life shown g.
       let x = expect-parts s at end 0x4F 0 16 start stop q in
       let i = x .inside in

@@ -9,19 +9,22 @@ use lib.ListN.{length}
 use Rattle.byte_string.specs.Bytes.{byte, pairAt, between, partOf}
 use Rattle.tlv.specs.declared.Element.the-variants as element
 use Rattle.byte_string.specs.declared.Part.{Part}
+use Rattle.tlv.specs.Lists.{listWrong}
+use Rattle.tlv.specs.Filled.{ended, primitive}
 use Rattle.tlv.specs.Encoding.{window, Bytes, encodeNumber, encodeTag, encodeLength, encodeElement}
-use Rattle.choice.proofs.Branches.{each-eq, lt!, eq!, ne! }
+use Rattle.choice.proofs.Branches.{no!, each, each-eq, lt!, eq!, ne! }
 use Rattle.tlv.proofs.Windows.{window-starts, window-part}
+use Rattle.tlv.proofs.Fills.{filled-right, first-level}
 use Rattle.tlv.proofs.Written.{window-two}
-use Rattle.tlv.proofs.ReadBack.{one}
+use Rattle.tlv.specs.Grammar.{one}
 use Rattle.fields.specs.declared.Dgi.the-variants as dgi
 use Rattle.fields.specs.declared.StoreData.{StoreData}
 use Rattle.fields.specs.declared.StoreData.the-variants as store
-use Rattle.fields.specs.Alone.{aloneAt}
+use Rattle.reader.specs.Reader.{aloneAt}
 use Rattle.fields.specs.StoreData.{dgiAt, confirmationAt, namedBy, storeDataAt}
 use Rattle.fields.specs.Grammar.{Named, Stored, enable, disable, setFallBack, confirmation, storedOf, encodeDgi, EncodesStored, StoreDataBack, StoreDataWritten}
-use Rattle.fields.proofs.Only.{alone-expected, alone-parts}
-use Rattle.fields.proofs.Parts.{alone-back, alone-written, dgi-back, dgi-parts, dgi-written, part-named}
+use Rattle.reader.proofs.Alone.{alone-expected, alone-parts, alone-written, alone-back}
+use Rattle.fields.proofs.Parts.{dgi-back, dgi-parts, dgi-written, part-named}
 use Rattle.fields.proofs.Cases.{each-dgi, same-value, no-value}
 use Rattle.tlv.proofs.Branches.{each-found}
 
@@ -50,7 +53,7 @@ module _ (s : List ℕ) (at end : ℕ) (ordered : at ≤ end) (held : end ≤ le
       let l = a .long in
       record {
         part = between (a .start) end;
-        read = rw (← d .found) (ne! _ other (rw (← a .found) refl));
+        read = rw (← d .found) (no! _ (filled-right (primitive first-level (a .head) (ended first-level held))) (ne! _ other (rw (← a .found) refl)));
         bytes = window-part s (a .start) end (omega arith) ∙ a .value;
       }
 
@@ -66,7 +69,7 @@ module _ (s : List ℕ) (at end : ℕ) (ordered : at ≤ end) (held : end ≤ le
       let y = window-starts s (a .start + 1) end (omega arith) held (number % 256) [] (x .after) in
       let f = x .first in let g = y .first in
       let e : number ≡ pairAt s (a .start) = omega arith in
-      rw (← d .found) (eq! _ refl (rw (← a .found) (ap store.Confirm e)))
+      rw (← d .found) (no! _ (filled-right (primitive first-level (a .head) (ended first-level held))) (eq! _ refl (rw (← a .found) (ap store.Confirm e))))
 
 pub store-data-back : StoreDataBack
 unfolding namedBy
@@ -139,9 +142,9 @@ module _ (s : List ℕ) (at end : ℕ) (v : Stored) (b : Bytes s) where
   accepted : Accepted (storeDataAt s at end)
   unfolding storeDataAt confirmationAt
   accepted = each-dgi Accepted (dgiAt s at end) (no-value (Encoded v) v) λ number contents d.
-      each-eq Accepted
+      each Accepted (listWrong s contents end) (λ _. no-value (Encoded v) v) (λ _. each-eq Accepted
       (λ h. each-found Accepted (aloneAt s contents end 0x4E 2 2) (no-value (Encoded v) v) λ start stop g. number-written number contents d start stop h g)
-      (λ _. each-found Accepted (aloneAt s contents end 0x4F 5 16) (no-value (Encoded v) v) λ start stop g. aid-written number contents d start stop g)
+      (λ _. each-found Accepted (aloneAt s contents end 0x4F 5 16) (no-value (Encoded v) v) λ start stop g. aid-written number contents d start stop g))
 
 pub store-data-written : StoreDataWritten
 store-data-written s at end v b q = accepted s at end v b q

@@ -5,7 +5,8 @@ use mathlib.Core.List.{List}
 use Rattle.byte_string.specs.Bytes.{between}
 use Rattle.choice.specs.Choice.{pick, isSame}
 use Rattle.tlv.specs.Tlv.{expectAt, onFound}
-use Rattle.fields.specs.Alone.{aloneAt}
+use Rattle.tlv.specs.Lists.{listWrong}
+use Rattle.reader.specs.Reader.{aloneAt}
 use Rattle.fields.specs.declared.Verification.{Verification}
 use Rattle.fields.specs.declared.Verification.the-variants as verification
 use Rattle.fields.specs.declared.Deletion.{Deletion}
@@ -26,9 +27,10 @@ onFilled verification.Filled w x = x
 
 unfoldable pub deletionAt : List ℕ → ℕ → ℕ → Deletion
 deletionAt s at end =
-    onFound (expectAt s at end 0x4F 5 16) deletion.Wrong λ start stop.
+    pick (listWrong s at end) deletion.Wrong
+    (onFound (expectAt s at end 0x4F 5 16) deletion.Wrong λ start stop.
     pick (isSame stop end) (deletion.Delete (between start stop))
     (onFound (expectAt s stop end 0xB6 0 255) deletion.Wrong λ from to.
     onFilled (verificationAt s from to) deletion.Wrong
     (onFound (aloneAt s to end 0x9E 1 255) deletion.Wrong λ _ _.
-    deletion.MasterDelete (between start stop)))
+    deletion.MasterDelete (between start stop))))

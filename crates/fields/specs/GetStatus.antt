@@ -9,7 +9,8 @@ use Rattle.choice.specs.Choice.{pick, atMost, isBelow, isSame}
 use Rattle.tlv.specs.Tlv.{tagAt, expectAt, onFound}
 use Rattle.tlv.specs.declared.TagRead.{TagRead}
 use Rattle.tlv.specs.declared.TagRead.the-variants as tag
-use Rattle.fields.specs.Alone.{aloneAt}
+use Rattle.tlv.specs.Lists.{listWrong}
+use Rattle.reader.specs.Reader.{aloneAt}
 use Rattle.fields.specs.declared.Tags.{Tags}
 use Rattle.fields.specs.declared.Tags.the-variants as tags
 use Rattle.fields.specs.declared.Listing.{Listing}
@@ -58,6 +59,7 @@ rowsOf start stop life fallBack =
 
 unfoldable pub listingAt : List ℕ → ℕ → ℕ → Listing
 listingAt s at end =
-    onFound (expectAt s at end 0x4F 0 16) listing.Wrong λ start stop.
+    pick (listWrong s at end) listing.Wrong
+    (onFound (expectAt s at end 0x4F 0 16) listing.Wrong λ start stop.
     onShown (tagsAt s stop end) listing.Wrong λ life fallBack.
-    rowsOf start stop life fallBack
+    rowsOf start stop life fallBack)

@@ -1,5 +1,4 @@
 -- Document 01, 'Reading a command': the data fields of STORE DATA, DELETE and GET STATUS.
-pub mod Alone
 pub mod StoreData
 pub mod Delete
 pub mod GetStatus

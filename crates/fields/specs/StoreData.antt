@@ -7,7 +7,8 @@ use Rattle.choice.specs.Choice.{pick, isBelow, isSame}
 use Rattle.byte_string.specs.Bytes.{byte, pairAt, between}
 use Rattle.tlv.specs.Tlv.{onFound}
 use Rattle.byte_string.specs.declared.Part.{Part}
-use Rattle.fields.specs.Alone.{aloneAt}
+use Rattle.tlv.specs.Lists.{listWrong}
+use Rattle.reader.specs.Reader.{aloneAt}
 use Rattle.fields.specs.declared.Dgi.{Dgi}
 use Rattle.fields.specs.declared.Dgi.the-variants as dgi
 use Rattle.fields.specs.declared.StoreData.{StoreData}
@@ -43,6 +44,7 @@ namedBy number aid =
 unfoldable pub storeDataAt : List ℕ → ℕ → ℕ → StoreData
 storeDataAt s at end =
     onDgi (dgiAt s at end) store.Wrong λ number contents.
-    pick (isSame number 0x3A08) (confirmationAt s contents end)
+    pick (listWrong s contents end) store.Wrong
+    (pick (isSame number 0x3A08) (confirmationAt s contents end)
     (onFound (aloneAt s contents end 0x4F 5 16) store.Wrong λ start stop.
-    namedBy number (between start stop))
+    namedBy number (between start stop)))

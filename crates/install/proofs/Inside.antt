@@ -10,10 +10,12 @@ use Rattle.tlv.specs.declared.LengthRead.{LengthRead}
 use Rattle.tlv.specs.declared.LengthRead.the-variants as len
 use Rattle.tlv.specs.declared.Element.{Element}
 use Rattle.tlv.specs.declared.Element.the-variants as element
-use Rattle.choice.proofs.Branches.{each-lt, each-eq}
+use Rattle.choice.proofs.Branches.{each, each-lt, each-eq}
 use Rattle.tlv.proofs.Inside.{Inside, length-inside}
 use Rattle.byte_string.specs.declared.Part.{Part}
 use Rattle.tlv.specs.Tlv.{expectAt}
+use Rattle.tlv.specs.Lists.{listWrong}
+use Rattle.reader.specs.Reader.{aloneAt}
 use Rattle.install.specs.declared.Protocols.{Protocols}
 use Rattle.install.specs.declared.Protocols.the-variants as protocols
 use Rattle.install.specs.declared.Quota.{Quota}
@@ -87,14 +89,14 @@ module _ (s : List ℕ) (at end capacity : ℕ) where
 
   memory-within : Within capacity (memoryAt s at end capacity)
   unfolding memoryAt
-  memory-within = each-found (Within capacity) (expectAt s at end 0x83 2 4) tt λ k e _.
-      each-eq (Within capacity) (λ _. each-eq (Within capacity) (λ _. tt) (λ _. grant-within (numberAt s k (e - k)))) (λ _. tt)
+  memory-within = each-found (Within capacity) (aloneAt s at end 0x83 2 4) tt λ k e _.
+      each-eq (Within capacity) (λ _. tt) (λ _. grant-within (numberAt s k (e - k)))
 
 parameters-within : (s : List ℕ) (at end capacity : ℕ) → Within capacity (parametersAt s at end capacity)
 unfolding parametersAt
-parameters-within s at end capacity = each-found (Within capacity) (expectAt s at end 0xC9 1 255) tt λ k e _.
-    each-listed (Within capacity) (protocolsAt s k e) tt λ _. each-found (Within capacity) (expectAt s e end 0xEF 0 255) tt λ f t _.
-    each-eq (Within capacity) (λ _. memory-within s f t capacity) (λ _. tt)
+parameters-within s at end capacity = each (Within capacity) (listWrong s at end) (λ _. tt) λ _.
+    each-found (Within capacity) (expectAt s at end 0xC9 1 255) tt λ k e _. each-listed (Within capacity) (protocolsAt s k e) tt λ _.
+    each-found (Within capacity) (aloneAt s e end 0xEF 0 255) tt λ f t _. memory-within s f t capacity
 
 -- what is handed on: an AID of 5 to 16 bytes that stands in the bytes, and a quota of 1 up to the capacity
 pub record Created (s : List ℕ) (capacity : ℕ) (aid : Part) (number : ℕ) : Type 0 where

@@ -8,10 +8,13 @@ use native.Mathlib.Omega.{arith}
 use lib.ListN.{length}
 use Rattle.byte_string.specs.Bytes.{between, partOf}
 use Rattle.tlv.specs.Tlv.{expectAt}
+use Rattle.tlv.specs.Lists.{listWrong}
+use Rattle.reader.specs.Reader.{aloneAt}
+use Rattle.reader.proofs.Alone.{alone-expected, alone-written}
 use Rattle.tlv.specs.declared.Element.{Element}
 use Rattle.tlv.specs.declared.Element.the-variants as element
 use Rattle.tlv.specs.Encoding.{window, Bytes, encodeLength, encodeElement}
-use Rattle.choice.proofs.Branches.{each-le, each-lt, each-eq}
+use Rattle.choice.proofs.Branches.{each, each-le, each-lt, each-eq}
 use Rattle.tlv.proofs.Inside.{expect-parts}
 use Rattle.tlv.proofs.Windows.{window-none, window-length, window-part, window-cut}
 use Rattle.tlv.proofs.Written.{length-written, element-written}
@@ -92,8 +95,8 @@ unfolding memoryAt grantOf
 memory-written s at end capacity number b =
     let P : Quota → Type 0 = λ z. quota.Granted number ≡ z → MemoryWritten s at end capacity number in
     let none : P quota.Wrong = λ q. let z : _≡_ {A = ℕ} 0 1 = cc in absurd (omega arith) in
-    each-found P (expectAt s at end 0x83 2 4) none λ k e f. each-eq P (λ g. each-eq P (λ _. none) (λ t. each-eq P (λ _. none) (λ u. each-lt P (λ _. none) (λ v q.
-    let x = expect-parts s at end 0x83 2 4 k e f in let j = x .inside in let y = x .least in let z = x .most in
+    each-found P (aloneAt s at end 0x83 2 4) none λ k e f. each-eq P (λ _. none) (λ t. each-eq P (λ _. none) (λ u. each-lt P (λ _. none) (λ v q.
+    let x = alone-expected s at end 0x83 2 4 k e f in let j = x .inside in let y = x .least in let z = x .most in
     let m : number ≡ numberAt s k (e - k) = cc in
     let n = window-length s k e (omega arith) in
     record {
@@ -102,8 +105,8 @@ memory-written s at end capacity number b =
       numbered = m ∙ number-first s k e (omega arith) (omega arith) y z t;
       granted = omega arith;
       fits = omega arith;
-      written = ap (window s at) (sym g) ∙ element-written s at end 0x83 2 4 k e b f;
-    })))) (λ _. none)
+      written = alone-written s at end 0x83 2 4 k e b f;
+    })))
 
 -- ---- the install parameters
 
@@ -124,10 +127,11 @@ module _ (s : List ℕ) (at end capacity number : ℕ) where
   parameters-written b =
       let P : Quota → Type 0 = λ z. quota.Granted number ≡ z → ParametersWritten in
       let none : P quota.Wrong = λ q. let z : _≡_ {A = ℕ} 0 1 = cc in absurd (omega arith) in
+      each P (listWrong s at end) (λ _. none) λ _.
       each-found P (expectAt s at end 0xC9 1 255) none λ k e c. each-listed P (protocolsAt s k e) none λ l.
-      each-found P (expectAt s e end 0xEF 0 255) none λ f t d. each-eq P (λ g q.
+      each-found P (aloneAt s e end 0xEF 0 255) none λ f t d q.
       let x = expect-parts s at end 0xC9 1 255 k e c in let i = x .inside in let y = x .least in let z = x .most in
-      let u = expect-parts s e end 0xEF 0 255 f t d in let j = u .inside in
+      let u = alone-expected s e end 0xEF 0 255 f t d in let j = u .inside in
       let r = protocols-written s k e b (omega arith) (omega arith) l in
       let m = memory-written s f t capacity number b q in
       let n = window-length s k e (omega arith) in
@@ -144,8 +148,8 @@ module _ (s : List ℕ) (at end capacity number : ℕ) where
         written = window-cut s at e end (omega arith) (omega arith) (omega arith)
             ∙ ap (λ (w : List ℕ). w ++ window s e end) (element-written s at end 0xC9 1 255 k e b c ∙ ap (encodeElement 0xC9) (r .written))
             ∙ ap (λ (w : List ℕ). encodeElement 0xC9 (encodeProtocols (r .values)) ++ w)
-            (ap (window s e) (sym g) ∙ element-written s e end 0xEF 0 255 f t b d ∙ ap (encodeElement 0xEF) (m .written));
-      }) (λ _. none)
+            (alone-written s e end 0xEF 0 255 f t b d ∙ ap (encodeElement 0xEF) (m .written));
+      }
 
 -- ---- load file AID, module AID and ISD-P AID
 

@@ -2,9 +2,11 @@
 // Every function reads a window of the whole command, from `at` up to `end`; one that does not lie in it is wrong.
 use byte_string::Part;
 use byte_string::read_pair;
+use reader::last_element;
+use reader::next_element;
 use tlv::Element;
 use tlv::LengthRead;
-use tlv::expect;
+use tlv::list_wrong;
 use tlv::read_length;
 ghost use mathlib.Core.Path.{_≡_};
 ghost use Prim.Native.Nat.{_+_, _≤_};
@@ -23,7 +25,7 @@ fn read_protocols(s: &[u8], at: usize, end: usize) -> Protocols
 {
     let mut from = at;
     while from < end {
-        let Element::Found { start: _, stop } = expect(s, from, end, 0x81, 2, 2) else {
+        let Element::Found { start: _, stop } = next_element(s, from, end, 0x81, 2, 2) else {
             return Protocols::Wrong;
         };
         from = stop;
@@ -66,12 +68,9 @@ fn grant(number: u32, capacity: u32) -> Quota
 fn read_memory(s: &[u8], at: usize, end: usize, capacity: u32) -> Quota
     ensures { λ r. ⌜ r ≡ memoryAt (now (s .entry)) at end capacity ⌝ }
 {
-    let Element::Found { start, stop } = expect(s, at, end, 0x83, 2, 4) else {
+    let Element::Found { start, stop } = last_element(s, at, end, 0x83, 2, 4) else {
         return Quota::Wrong;
     };
-    if stop != end {
-        return Quota::Wrong;
-    }
     let count = stop - start;
     if count == 3 {
         return Quota::Wrong;
@@ -80,10 +79,14 @@ fn read_memory(s: &[u8], at: usize, end: usize, capacity: u32) -> Quota
     grant(number, capacity)
 }
 
+// A list of elements: C9, then EF, and nothing after.
 fn read_parameters(s: &[u8], at: usize, end: usize, capacity: u32) -> Quota
     ensures { λ r. ⌜ r ≡ parametersAt (now (s .entry)) at end capacity ⌝ }
 {
-    let Element::Found { start, stop } = expect(s, at, end, 0xC9, 1, 255) else {
+    if list_wrong(s, at, end) {
+        return Quota::Wrong;
+    }
+    let Element::Found { start, stop } = next_element(s, at, end, 0xC9, 1, 255) else {
         return Quota::Wrong;
     };
     let Protocols::Listed = read_protocols(s, start, stop) else {
@@ -92,13 +95,10 @@ fn read_parameters(s: &[u8], at: usize, end: usize, capacity: u32) -> Quota
     let Element::Found {
         start: from,
         stop: to,
-    } = expect(s, stop, end, 0xEF, 0, 255)
+    } = last_element(s, stop, end, 0xEF, 0, 255)
     else {
         return Quota::Wrong;
     };
-    if to != end {
-        return Quota::Wrong;
-    }
     read_memory(s, from, to, capacity)
 }
 
