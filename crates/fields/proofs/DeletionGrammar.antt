@@ -15,17 +15,19 @@ use Rattle.tlv.specs.Encoding.{window, Bytes, encodeElement}
 use Rattle.choice.proofs.Branches.{no!, each, each-eq, eq!, ne! }
 use Rattle.tlv.proofs.Inside.{Expected, expect-parts, expect-inside}
 use Rattle.tlv.proofs.Windows.{window-length, window-part}
-use Rattle.tlv.proofs.Fills.{filled-right, first-level, second-level}
+use Rattle.tlv.proofs.Fills.{right-filled, filled-right, first-level, second-level}
 use Rattle.tlv.proofs.Written.{element-written}
 use Rattle.tlv.specs.Grammar.{one, two}
 use Rattle.tlv.proofs.ReadBack.{element-back}
 use Rattle.fields.specs.declared.Verification.{Verification}
 use Rattle.fields.specs.declared.Verification.the-variants as verification
-use Rattle.fields.specs.declared.Deletion.{Deletion}
-use Rattle.fields.specs.declared.Deletion.the-variants as deletion
+use Rattle.fields.specs.declared.request.Request.{Request}
+use Rattle.fields.specs.declared.request.Request.the-variants as request
+use Rattle.fields.specs.declared.request.Field.{Field}
+use Rattle.fields.specs.declared.request.Field.the-variants as field
 use Rattle.reader.specs.Reader.{aloneAt}
 use Rattle.fields.specs.Delete.{verificationAt, deletionAt}
-use Rattle.fields.specs.Grammar.{Named, Deleted, delete, masterDelete, deletedOf, Verified, Given, encodeVerification, LegalVerified, encodeMasterDelete, EncodesDeleted, DeletionBack, DeletionWritten}
+use Rattle.fields.specs.Grammar.{Named, delete, masterDelete, Wanted, deletion, foundAs, Written, Verified, Given, encodeVerification, LegalVerified, encodeMasterDelete, EncodesDeleted, DeletionBack, DeletionWritten, DeletionFilled}
 use Rattle.reader.proofs.Alone.{alone-expected, alone-written, alone-back}
 use Rattle.fields.proofs.Parts.{part-named}
 use Rattle.fields.proofs.Cases.{each-filled, same-value, no-value}
@@ -55,8 +57,8 @@ deletion-back s at end (delete aid) ordered held (named, q) =
     let w = a .within in let l = a .long in
     let m : a .stop ≡ end = omega arith in
     let f : Filled s 1 at end = primitive first-level (a .head) (subst (λ (k : ℕ). Filled s 1 k end) (sym m) (ended first-level held)) in
-    let r : deletion.Delete (between (a .start) (a .stop)) ≡ deletionAt s at end = no! _ (filled-right f) (rw (← a .found) (eq! _ m refl)) in
-    rw (← r) (ap (λ (l : List ℕ). some (delete l)) (window-part s (a .start) (a .stop) (omega arith) ∙ a .value))
+    let r : field.Found (request.Delete (between (a .start) (a .stop))) ≡ deletionAt s at end = no! _ (filled-right f) (rw (← a .found) (eq! _ m refl)) in
+    rw (← r) (ap (λ (l : List ℕ). some (deletion (delete l))) (window-part s (a .start) (a .stop) (omega arith) ∙ a .value))
 deletion-back s at end (masterDelete aid) ordered held (v, (named, (l, q))) =
     let a = element-back s at end ordered held 0x4F 5 16 aid _ (one (omega arith) (omega arith)) (named .least) (named .most) q in
     let b = element-back s (a .stop) end (a .within) held 0xB6 0 255 (encodeVerification v) _ (one (omega arith) (omega arith)) (omega arith) (l .most) (a .after) in
@@ -64,10 +66,10 @@ deletion-back s at end (masterDelete aid) ordered held (v, (named, (l, q))) =
     let f = verification-back s (b .start) (b .stop) (i .ordered) (omega arith) v l (b .value) in
     let t = alone-back s (b .stop) end (b .within) held 0x9E 1 255 (v .of9E) (one (omega arith) (omega arith)) (l .given9E .least) (l .given9E .most) (b .after) in
     let k = a .long in
-    let r : deletion.MasterDelete (between (a .start) (a .stop)) ≡ deletionAt s at end =
+    let r : field.Found (request.MasterDelete (between (a .start) (a .stop))) ≡ deletionAt s at end =
     no! _ (filled-right (primitive first-level (a .head) (constructed first-level (b .head) (f .1) (primitive first-level (t .head) (ended first-level held)))))
     (rw (← a .found) (ne! _ (omega arith) (rw (← b .found) (rw (← f .0) (rw (← t .found) refl))))) in
-    rw (← r) (ap (λ (l : List ℕ). some (masterDelete l)) (window-part s (a .start) (a .stop) (omega arith) ∙ a .value))
+    rw (← r) (ap (λ (l : List ℕ). some (deletion (masterDelete l))) (window-part s (a .start) (a .stop) (omega arith) ∙ a .value))
 
 -- ---- what is accepted is so encoded
 
@@ -109,12 +111,12 @@ module _ (s : List ℕ) (b : Bytes s) where
             ∙ ap (λ (l : List ℕ). encodeElement 0x5F20 (window s k₃ third) ++ l) (alone-written s third end 0x93 1 255 k₄ stop b q₄)));
       }
 
-module _ (s : List ℕ) (at end : ℕ) (w : Deleted) (b : Bytes s) where
-  abbrev Encoded : Deleted → Type 0
-  Encoded v = (at ≤ end) × ((end ≤ length s) × EncodesDeleted v (window s at end))
+module _ (s : List ℕ) (at end : ℕ) (w : Wanted) (b : Bytes s) where
+  abbrev Encoded : Wanted → Type 0
+  Encoded z = Written deletion EncodesDeleted s at end z
 
-  abbrev Accepted : Deletion → Type 0
-  Accepted z = deletedOf s z ≡ some w → Encoded w
+  abbrev Accepted : Field → Type 0
+  Accepted z = foundAs s z ≡ some w → Encoded w
 
   module _ (start stop : ℕ) (q : element.Found start stop ≡ expectAt s at end 0x4F 5 16) where
     named : Named (partOf s (between start stop))
@@ -123,15 +125,15 @@ module _ (s : List ℕ) (at end : ℕ) (w : Deleted) (b : Bytes s) where
         let i = x .inside in
         subst Named (sym (window-part s start stop (i .ordered))) (part-named s start stop (i .ordered) (omega arith) (x .least) (x .most))
 
-    delete-written : stop ≡ end → Accepted (deletion.Delete (between start stop))
+    delete-written : stop ≡ end → Accepted (field.Found (request.Delete (between start stop)))
     delete-written h =
         let i = expect-inside s at end 0x4F 5 16 start stop q in
         let bytes : window s at end ≡ encodeElement 0x4F (partOf s (between start stop)) =
         ap (window s at) (sym h) ∙ element-written s at end 0x4F 5 16 start stop b q ∙ ap (encodeElement 0x4F) (sym (window-part s start stop (i .ordered))) in
-        same-value Encoded (delete (partOf s (between start stop))) w (omega arith, (omega arith, (named, bytes)))
+        same-value Encoded (deletion (delete (partOf s (between start stop)))) w record { ordered = omega arith; held = omega arith; value = delete (partOf s (between start stop)); meant = refl; encoded = (named, bytes) }
 
     master-written : (from to k e : ℕ) → element.Found from to ≡ expectAt s stop end 0xB6 0 255 → verification.Filled ≡ verificationAt s from to
-        → element.Found k e ≡ aloneAt s to end 0x9E 1 255 → Accepted (deletion.MasterDelete (between start stop))
+        → element.Found k e ≡ aloneAt s to end 0x9E 1 255 → Accepted (field.Found (request.MasterDelete (between start stop)))
     master-written from to k e q₂ f g =
         let i = expect-inside s at end 0x4F 5 16 start stop q in
         let x = expect-parts s stop end 0xB6 0 255 from to q₂ in
@@ -154,7 +156,7 @@ module _ (s : List ℕ) (at end : ℕ) (w : Deleted) (b : Bytes s) where
         ∙ ap (λ (a : List ℕ). encodeElement 0xB6 a ++ window s to end) (v .bytes)
         ∙ ap (λ (a : List ℕ). encodeElement 0xB6 (encodeVerification (v .values)) ++ a) (alone-written s to end 0x9E 1 255 k e b g
         ∙ ap (encodeElement 0x9E) (sym (v .last)))) in
-        same-value Encoded (masterDelete (partOf s (between start stop))) w (omega arith, (omega arith, (v .values, (named, (l, bytes)))))
+        same-value Encoded (deletion (masterDelete (partOf s (between start stop)))) w record { ordered = omega arith; held = omega arith; value = masterDelete (partOf s (between start stop)); meant = refl; encoded = (v .values, (named, (l, bytes))) }
 
   accepted : Accepted (deletionAt s at end)
   unfolding deletionAt
@@ -167,3 +169,8 @@ module _ (s : List ℕ) (at end : ℕ) (w : Deleted) (b : Bytes s) where
 
 pub deletion-written : DeletionWritten
 deletion-written s at end w b q = accepted s at end w b q
+
+pub deletion-filled : DeletionFilled
+unfolding deletionAt
+deletion-filled s at end r = each (λ (z : Field). field.Found r ≡ z → Filled s 1 at end) (listWrong s at end)
+    (λ _ q. let z : _≡_ {A = ℕ} 0 1 = cc in absurd (omega arith)) (λ e _. right-filled s at end e)

@@ -2,4 +2,5 @@
 pub mod StoreData
 pub mod Delete
 pub mod GetStatus
+pub mod Places
 pub mod Grammar

@@ -11,8 +11,9 @@ use Rattle.tlv.specs.Lists.{listWrong}
 use Rattle.reader.specs.Reader.{aloneAt}
 use Rattle.fields.specs.declared.Dgi.{Dgi}
 use Rattle.fields.specs.declared.Dgi.the-variants as dgi
-use Rattle.fields.specs.declared.StoreData.{StoreData}
-use Rattle.fields.specs.declared.StoreData.the-variants as store
+use Rattle.fields.specs.declared.request.Request.the-variants as request
+use Rattle.fields.specs.declared.request.Field.{Field}
+use Rattle.fields.specs.declared.request.Field.the-variants as field
 
 unfoldable pub dgiAt : List ℕ → ℕ → ℕ → Dgi
 dgiAt s at end =
@@ -28,23 +29,23 @@ onDgi dgi.Wrong w f = w
 onDgi (dgi.Found number start) w f = f number start
 
 -- one 4E of exactly 2 bytes
-unfoldable pub confirmationAt : List ℕ → ℕ → ℕ → StoreData
+unfoldable pub confirmationAt : List ℕ → ℕ → ℕ → Field
 confirmationAt s at end =
-    onFound (aloneAt s at end 0x4E 2 2) store.Wrong λ start stop.
-    store.Confirm (pairAt s start)
+    onFound (aloneAt s at end 0x4E 2 2) field.Wrong λ start stop.
+    field.Found (request.Confirm (pairAt s start))
 
 -- the command that a DGI names, on an AID
-unfoldable pub namedBy : ℕ → Part → StoreData
+unfoldable pub namedBy : ℕ → Part → Field
 namedBy number aid =
-    pick (isSame number 0x3A03) (store.Enable aid)
-    (pick (isSame number 0x3A04) (store.Disable aid)
-    (pick (isSame number 0x3A05) (store.SetFallBack aid)
-    store.Wrong))
+    pick (isSame number 0x3A03) (field.Found (request.Enable aid))
+    (pick (isSame number 0x3A04) (field.Found (request.Disable aid))
+    (pick (isSame number 0x3A05) (field.Found (request.SetFallBack aid))
+    field.Wrong))
 
-unfoldable pub storeDataAt : List ℕ → ℕ → ℕ → StoreData
+unfoldable pub storeDataAt : List ℕ → ℕ → ℕ → Field
 storeDataAt s at end =
-    onDgi (dgiAt s at end) store.Wrong λ number contents.
-    pick (listWrong s contents end) store.Wrong
+    onDgi (dgiAt s at end) field.Wrong λ number contents.
+    pick (listWrong s contents end) field.Wrong
     (pick (isSame number 0x3A08) (confirmationAt s contents end)
-    (onFound (aloneAt s contents end 0x4F 5 16) store.Wrong λ start stop.
+    (onFound (aloneAt s contents end 0x4F 5 16) field.Wrong λ start stop.
     namedBy number (between start stop)))

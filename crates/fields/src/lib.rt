@@ -2,10 +2,14 @@
 // one that does not lie in it is wrong. A data field is first read as a list of elements, then in the table's order; an AID is handed on
 // as its place in the command.
 
+mod request;
+
 use byte_string::Part;
 use byte_string::read_pair;
 use reader::last_element;
 use reader::next_element;
+pub use request::Field;
+pub use request::Request;
 use tlv::Element;
 use tlv::TagRead;
 use tlv::list_wrong;
@@ -49,14 +53,6 @@ fn read_dgi(s: &[u8], at: usize, end: usize) -> Dgi
     Dgi::Found { dgi, start }
 }
 
-pub enum StoreData {
-    Enable(Part),
-    Disable(Part),
-    SetFallBack(Part),
-    Confirm(u16),
-    Wrong,
-}
-
 const ENABLE: u16 = 0x3A03;
 
 const DISABLE: u16 = 0x3A04;
@@ -65,17 +61,17 @@ const SET_FALL_BACK: u16 = 0x3A05;
 
 const CONFIRMATION: u16 = 0x3A08;
 
-fn read_confirmation(s: &[u8], at: usize, end: usize) -> StoreData
+fn read_confirmation(s: &[u8], at: usize, end: usize) -> Field
     ensures { λ r. ⌜ r ≡ confirmationAt (now (s .entry)) at end ⌝ }
 {
     let Element::Found { start, stop: _ } = last_element(s, at, end, 0x4E, 2, 2) else {
-        return StoreData::Wrong;
+        return Field::Wrong;
     };
     let number = read_pair(s, start);
-    StoreData::Confirm(number)
+    Field::Found(Request::Confirm(number))
 }
 
-pub fn read_store_data(s: &[u8], at: usize, end: usize) -> StoreData
+pub fn read_store_data(s: &[u8], at: usize, end: usize) -> Field
     ensures { λ r. ⌜ r ≡ storeDataAt (now (s .entry)) at end ⌝ }
 {
     let Dgi::Found {
@@ -83,29 +79,29 @@ pub fn read_store_data(s: &[u8], at: usize, end: usize) -> StoreData
         start: contents,
     } = read_dgi(s, at, end)
     else {
-        return StoreData::Wrong;
+        return Field::Wrong;
     };
     if list_wrong(s, contents, end) {
-        return StoreData::Wrong;
+        return Field::Wrong;
     }
     if dgi == CONFIRMATION {
         return read_confirmation(s, contents, end);
     }
     let Element::Found { start, stop } = last_element(s, contents, end, 0x4F, 5, 16) else {
-        return StoreData::Wrong;
+        return Field::Wrong;
     };
     let len = stop - start;
     let aid = Part { start, len };
     if dgi == ENABLE {
-        return StoreData::Enable(aid);
+        return Field::Found(Request::Enable(aid));
     }
     if dgi == DISABLE {
-        return StoreData::Disable(aid);
+        return Field::Found(Request::Disable(aid));
     }
     if dgi == SET_FALL_BACK {
-        return StoreData::SetFallBack(aid);
+        return Field::Found(Request::SetFallBack(aid));
     }
-    StoreData::Wrong
+    Field::Wrong
 }
 
 pub enum Verification {
@@ -144,41 +140,35 @@ fn read_verification(s: &[u8], at: usize, end: usize) -> Verification
     Verification::Filled
 }
 
-pub enum Deletion {
-    Delete(Part),
-    MasterDelete(Part),
-    Wrong,
-}
-
 // Delete has the AID alone; a master delete goes on with B6 and the token.
-pub fn read_deletion(s: &[u8], at: usize, end: usize) -> Deletion
+pub fn read_deletion(s: &[u8], at: usize, end: usize) -> Field
     ensures { λ r. ⌜ r ≡ deletionAt (now (s .entry)) at end ⌝ }
 {
     if list_wrong(s, at, end) {
-        return Deletion::Wrong;
+        return Field::Wrong;
     }
     let Element::Found { start, stop } = next_element(s, at, end, 0x4F, 5, 16) else {
-        return Deletion::Wrong;
+        return Field::Wrong;
     };
     let len = stop - start;
     let aid = Part { start, len };
     if stop == end {
-        return Deletion::Delete(aid);
+        return Field::Found(Request::Delete(aid));
     }
     let Element::Found {
         start: from,
         stop: to,
     } = next_element(s, stop, end, 0xB6, 0, 255)
     else {
-        return Deletion::Wrong;
+        return Field::Wrong;
     };
     let Verification::Filled = read_verification(s, from, to) else {
-        return Deletion::Wrong;
+        return Field::Wrong;
     };
     let Element::Found { start: _, stop: _ } = last_element(s, to, end, 0x9E, 1, 255) else {
-        return Deletion::Wrong;
+        return Field::Wrong;
     };
-    Deletion::MasterDelete(aid)
+    Field::Found(Request::MasterDelete(aid))
 }
 
 // Which of the two optional tags a row of the answer shows.
@@ -253,42 +243,29 @@ fn read_tags(s: &[u8], at: usize, end: usize) -> Tags
     read_listed(s, start, stop)
 }
 
-pub enum Listing {
-    All {
-        life: bool,
-        fall_back: bool,
-    },
-    One {
-        aid: Part,
-        life: bool,
-        fall_back: bool,
-    },
-    Wrong,
-}
-
-pub fn read_listing(s: &[u8], at: usize, end: usize) -> Listing
+pub fn read_listing(s: &[u8], at: usize, end: usize) -> Field
     ensures { λ r. ⌜ r ≡ listingAt (now (s .entry)) at end ⌝ }
 {
     if list_wrong(s, at, end) {
-        return Listing::Wrong;
+        return Field::Wrong;
     }
     let Element::Found { start, stop } = next_element(s, at, end, 0x4F, 0, 16) else {
-        return Listing::Wrong;
+        return Field::Wrong;
     };
     let Tags::Shown { life, fall_back } = read_tags(s, stop, end) else {
-        return Listing::Wrong;
+        return Field::Wrong;
     };
     let len = stop - start;
     if len == 0 {
-        return Listing::All { life, fall_back };
+        return Field::Found(Request::GetStatusOfAll { life, fall_back });
     }
     if len < 5 {
-        return Listing::Wrong;
+        return Field::Wrong;
     }
     let aid = Part { start, len };
-    Listing::One {
+    Field::Found(Request::GetStatusOfOne {
         aid,
         life,
         fall_back,
-    }
+    })
 }

@@ -18,7 +18,6 @@ use Rattle.tlv.proofs.ReadBack.{length-back, element-back}
 use Rattle.reader.proofs.Alone.{alone-back}
 use Rattle.install.specs.declared.Protocols.the-variants as protocols
 use Rattle.install.specs.declared.Quota.the-variants as quota
-use Rattle.install.specs.declared.Installation.the-variants as installation
 use Rattle.install.specs.Parameters.{protocolsWithin, protocolsAt, numberAt, grantOf, memoryAt, parametersAt}
 use Rattle.install.specs.Install.{prefixedOf, prefixedAt, namesAt, rightsAt, installOf}
 use Rattle.install.specs.Grammar.{Free, encodePrefixed, encodeProtocols, encodeParameters, encodeNames, encodeRights, encodeInstall, highFirst, Sized, OrTwoMore, AllPairs, LegalParameters, InstallBack}

@@ -2,6 +2,8 @@
 // Every function reads a window of the whole command, from `at` up to `end`; one that does not lie in it is wrong.
 use byte_string::Part;
 use byte_string::read_pair;
+use fields::Field;
+use fields::Request;
 use reader::last_element;
 use reader::next_element;
 use tlv::Element;
@@ -178,28 +180,23 @@ fn read_rights(s: &[u8], at: usize, end: usize) -> Element
     }
 }
 
-pub enum Installation {
-    Create { aid: Part, quota: u32 },
-    Wrong,
-}
-
-pub fn read_install(s: &[u8], at: usize, end: usize, capacity: u32) -> Installation
+pub fn read_install(s: &[u8], at: usize, end: usize, capacity: u32) -> Field
     ensures { λ r. ⌜ r ≡ installOf (now (s .entry)) at end capacity ⌝ }
 {
     let Element::Found { start, stop } = read_names(s, at, end) else {
-        return Installation::Wrong;
+        return Field::Wrong;
     };
     let Element::Found {
         start: from,
         stop: to,
     } = read_rights(s, stop, end)
     else {
-        return Installation::Wrong;
+        return Field::Wrong;
     };
     let Quota::Granted(quota) = read_parameters(s, from, to, capacity) else {
-        return Installation::Wrong;
+        return Field::Wrong;
     };
     let len = stop - start;
     let aid = Part { start, len };
-    Installation::Create { aid, quota }
+    Field::Found(Request::Create { aid, quota })
 }
