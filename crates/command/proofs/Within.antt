@@ -1,7 +1,7 @@
 -- An accepted request's AID lies in the command and has 5 to 16 bytes, and a quota is 1 up to the capacity. Each reader's definition is
 -- followed to the branches that hand something on, where the laws of what was read give the bounds.
 use Prim.Native.Nat.{ℕ, _-_, _≤_}
-use mathlib.Core.Path.{_≡_, sym, subst}
+use mathlib.Core.Path.{sym, subst}
 use mathlib.Core.List.{List}
 use native.Mathlib.Omega.{arith}
 use Rattle.byte_string.specs.Bytes.{between}

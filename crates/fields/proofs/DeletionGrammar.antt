@@ -21,7 +21,6 @@ use Rattle.tlv.specs.Grammar.{one, two}
 use Rattle.tlv.proofs.ReadBack.{element-back}
 use Rattle.fields.specs.declared.Verification.{Verification}
 use Rattle.fields.specs.declared.Verification.the-variants as verification
-use Rattle.fields.specs.declared.request.Request.{Request}
 use Rattle.fields.specs.declared.request.Request.the-variants as request
 use Rattle.fields.specs.declared.request.Field.{Field}
 use Rattle.fields.specs.declared.request.Field.the-variants as field

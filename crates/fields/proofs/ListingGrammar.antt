@@ -20,7 +20,6 @@ use Rattle.tlv.proofs.ReadBack.{element-back}
 use Rattle.tlv.specs.Grammar as legal
 use Rattle.fields.specs.declared.Tags.{Tags}
 use Rattle.fields.specs.declared.Tags.the-variants as tags
-use Rattle.fields.specs.declared.request.Request.{Request}
 use Rattle.fields.specs.declared.request.Request.the-variants as request
 use Rattle.fields.specs.declared.request.Field.{Field}
 use Rattle.fields.specs.declared.request.Field.the-variants as field

@@ -1,25 +1,19 @@
 -- The parts that the grammar's proofs share, both ways: a DGI, and an AID in its place.
 use Prim.Native.Nat.{ℕ, _+_, _-_, _/_, _%_, _≤_, _<_}
 use mathlib.Core.Path.{_≡_, sym, ap, _∙_}
-use mathlib.Core.List.{List, [], _∷_, append-nil}
+use mathlib.Core.List.{List, _∷_}
 use native.Mathlib.Omega.{arith}
 use lib.ListN.{length}
 use Rattle.byte_string.specs.Bytes.{byte, pairAt}
-use Rattle.tlv.specs.Tlv.{headAt}
 use Rattle.tlv.specs.declared.HeadRead.the-variants as head
 use Rattle.tlv.specs.declared.Element.the-variants as element
-use Rattle.tlv.specs.Encoding.{window, Bytes, encodeElement}
+use Rattle.tlv.specs.Encoding.{window, Bytes}
 use Rattle.choice.proofs.Branches.{each-lt, each-eq, nlt!, eq! }
 use Rattle.tlv.proofs.Windows.{window-first, window-length, window-starts}
-use Rattle.tlv.proofs.Written.{element-written}
-use Rattle.tlv.specs.Grammar.{LegalTag, marksList}
-use Rattle.tlv.proofs.ReadBack.{element-back}
 use Rattle.fields.specs.declared.Dgi.{Dgi}
 use Rattle.fields.specs.declared.Dgi.the-variants as dgi
-use Rattle.reader.specs.Reader.{aloneAt}
 use Rattle.fields.specs.StoreData.{dgiAt}
 use Rattle.fields.specs.Grammar.{Named, encodeDgi}
-use Rattle.reader.proofs.Alone.{alone-parts}
 
 -- ---- a DGI
 

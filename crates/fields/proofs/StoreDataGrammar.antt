@@ -18,7 +18,6 @@ use Rattle.tlv.proofs.Fills.{right-filled, filled-right, first-level}
 use Rattle.tlv.proofs.Written.{window-two}
 use Rattle.tlv.specs.Grammar.{one}
 use Rattle.fields.specs.declared.Dgi.the-variants as dgi
-use Rattle.fields.specs.declared.request.Request.{Request}
 use Rattle.fields.specs.declared.request.Request.the-variants as request
 use Rattle.fields.specs.declared.request.Field.{Field}
 use Rattle.fields.specs.declared.request.Field.the-variants as field

@@ -1,6 +1,6 @@
 -- Document 01, 'Reading a command': "a DGI is two bytes and one length byte up to FE, and fills the data field"; set fall-back, enable,
 -- disable and confirmation with their DGIs and tags (000, Tables 13, 16, 36 and 62).
-use Prim.Native.Nat.{ℕ, _+_, _-_}
+use Prim.Native.Nat.{ℕ, _+_}
 use mathlib.Core.List.{List}
 use lib.ListN.{length}
 use Rattle.choice.specs.Choice.{pick, isBelow, isSame}

@@ -1,6 +1,6 @@
 -- Create's data field: whatever is accepted is the encoding of what was read. Each reader's definition is followed to the branch that reads
 -- something; there the window is cut where its parts were found, and each part is the bytes of its encoding.
-use Prim.Native.Nat.{ℕ, zero, suc, _+_, _-_, _≤_}
+use Prim.Native.Nat.{ℕ, zero, suc, _-_, _≤_}
 use mathlib.Core.Path.{_≡_, refl, sym, ap, subst, _∙_}
 use mathlib.Core.List.{List, [], _∷_, _++_}
 use mathlib.Core.Option.{none, some}

@@ -1,9 +1,7 @@
 -- Document 01, 'Reading a command', 'Create': the install parameters. Which tags must or may stand is Table 10 of 000:
 -- C9 with 81 of two bytes, n times; then EF with one 83 of 2 or 4 bytes, which must be present.
-use Prim.Native.Nat.{ℕ, zero, suc, _+_, _-_, _*_, _≤_}
-use mathlib.Core.Path.{_≡_}
+use Prim.Native.Nat.{ℕ, zero, suc, _+_, _-_, _*_}
 use mathlib.Core.List.{List}
-use lib.ListN.{length}
 use Rattle.choice.specs.Choice.{pick, atMost, isBelow, isSame}
 use Rattle.byte_string.specs.Bytes.{pairAt}
 use Rattle.tlv.specs.Tlv.{expectAt, onFound}

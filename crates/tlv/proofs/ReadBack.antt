@@ -12,7 +12,7 @@ use Rattle.tlv.specs.declared.HeadRead.the-variants as head
 use Rattle.byte_string.specs.Bytes.{byte}
 use Rattle.tlv.specs.Tlv.{isConstructed, tagAt, lengthAt, headAt, afterTag, afterLength, expectAt, expectOf}
 use Rattle.tlv.specs.Encoding.{window, encodeNumber, encodeTag, encodeLength, encodeElement}
-use Rattle.tlv.specs.Grammar.{LegalTag, one, two, marksList, ElementBack, ElementReadBack}
+use Rattle.tlv.specs.Grammar.{LegalTag, one, two, marksList, ElementReadBack}
 use Rattle.choice.proofs.Branches.{each-lt, le!, nle!, lt!, nlt!, eq!, ne! }
 use Rattle.tlv.proofs.Windows.{window-starts, window-begins}
 

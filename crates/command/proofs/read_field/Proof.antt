@@ -1,3 +1,4 @@
+-- `read_field` meets its contract: by the instruction.
 use Rattle.command.specs.Requests.{fieldOf}
 use Rattle.choice.proofs.Branches.{eq!, ne! }
 use native.Mathlib.Omega.{arith}

@@ -1,3 +1,4 @@
+-- `read_confirmation` meets its contract: by whether 4E stands alone.
 use Rattle.fields.specs.StoreData.{confirmationAt}
 use mathlib.Core.Path.{refl}
 use borrow.Author.Needs.{needs}

@@ -1,3 +1,4 @@
+-- `read_deletion` meets its contract: a list, 4F, and where more follows B6, what it holds, and 9E.
 use Rattle.tlv.proofs.Inside.{expect-inside}
 use Rattle.fields.specs.Delete.{deletionAt}
 use Rattle.choice.proofs.Branches.{yes!, no!, eq!, ne! }

@@ -1,3 +1,4 @@
+-- `read_listing` meets its contract: a list, 4F, the tags after it, and the AID's length.
 use Rattle.tlv.proofs.Inside.{expect-inside}
 use Rattle.fields.specs.GetStatus.{listingAt}
 use Rattle.choice.proofs.Branches.{yes!, no!, lt!, nlt!, eq!, ne! }

@@ -1,3 +1,4 @@
+-- `read_store_data` meets its contract: a DGI, its contents a list, then the element that its number asks for.
 use Rattle.reader.proofs.Alone.{alone-expected}
 use Rattle.fields.specs.StoreData.{namedBy, storeDataAt}
 use Rattle.choice.proofs.Branches.{yes!, no!, eq!, ne! }

@@ -1,3 +1,4 @@
+-- `read_tags` meets its contract: nothing, or 5C alone.
 use Rattle.fields.specs.GetStatus.{tagsAt}
 use Rattle.choice.proofs.Branches.{eq!, ne! }
 use mathlib.Core.Path.{refl}

@@ -1,3 +1,4 @@
+-- `read_verification` meets its contract: element by element.
 use Rattle.fields.specs.Delete.{verificationAt}
 use mathlib.Core.Path.{refl}
 use borrow.Author.Needs.{needs}

@@ -1,3 +1,4 @@
+-- `read_memory` meets its contract: by whether 83 stands alone, and its number of bytes.
 use Rattle.reader.proofs.Alone.{alone-expected}
 use Rattle.install.specs.Parameters.{memoryAt}
 use native.Mathlib.Omega.{arith}

@@ -1,3 +1,4 @@
+-- `read_parameters` meets its contract: a list, C9 and what it holds, then EF alone.
 use Rattle.install.specs.Parameters.{parametersAt}
 use mathlib.Core.Path.{refl, sym, _∙_}
 use Rattle.choice.proofs.Branches.{yes!, no! }

@@ -1,3 +1,4 @@
+-- `read_protocols` meets its contract. The loop keeps: what is left gives what the whole window gives.
 use Rattle.install.proofs.Listing.{Left, left-start, left-end, left-wrong, left-next}
 use Rattle.install.specs.Parameters.{protocolsAt}
 use Rattle.tlv.proofs.Inside.{expect-inside}
