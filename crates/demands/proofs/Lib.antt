@@ -5,7 +5,6 @@ pub mod Demand2
 pub mod Ticks
 pub mod OpeningAnswers
 pub mod Written
-pub mod CreateWritten
 pub mod Confirmation
 pub mod Create
 pub mod Unique

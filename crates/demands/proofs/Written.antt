@@ -1,7 +1,7 @@
 -- A written command is read back, so that the rows of reading pass and what is asked is what was written; an accepted command passed those
 -- rows, so that it was read, and what is read was so written. Assumes nothing.
 use mathlib.Core.Path.{_≡_, refl, sym, ap, _∙_}
-use Prim.Native.Nat.{ℕ, zero, suc, _+_, _-_, _≤_}
+use Prim.Native.Nat.{ℕ, zero, suc, _+_, _≤_}
 use native.Mathlib.Omega.{arith}
 use mathlib.Core.List.{List, [], _∷_}
 use mathlib.Core.Option.{some}
@@ -14,14 +14,15 @@ use Rattle.status.specs.declared.Status.{Status}
 use Rattle.status.specs.declared.Status.the-variants.{Unsound, LengthWrong, ClassWrong, InstructionWrong, ParametersWrong, DataWrong}
 use Rattle.status.proofs.Tables.{passed}
 use Rattle.card.specs.Sound.{sound}
-use Rattle.card.specs.Answers.{outcome, soundRow, settle, accepted}
+use Rattle.card.specs.Answers.{Outcome, outcome, soundRow, settle, accepted, refused}
 use Rattle.card.specs.declared.Card.{Card}
+use Rattle.card.proofs.Outcomes.{decided}
 use Rattle.tlv.specs.Encoding.{window, Bytes}
 use Rattle.tlv.specs.declared.Part.{Part}
 use Rattle.tlv.proofs.Windows.{window-length}
 use Rattle.fields.specs.Grammar.{partBytes}
 use Rattle.command.specs.Grammar.{Wanted, Encodes, wantedOf, readAs}
-use Rattle.command.specs.Reading.{readingRows, readOf}
+use Rattle.command.specs.Reading.{readOf}
 use Rattle.command.specs.Framing.{lengthWrong, classWrong, instructionWrong, parametersWrong, shapeWrong}
 use Rattle.command.specs.Requests.{dataWrong}
 use Rattle.command.specs.Places.{Placed, RequestIn}
@@ -36,7 +37,7 @@ use Rattle.command.proofs.Written.{command-written}
 use Rattle.steps.specs.Asked.{Asked, Asked.on, Act.status}
 use Rattle.steps.specs.Conditions.{cardRows}
 use Rattle.steps.specs.Steps.{stepOf, responseOf, askedWork}
-use Rattle.manager.specs.Calls.{Call, Call.Command, partOf, requestAsks, asked}
+use Rattle.manager.specs.Calls.{Call.Command, partOf, requestAsks, asked}
 use Rattle.manager.specs.Table.{leastBuffer, rowsAfter, table}
 use Rattle.manager.specs.Manager.{step}
 use Rattle.manager.proofs.Readings.{not-read, asks-read, word-read}
@@ -87,6 +88,11 @@ after-sound : (c : Card) (rows more : List Row) → wordOf rows ≡ wordOf more 
 unfolding wordOf
 after-sound c rows more e = ap (cond (not (sound c)) Unsound) e
 
+-- the row 6F 00 is passed
+pub past-sound : (c : Card) (rows : List Row) → sound c ≡ true → wordOf (soundRow c ∷ rows) ≡ wordOf rows
+unfolding wordOf
+past-sound c rows e = rw e
+
 pub written-answered : statement.WrittenAnswered
 unfolding step
 written-answered c verdict s room w h encoded =
@@ -98,6 +104,20 @@ written-answered c verdict s room w h encoded =
     let word = after-sound c (rowsAfter c (Command verdict s room)) (cardRows c (asked c (Command verdict s room))) (word-read c verdict s room h (r .0) (r .1 .0)) in
     ap (λ (x : Status). settle c x (accepted (stepOf c (asked c (Command verdict s room))) (responseOf c (asked c (Command verdict s room))))) word
     ∙ ap (λ (x : Asked). outcome c (askedWork c x)) a
+
+-- on a sound card its word is that of the card's rows, and where none of them refuses it takes its step
+module _ (c : Card) (verdict : ℕ) (s : List ℕ) (room : ℕ) (w : Wanted) (e : sound c ≡ true) (h : leastBuffer ≤ room) (encoded : Encodes (c .capacity) w s) where
+  abbrev asks : Asked
+  asks = wantedAsks verdict w
+
+  pub written-word : step c (Command verdict s room) .status ≡ wordOf (cardRows c asks)
+  written-word =
+      ap (λ (o : Outcome). o .status) (written-answered c verdict s room w h encoded)
+      ∙ decided c (wordOf (soundRow c ∷ cardRows c asks)) (stepOf c asks) (responseOf c asks)
+      ∙ past-sound c (cardRows c asks) e
+
+  pub written-taken : isDone (wordOf (cardRows c asks)) ≡ true → step c (Command verdict s room) ≡ accepted (stepOf c asks) (responseOf c asks)
+  written-taken d = written-answered c verdict s room w h encoded ∙ ap (λ (b : Bool). cond b (accepted (stepOf c asks) (responseOf c asks)) (refused c (wordOf (soundRow c ∷ cardRows c asks)))) (ap isDone (past-sound c (cardRows c asks) e) ∙ d)
 
 -- one that was read was written
 read-written : (s : List ℕ) (capacity : ℕ) (r : Request) → Bytes s → reading.Read r ≡ readOf s capacity → Encodes capacity (wantedOf s r) s
@@ -128,10 +148,6 @@ reading-word false false false true e f h = refl
 reading-word false false false false true f h = refl
 reading-word false false false false false true h = refl
 reading-word false false false false false false h = absurd (false≢true (sym h))
-
-past-sound : (c : Card) (rows : List Row) → sound c ≡ true → wordOf (soundRow c ∷ rows) ≡ wordOf rows
-unfolding wordOf
-past-sound c rows e = rw e
 
 module _ (c : Card) (verdict : ℕ) (s : List ℕ) (room : ℕ) (b : Bytes s) (e : sound c ≡ true) (h : leastBuffer ≤ room) (none : (w : Wanted) → Encodes (c .capacity) w s → ⊥) where
   refused-case : (x : Reading) → x ≡ readOf s (c .capacity) → ofReading (step c (Command verdict s room) .status) ≡ true
