@@ -32,7 +32,7 @@ unfolding reached
 reached-more [] call calls c = reached-run calls (step c call .card)
 reached-more (x ∷ past) call calls c = reached-more past call calls (step c x .card)
 
-reached-sound : (x : Inputs) → isDone (freshOf x .status) ≡ true → (past : List Call) → sound (cardAfter manager x past) ≡ true
+pub reached-sound : (x : Inputs) → isDone (freshOf x .status) ≡ true → (past : List Call) → sound (cardAfter manager x past) ≡ true
 reached-sound x a past =
     rw (reached-run past (freshOf x .card))
     (run-sound (freshOf x .card) past (fresh-sound (x .eid) (x .aid) (x .capacity) (x .quota) (x .used) (x .volatile) a))

@@ -193,7 +193,7 @@ fresh-tally : (x : Inputs) → aidOk (x .aid) ≡ true → Tally (first x) (card
 unfolding sumMade sumHeld
 fresh-tally x ok w = rw (made-weight (x .aid) enabled (x .quota) (x .used) ok w)
 
-fresh-is : (x : Inputs) → isDone (freshOf x .status) ≡ true → (aidOk (x .aid) ≡ true) × (freshOf x .card ≡ cardOf x)
+pub fresh-is : (x : Inputs) → isDone (freshOf x .status) ≡ true → (aidOk (x .aid) ≡ true) × (freshOf x .card ≡ cardOf x)
 unfolding freshOutcome
 fresh-is x h =
     let rows = row (not (freshOk (x .eid) (x .aid) (x .capacity) (x .quota) (x .used))) DataWrong ∷ [] in

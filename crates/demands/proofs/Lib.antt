@@ -27,3 +27,5 @@ pub mod Blind
 pub mod Influence
 pub mod Free
 pub mod InfluenceMet
+pub mod Notified
+pub mod SilentEngines

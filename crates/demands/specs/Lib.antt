@@ -20,3 +20,5 @@ pub mod SampleRun
 pub mod Influence
 pub mod Others
 pub mod Free
+pub mod Notified
+pub mod SilentEngines
