@@ -1,11 +1,13 @@
 -- Document 01, 'Marked examples': the twelve as a single table, each row run by the manager's definitions from command bytes on.
--- "Fresh card F = A0 00 00 00 01, others A0 00 00 00 02 and so on." Examples 7, 8, 10 have a row for each call that issues a number.
-use Prim.Native.Nat.{ℕ, zero, suc, _/_, _%_}
+-- "Fresh card F = A0 00 00 00 01, others A0 00 00 00 02 and so on." Examples 7, 8, 10 have a row for each call that issues a number,
+-- example 6 one for its delete.
+use Prim.Native.Nat.{ℕ, zero, suc, _+_, _-_, _/_, _%_}
 use mathlib.Core.Path.{_≡_}
 use mathlib.Core.List.{List, [], _∷_, _++_}
 use mathlib.Core.Bool.{Bool, true, false, cond}
 use lib.ListN.{replicate}
 use Rattle.status.specs.StatusWords.{numberOf}
+use Rattle.isdp.specs.Sizes.{mostPlaces}
 use Rattle.isdp.specs.Aids.{padded}
 use Rattle.isdp.specs.LifeCycle.{disabled, enabled}
 use Rattle.isdp.specs.Place.{vacant, made}
@@ -85,7 +87,7 @@ cardOfTwo first second last =
       last = last;
       fallback = 0;
       phase = Quiet;
-      places = made (aid 1) first 100 10 ∷ made (aid 2) second 50 5 ∷ replicate 6 vacant;
+      places = made (aid 1) first 100 10 ∷ made (aid 2) second 50 5 ∷ replicate (mostPlaces - 2) vacant;
     }
 
 -- the outstanding number, where there is one
@@ -101,7 +103,8 @@ notice kind number n =
     record { kind = kind; number = number; eid = replicate 16 0x89; aid = record { bytes = padded (aid n); len = 5 } }
 
 -- from this card, after these calls, this one is answered so; then this profile is enabled, this one is the fall-back, this number is
--- outstanding and this many numbers are used; where `whole`, the card is looked at in all its fields, and is the one before the call
+-- outstanding and this is the last number issued (from 0 on, how many were used); where `whole`, the card is looked at in all its fields,
+-- and is the one before the call: so in every row that is refused
 pub record Example : Type 0 where
   pub number : ℕ
   pub start : Card
@@ -114,33 +117,34 @@ pub record Example : Type 0 where
   pub enabled : ℕ
   pub fallback : ℕ
   pub outstanding : List ℕ
-  pub used : ℕ
+  pub last : ℕ
   pub whole : Bool
 
 abbrev pub examples : List Example
 examples =
-    record { number = 1; start = fresh; before = []; call = getStatus; word = 0x9000; response = 0xE3 ∷ 0x0E ∷ 0x4F ∷ 0x05 ∷ 0xA0 ∷ 0x00 ∷ 0x00 ∷ 0x00 ∷ 0x01 ∷ 0x9F ∷ 0x70 ∷ 0x01 ∷ 0x3F ∷ 0x53 ∷ 0x01 ∷ 0x01 ∷ []; notification = silent; ticks = 0; enabled = 1; fallback = 1; outstanding = []; used = 0; whole = true }
-    ∷ record { number = 2; start = fresh; before = load 2 0; call = setFallBack 2; word = 0x9000; response = []; notification = silent; ticks = 0; enabled = 1; fallback = 2; outstanding = []; used = 0; whole = false }
-    ∷ record { number = 2; start = fresh; before = []; call = setFallBack 2; word = 0x6A88; response = []; notification = silent; ticks = 0; enabled = 1; fallback = 1; outstanding = []; used = 0; whole = true }
-    ∷ record { number = 3; start = fresh; before = load 2 0; call = command (0x80 ∷ 0xE2 ∷ 0x87 ∷ 0x00 ∷ 0x0A ∷ 0x3A ∷ 0x05 ∷ 0x07 ∷ 0x4F ∷ 0x05 ∷ aid 2); word = 0x6A86; response = []; notification = silent; ticks = 0; enabled = 1; fallback = 1; outstanding = []; used = 0; whole = false }
-    ∷ record { number = 3; start = fresh; before = load 2 0; call = command (0x80 ∷ 0xE2 ∷ 0x88 ∷ 0x00 ∷ 0x09 ∷ 0x3A ∷ 0x05 ∷ 0x07 ∷ 0x4F ∷ 0x05 ∷ aid 2); word = 0x6700; response = []; notification = silent; ticks = 0; enabled = 1; fallback = 1; outstanding = []; used = 0; whole = false }
-    ∷ record { number = 4; start = fresh; before = load 2 0; call = command (0x80 ∷ 0xE2 ∷ 0x88 ∷ 0x00 ∷ 0x09 ∷ 0x3A ∷ 0x05 ∷ 0x06 ∷ 0x4F ∷ 0x04 ∷ 0xA0 ∷ 0x00 ∷ 0x00 ∷ 0x00 ∷ []); word = 0x6A80; response = []; notification = silent; ticks = 0; enabled = 1; fallback = 1; outstanding = []; used = 0; whole = false }
-    ∷ record { number = 5; start = fresh; before = []; call = create 2 900; word = 0x9000; response = 0x00 ∷ []; notification = silent; ticks = 0; enabled = 1; fallback = 1; outstanding = []; used = 0; whole = false }
-    ∷ record { number = 5; start = fresh; before = []; call = create 2 901; word = 0x6A84; response = []; notification = silent; ticks = 0; enabled = 1; fallback = 1; outstanding = []; used = 0; whole = true }
-    ∷ record { number = 6; start = fresh; before = load 2 0 ++ creates 3 5; call = create 8 1; word = 0x9000; response = 0x00 ∷ []; notification = silent; ticks = 0; enabled = 1; fallback = 1; outstanding = []; used = 0; whole = false }
-    ∷ record { number = 6; start = fresh; before = load 2 0 ++ creates 3 6; call = create 9 1; word = 0x6A84; response = []; notification = silent; ticks = 0; enabled = 1; fallback = 1; outstanding = []; used = 0; whole = false }
-    ∷ record { number = 6; start = fresh; before = load 2 0 ++ creates 3 6 ++ delete 2 ∷ []; call = create 9 1; word = 0x9000; response = 0x00 ∷ []; notification = silent; ticks = 0; enabled = 1; fallback = 1; outstanding = []; used = 0; whole = false }
-    ∷ record { number = 7; start = fresh; before = load 2 0; call = enable 2; word = 0x9000; response = []; notification = notice Changed 1 2; ticks = 20; enabled = 2; fallback = 1; outstanding = 1 ∷ []; used = 1; whole = false }
-    ∷ record { number = 7; start = fresh; before = load 2 0 ++ enable 2 ∷ ticks 9; call = confirm 1; word = 0x9000; response = []; notification = silent; ticks = 0; enabled = 2; fallback = 1; outstanding = []; used = 1; whole = false }
-    ∷ record { number = 8; start = fresh; before = load 2 0 ++ enable 2 ∷ ticks 9; call = Tick; word = 0x9000; response = []; notification = notice RolledBack 2 1; ticks = 10; enabled = 1; fallback = 1; outstanding = 2 ∷ []; used = 2; whole = false }
-    ∷ record { number = 8; start = fresh; before = load 2 0 ++ enable 2 ∷ ticks 10; call = confirm 1; word = 0x6A88; response = []; notification = silent; ticks = 10; enabled = 1; fallback = 1; outstanding = 2 ∷ []; used = 2; whole = false }
-    ∷ record { number = 9; start = fresh; before = load 2 0 ++ enable 2 ∷ ticks 19; call = Tick; word = 0x9000; response = []; notification = silent; ticks = 0; enabled = 1; fallback = 1; outstanding = []; used = 2; whole = false }
-    ∷ record { number = 10; start = cardOfTwo disabled enabled 0; before = []; call = disable 2; word = 0x9000; response = []; notification = notice Changed 1 1; ticks = 30; enabled = 1; fallback = 1; outstanding = 1 ∷ []; used = 1; whole = false }
-    ∷ record { number = 10; start = cardOfTwo disabled enabled 0; before = disable 2 ∷ ticks 9; call = Tick; word = 0x9000; response = []; notification = notice RolledBack 2 2; ticks = 20; enabled = 2; fallback = 1; outstanding = 2 ∷ []; used = 2; whole = false }
-    ∷ record { number = 10; start = cardOfTwo disabled enabled 0; before = disable 2 ∷ ticks 19; call = Tick; word = 0x9000; response = []; notification = notice FallenBack 3 1; ticks = 10; enabled = 1; fallback = 1; outstanding = 3 ∷ []; used = 3; whole = false }
-    ∷ record { number = 10; start = cardOfTwo disabled enabled 0; before = disable 2 ∷ ticks 29; call = Tick; word = 0x9000; response = []; notification = silent; ticks = 0; enabled = 1; fallback = 1; outstanding = []; used = 3; whole = false }
-    ∷ record { number = 11; start = cardOfTwo enabled disabled 65535; before = []; call = enable 2; word = 0x9000; response = []; notification = notice Changed 0 2; ticks = 20; enabled = 2; fallback = 1; outstanding = 0 ∷ []; used = 0; whole = false }
-    ∷ record { number = 12; start = fresh; before = []; call = Lost; word = 0x9000; response = []; notification = silent; ticks = 0; enabled = 1; fallback = 1; outstanding = []; used = 0; whole = true }
+    record { number = 1; start = fresh; before = []; call = getStatus; word = 0x9000; response = 0xE3 ∷ 0x0E ∷ 0x4F ∷ 0x05 ∷ 0xA0 ∷ 0x00 ∷ 0x00 ∷ 0x00 ∷ 0x01 ∷ 0x9F ∷ 0x70 ∷ 0x01 ∷ 0x3F ∷ 0x53 ∷ 0x01 ∷ 0x01 ∷ []; notification = silent; ticks = 0; enabled = 1; fallback = 1; outstanding = []; last = 0; whole = true }
+    ∷ record { number = 2; start = fresh; before = load 2 0; call = setFallBack 2; word = 0x9000; response = []; notification = silent; ticks = 0; enabled = 1; fallback = 2; outstanding = []; last = 0; whole = false }
+    ∷ record { number = 2; start = fresh; before = []; call = setFallBack 2; word = 0x6A88; response = []; notification = silent; ticks = 0; enabled = 1; fallback = 1; outstanding = []; last = 0; whole = true }
+    ∷ record { number = 3; start = fresh; before = load 2 0; call = command (0x80 ∷ 0xE2 ∷ 0x87 ∷ 0x00 ∷ 0x0A ∷ 0x3A ∷ 0x05 ∷ 0x07 ∷ 0x4F ∷ 0x05 ∷ aid 2); word = 0x6A86; response = []; notification = silent; ticks = 0; enabled = 1; fallback = 1; outstanding = []; last = 0; whole = true }
+    ∷ record { number = 3; start = fresh; before = load 2 0; call = command (0x80 ∷ 0xE2 ∷ 0x88 ∷ 0x00 ∷ 0x09 ∷ 0x3A ∷ 0x05 ∷ 0x07 ∷ 0x4F ∷ 0x05 ∷ aid 2); word = 0x6700; response = []; notification = silent; ticks = 0; enabled = 1; fallback = 1; outstanding = []; last = 0; whole = true }
+    ∷ record { number = 4; start = fresh; before = load 2 0; call = command (0x80 ∷ 0xE2 ∷ 0x88 ∷ 0x00 ∷ 0x09 ∷ 0x3A ∷ 0x05 ∷ 0x06 ∷ 0x4F ∷ 0x04 ∷ 0xA0 ∷ 0x00 ∷ 0x00 ∷ 0x00 ∷ []); word = 0x6A80; response = []; notification = silent; ticks = 0; enabled = 1; fallback = 1; outstanding = []; last = 0; whole = true }
+    ∷ record { number = 5; start = fresh; before = []; call = create 2 900; word = 0x9000; response = 0x00 ∷ []; notification = silent; ticks = 0; enabled = 1; fallback = 1; outstanding = []; last = 0; whole = false }
+    ∷ record { number = 5; start = fresh; before = []; call = create 2 901; word = 0x6A84; response = []; notification = silent; ticks = 0; enabled = 1; fallback = 1; outstanding = []; last = 0; whole = true }
+    ∷ record { number = 6; start = fresh; before = load 2 0 ++ creates 3 (mostPlaces - 3); call = create mostPlaces 1; word = 0x9000; response = 0x00 ∷ []; notification = silent; ticks = 0; enabled = 1; fallback = 1; outstanding = []; last = 0; whole = false }
+    ∷ record { number = 6; start = fresh; before = load 2 0 ++ creates 3 (mostPlaces - 2); call = create (mostPlaces + 1) 1; word = 0x6A84; response = []; notification = silent; ticks = 0; enabled = 1; fallback = 1; outstanding = []; last = 0; whole = true }
+    ∷ record { number = 6; start = fresh; before = load 2 0 ++ creates 3 (mostPlaces - 2); call = delete 2; word = 0x9000; response = 0x00 ∷ []; notification = silent; ticks = 0; enabled = 1; fallback = 1; outstanding = []; last = 0; whole = false }
+    ∷ record { number = 6; start = fresh; before = load 2 0 ++ creates 3 (mostPlaces - 2) ++ delete 2 ∷ []; call = create (mostPlaces + 1) 1; word = 0x9000; response = 0x00 ∷ []; notification = silent; ticks = 0; enabled = 1; fallback = 1; outstanding = []; last = 0; whole = false }
+    ∷ record { number = 7; start = fresh; before = load 2 0; call = enable 2; word = 0x9000; response = []; notification = notice Changed 1 2; ticks = 20; enabled = 2; fallback = 1; outstanding = 1 ∷ []; last = 1; whole = false }
+    ∷ record { number = 7; start = fresh; before = load 2 0 ++ enable 2 ∷ ticks 9; call = confirm 1; word = 0x9000; response = []; notification = silent; ticks = 0; enabled = 2; fallback = 1; outstanding = []; last = 1; whole = false }
+    ∷ record { number = 8; start = fresh; before = load 2 0 ++ enable 2 ∷ ticks 9; call = Tick; word = 0x9000; response = []; notification = notice RolledBack 2 1; ticks = 10; enabled = 1; fallback = 1; outstanding = 2 ∷ []; last = 2; whole = false }
+    ∷ record { number = 8; start = fresh; before = load 2 0 ++ enable 2 ∷ ticks 10; call = confirm 1; word = 0x6A88; response = []; notification = silent; ticks = 10; enabled = 1; fallback = 1; outstanding = 2 ∷ []; last = 2; whole = true }
+    ∷ record { number = 9; start = fresh; before = load 2 0 ++ enable 2 ∷ ticks 19; call = Tick; word = 0x9000; response = []; notification = silent; ticks = 0; enabled = 1; fallback = 1; outstanding = []; last = 2; whole = false }
+    ∷ record { number = 10; start = cardOfTwo disabled enabled 0; before = []; call = disable 2; word = 0x9000; response = []; notification = notice Changed 1 1; ticks = 30; enabled = 1; fallback = 1; outstanding = 1 ∷ []; last = 1; whole = false }
+    ∷ record { number = 10; start = cardOfTwo disabled enabled 0; before = disable 2 ∷ ticks 9; call = Tick; word = 0x9000; response = []; notification = notice RolledBack 2 2; ticks = 20; enabled = 2; fallback = 1; outstanding = 2 ∷ []; last = 2; whole = false }
+    ∷ record { number = 10; start = cardOfTwo disabled enabled 0; before = disable 2 ∷ ticks 19; call = Tick; word = 0x9000; response = []; notification = notice FallenBack 3 1; ticks = 10; enabled = 1; fallback = 1; outstanding = 3 ∷ []; last = 3; whole = false }
+    ∷ record { number = 10; start = cardOfTwo disabled enabled 0; before = disable 2 ∷ ticks 29; call = Tick; word = 0x9000; response = []; notification = silent; ticks = 0; enabled = 1; fallback = 1; outstanding = []; last = 3; whole = false }
+    ∷ record { number = 11; start = cardOfTwo enabled disabled 65535; before = []; call = enable 2; word = 0x9000; response = []; notification = notice Changed 0 2; ticks = 20; enabled = 2; fallback = 1; outstanding = 0 ∷ []; last = 0; whole = false }
+    ∷ record { number = 12; start = fresh; before = []; call = Lost; word = 0x9000; response = []; notification = silent; ticks = 0; enabled = 1; fallback = 1; outstanding = []; last = 0; whole = true }
     ∷ []
 
 -- what is seen of an answer, with the card itself where it is looked at whole
@@ -152,7 +156,7 @@ pub record Seen : Type 0 where
   pub enabled : List ℕ
   pub fallback : List ℕ
   pub outstanding : List ℕ
-  pub used : ℕ
+  pub last : ℕ
   pub whole : List Card
 
 -- the card before the example's call
@@ -169,7 +173,7 @@ seen e o =
       enabled = enabledAid (o .card);
       fallback = fallbackAid (o .card);
       outstanding = outstandingIn (o .card .phase);
-      used = o .card .last;
+      last = o .card .last;
       whole = cond (e .whole) (o .card ∷ []) [];
     }
 
@@ -183,7 +187,7 @@ expected e =
       enabled = aid (e .enabled);
       fallback = aid (e .fallback);
       outstanding = e .outstanding;
-      used = e .used;
+      last = e .last;
       whole = cond (e .whole) (cardBefore e ∷ []) [];
     }
 
