@@ -16,6 +16,7 @@ pub mod Named
 pub mod Openings
 pub mod Closes
 pub mod Examples
+pub mod StatusTable
 pub mod Witnesses
 pub mod Engines
 pub mod WrongEngines

@@ -12,6 +12,7 @@ pub mod Change
 pub mod Confirmation
 pub mod Inputs
 pub mod Examples
+pub mod StatusTable
 pub mod Witnesses
 pub mod Engines
 pub mod WrongEngines
