@@ -5,20 +5,40 @@ use Prim.Native.Nat.{ℕ}
 use mathlib.Core.Bool.{Bool, true, false, not, cond, false≢true}
 use Rattle.status.specs.StatusWords.{isDone}
 use Rattle.status.specs.Rows.{wordOf}
+use Rattle.status.proofs.Tables.{Passed}
 use Rattle.status.specs.declared.Status.the-variants.{StateWrong, NotHeld, Done}
-use Rattle.card.specs.Cards.{isQuiet}
+use Rattle.isdp.proofs.Bools.{and-l, and-r}
+use Rattle.places.proofs.Seeks.{enabled-at}
+use Rattle.card.specs.Cards.{isQuiet, enabledPlace}
+use Rattle.card.proofs.Sounds.{parts}
 use Rattle.card.specs.Clock.{outstanding}
 use Rattle.card.specs.declared.Card.{Card}
 use Rattle.card.specs.declared.Phase.{Phase}
 use Rattle.card.specs.declared.Phase.the-variants.{Quiet, Trial, Back, Fallen}
 use Rattle.fields.specs.Grammar.{confirmation}
 use Rattle.command.specs.Grammar.{storeData}
-use Rattle.steps.specs.Asked.{Asked.confirm}
+use Rattle.steps.specs.Asked.{Asked, Asked.unread, Asked.create, Asked.on, Asked.confirm, Asked.statusOfAll, Asked.getData, Asked.tick, Asked.lost}
 use Rattle.steps.specs.Conditions.{cardRows}
-use Rattle.manager.specs.Calls.{Call.Command}
-use Rattle.demands.specs.Confirmation.{ConfirmationTaken}
+use Rattle.manager.specs.Calls.{Call.Command, asked}
+use Rattle.manager.specs.Manager.{step}
+use Rattle.manager.proofs.Kept.{step-sound}
+use Rattle.demands.specs.Change.{isConfirmation}
+use Rattle.demands.specs.Confirmation.{ConfirmationTaken, ConfirmationCloses}
+use Rattle.demands.proofs.Frames.{card-passed, taken-sound, confirm-does}
+use Rattle.demands.proofs.Named.{aid-enabled}
 use Rattle.demands.proofs.Words.{word-is}
 use Rattle.demands.proofs.Written.{written-word}
+
+-- a confirmation that is accepted is of an open change
+confirm-open : (c : Card) (a : Asked) → isConfirmation a ≡ true → Passed (cardRows c a) → isQuiet (c .phase) ≡ false
+confirm-open c unread e p = absurd (false≢true e)
+confirm-open c (create aid quota) e p = absurd (false≢true e)
+confirm-open c (on aid act) e p = absurd (false≢true e)
+confirm-open c (confirm number) e p = p .0
+confirm-open c (statusOfAll life fallback) e p = absurd (false≢true e)
+confirm-open c getData e p = absurd (false≢true e)
+confirm-open c tick e p = absurd (false≢true e)
+confirm-open c lost e p = absurd (false≢true e)
 
 -- the two rows, where no number is outstanding in Quiet
 none-quiet : (p : Phase) (number : ℕ) → isQuiet p ≡ true → outstanding p number ≡ false
@@ -36,6 +56,21 @@ two-rows false false f = refl
 confirm-word : (c : Card) (number : ℕ) → isDone (wordOf (cardRows c (confirm number))) ≡ outstanding (c .phase) number
 unfolding wordOf
 confirm-word c number = two-rows (isQuiet (c .phase)) (outstanding (c .phase) number) (none-quiet (c .phase) number)
+
+pub confirmation-closes : ConfirmationCloses
+confirmation-closes c call e =
+    let a = and-l (isConfirmation (asked c call)) _ e in
+    let t = and-r (isConfirmation (asked c call)) _ e in
+    let s = taken-sound c call t in
+    let d = step c call .card in
+    let x = confirm-does c call s a t in
+    let on = x .enabled (enabledPlace c) ∙ enabled-at (c .places) (parts c s .one) in
+    record {
+      was-open = confirm-open c (asked c call) a (card-passed c call t);
+      quiet = x .quiet;
+      enabled = aid-enabled c d (enabledPlace c) (step-sound c call s) on (x .named (enabledPlace c) on);
+      last = x .last;
+    }
 
 pub confirmation-taken : ConfirmationTaken
 confirmation-taken c verdict s room number e h encoded =

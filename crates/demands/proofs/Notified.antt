@@ -10,7 +10,7 @@ use borrow.Author.Tests.{eqb-true, eq-eqb, ltb-true, not-true, not-false}
 use Rattle.status.specs.StatusWords.{isDone}
 use Rattle.status.proofs.Tables.{Passed}
 use Rattle.isdp.specs.Sizes.{wait, mostPlaces}
-use Rattle.isdp.specs.Aids.{nameOf, aidOf, noAid}
+use Rattle.isdp.specs.Aids.{nameOf, noAid}
 use Rattle.isdp.specs.declared.Aid.{Aid}
 use Rattle.isdp.specs.LifeCycle.{selectable, personalized, disabled, enabled, isEnabled}
 use Rattle.isdp.specs.Place.{vacant, made, held, placeOk}
@@ -48,6 +48,7 @@ use Rattle.demands.specs.Said.{exchanges}
 use Rattle.demands.specs.Notified.{Entered, Notified, nothing, tells, bytesOf, namedBy, told, lastNamed}
 use Rattle.demands.proofs.Demand1.{refusals}
 use Rattle.demands.proofs.Frames.{card-passed}
+use Rattle.demands.proofs.Named.{aid-enabled}
 use Rattle.demands.proofs.OpeningAnswers.{new-number}
 use Rattle.demands.proofs.Taken.{taken}
 use Rattle.demands.proofs.Tallies.{made-aid}
@@ -76,10 +77,8 @@ rewrites x l q e f =
 
 aid-same : (c d : Card) → sound c ≡ true → sound d ≡ true → Steady (c .places) (d .places) → enabledAid d ≡ enabledAid c
 aid-same c d s t h =
-    let on = enabled-at (d .places) (parts d t .one) in
-    ap bytesOf (h .named (enabledPlace d) on)
-    ∙ ap (λ (i : ℕ). aidOf (at (c .places) i))
-    (only (c .places) (enabledPlace d) (enabledPlace c) (parts c s .one) (sym (h .enabled (enabledPlace d)) ∙ on) (enabled-at (c .places) (parts c s .one)))
+    let on = h .enabled (enabledPlace c) ∙ enabled-at (c .places) (parts c s .one) in
+    aid-enabled c d (enabledPlace c) t on (h .named (enabledPlace c) on)
 
 -- a step that issues no number
 record Keeps (c d : Card) : Type 0 where

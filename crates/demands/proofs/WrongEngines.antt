@@ -49,7 +49,6 @@ use Rattle.demands.specs.WrongEngines.{Refuted, refusesAll, fixedAnswer,
 
 -- a change that this engine opens, and calls after each of which it is still open
 record Open (e : Engine) (past : List Call) (opening : Call) (wanted : List ℕ) (calls : List Call) : Type 0 where
-  quiet : isQuiet (cardAfter e inputs past .phase) ≡ true
   opens : Opens (cardAfter e inputs past) opening wanted
   stays : staysOpen (λ rest. cardAfter e inputs (past ++ opening ∷ rest)) calls ≡ true
 
@@ -106,11 +105,11 @@ runs =
       invented = refl;
       counted = refl;
       thirty = refl;
-      forbidden = record { quiet = refl; opens = enables (aid 2) refl refl; stays = refl };
-      deleted = record { quiet = refl; opens = enables (aid 3) refl refl; stays = refl };
+      forbidden = record { opens = enables (aid 2) refl refl; stays = refl };
+      deleted = record { opens = enables (aid 3) refl refl; stays = refl };
       more = refl;
-      restarts = record { quiet = refl; opens = enables (aid 2) refl refl; stays = refl };
-      late = record { quiet = refl; opens = enables (aid 2) refl refl; stays = refl };
+      restarts = record { opens = enables (aid 2) refl refl; stays = refl };
+      late = record { opens = enables (aid 2) refl refl; stays = refl };
       late-number = refl;
       late-open = refl;
       late-quiet = refl;
@@ -275,7 +274,7 @@ not-the-second-change n d =
     let opens = coe 1 0 (i. Opens (there i) (enable 3) (aid 3)) (runs .second-opens) in
     let quiet = ap (λ (e : Card). isQuiet (e .phase)) there ∙ runs .second-quiet in
     let after = reached-last (firstThen k idle) past (enable 3) 0 c ∙ ap (λ (o : Outcome). o .card) (late-answer k (remembered (firstThen k idle) 0 c past) (idle (cardAfter (firstThen k idle) inputs past) (enable 3)) (step (cardAfter (firstThen k idle) inputs past) (enable 3)) (omega arith)) in
-    false≢true (sym (d inputs (runs .made) past (enable 3) (aid 3) quiet opens .opens) ∙ ap (λ (e : Card). isQuiet (e .phase)) after ∙ quiet)
+    false≢true (sym (d inputs (runs .made) past (enable 3) (aid 3) opens .opens) ∙ ap (λ (e : Card). isQuiet (e .phase)) after ∙ quiet)
 
 -- the figure alone differs, so the cards reached are the manager's
 reached-run : (figure : Card → ℕ) (calls : List Call) (c : Card) → reached (inventsTicks figure) tt c calls ≡ run c calls
@@ -298,7 +297,7 @@ invents-ticks w =
 -- a change that is open after thirty ticks
 stuck : (e : Engine) (past : List Call) (opening : Call) (wanted : List ℕ) (calls : List Call) → Open e past opening wanted calls → 30 ≤ ticksAmong calls → MeetsDemand3 e → ⊥
 stuck e past opening wanted calls r k d =
-    let t = d inputs (runs .made) past opening wanted (r .quiet) (r .opens) .thirty calls (r .stays) in
+    let t = d inputs (runs .made) past opening wanted (r .opens) .thirty calls (r .stays) in
     absurd (omega arith)
 
 pub roll-back-asks-policy : Refuted rollBackAsksPolicy
@@ -316,7 +315,7 @@ second-enable-restarts-wait w =
 pub late-confirmation-taken : Refuted lateConfirmationTaken
 late-confirmation-taken w =
     let r = runs .late in
-    let u = w .demand3 inputs (runs .made) (load 2 0) (enable 2) (aid 2) (r .quiet) (r .opens) .still (ticks 10) (confirm 1) (r .stays) (runs .late-number) in
+    let u = w .demand3 inputs (runs .made) (load 2 0) (enable 2) (aid 2) (r .opens) .still (ticks 10) (confirm 1) (r .stays) (runs .late-number) in
     false≢true (sym (runs .late-open) ∙ sym (ap isQuiet (u .phase)) ∙ runs .late-quiet)
 
 pub caught : Caught
