@@ -47,10 +47,10 @@ use Rattle.demands.specs.Inputs.{Inputs, freshOf}
 use Rattle.demands.specs.Said.{exchanges}
 use Rattle.demands.specs.Notified.{Entered, Notified, nothing, tells, bytesOf, namedBy, told, lastNamed}
 use Rattle.demands.proofs.Demand1.{refusals}
-use Rattle.demands.proofs.Frames.{card-passed}
+use Rattle.demands.proofs.Frames.{card-passed, enabled-named}
 use Rattle.demands.proofs.Named.{aid-enabled}
 use Rattle.demands.proofs.OpeningAnswers.{new-number}
-use Rattle.demands.proofs.Taken.{taken}
+use Rattle.demands.proofs.Taken.{takes-step}
 use Rattle.demands.proofs.Tallies.{made-aid}
 use Rattle.demands.proofs.Free.{fresh-is}
 use Rattle.demands.proofs.Words.{done-as}
@@ -63,17 +63,9 @@ pub record Steady (l m : List Isdp) : Type 0 where
 still : (l : List Isdp) → Steady l l
 still l = record { enabled = λ i. refl; named = λ i e. refl }
 
-set-named : (x : Isdp) (l : List Isdp) (q : ℕ) → (isEnabled x ≡ true → nameOf x ≡ nameOf (at l q)) → (i : ℕ) → isEnabled (at (set l q x) i) ≡ true → nameOf (at (set l q x) i) ≡ nameOf (at l i)
-set-named x [] q f i e = refl
-set-named x (p ∷ ps) zero f zero e = f e
-set-named x (p ∷ ps) zero f (suc i) e = refl
-set-named x (p ∷ ps) (suc q) f zero e = refl
-set-named x (p ∷ ps) (suc q) f (suc i) e = set-named x ps q f i e
-
 -- a place that is not enabled is rewritten, and is not enabled then
 rewrites : (x : Isdp) (l : List Isdp) (q : ℕ) → isEnabled x ≡ false → isEnabled (at l q) ≡ false → Steady l (set l q x)
-rewrites x l q e f =
-    record { enabled = set-enabled x l q (e ∙ sym f); named = set-named x l q (λ h. absurd (false≢true (sym e ∙ h))) }
+rewrites x l q e f = record { enabled = set-enabled x l q (e ∙ sym f); named = enabled-named x e l q }
 
 aid-same : (c d : Card) → sound c ≡ true → sound d ≡ true → Steady (c .places) (d .places) → enabledAid d ≡ enabledAid c
 aid-same c d s t h =
@@ -190,7 +182,7 @@ module _ (c : Card) (s : sound c ≡ true) where
 
   call-case : (call : Call) (b : Bool) → isDone (step c call .status) ≡ b → Notified c (step c call)
   call-case call true e =
-      let q = taken c call e in
+      let q = takes-step c call e in
       let k : sound (stepOf c (asked c call) .card) ≡ true = rw (q, accepted-card (stepOf c (asked c call)) (responseOf c (asked c call))) at (step-sound c call s) in
       rw q (asks (asked c call) (card-passed c call (done-as c call true e)) k)
   call-case call false e =
