@@ -19,10 +19,7 @@ use Rattle.card.specs.Answers.{refused, accepted}
 use Rattle.card.specs.Fresh.{freshOutcome}
 use Rattle.card.specs.declared.Card.{Card}
 use Rattle.card.proofs.Sounds.{parts, done-nonzero}
-use Rattle.card.proofs.Outcomes.{took}
 use Rattle.card.proofs.Freshness.{fresh-sound}
-use Rattle.steps.specs.Steps.{stepOf, responseOf}
-use Rattle.manager.specs.Calls.{asked}
 use Rattle.manager.specs.Table.{table}
 use Rattle.manager.specs.Manager.{step, run, answers}
 use Rattle.manager.proofs.Runs.{run-parts, answers-parts}

@@ -39,7 +39,7 @@ use Rattle.steps.specs.Asked.{Act, Act.enable, Act.disable, Act.delete, Act.mas
 use Rattle.steps.specs.Conditions.{cardRows}
 use Rattle.steps.specs.Steps.{stepOf, actStep, responseOf}
 use Rattle.steps.proofs.Kept.{Legal}
-use Rattle.manager.specs.Calls.{Call, Call.Command, Call.Keyed, Call.Stored, Call.Finished, Call.Tick, Call.Lost, asked, askedOf}
+use Rattle.manager.specs.Calls.{Call, asked, askedOf}
 use Rattle.manager.specs.Table.{table}
 use Rattle.manager.specs.Manager.{step, run}
 use Rattle.manager.proofs.Kept.{legal, step-sound}

@@ -1,9 +1,9 @@
 -- Every answer is a refusal, which hands nothing out, or a step. A step that issues a number enters a phase and its notification is that
 -- of the phase; every other step leaves the enabled place and its AID as they were. By what is asked, with the facts of the passed rows.
 use mathlib.Core.Path.{_≡_, refl, ap, sym, _∙_}
-use Prim.Native.Nat.{ℕ, zero, suc, _-_, _<_}
+use Prim.Native.Nat.{ℕ, _-_, _<_}
 use mathlib.Core.List.{List, [], _∷_}
-use mathlib.Core.Bool.{Bool, true, false, not, _&&_, false≢true}
+use mathlib.Core.Bool.{Bool, true, false, not, _&&_}
 use lib.ListN.{set, length}
 use lib.Dec.{ltb, eqb}
 use borrow.Author.Tests.{eqb-true, eq-eqb, ltb-true, not-true, not-false}

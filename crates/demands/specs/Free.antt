@@ -8,9 +8,8 @@ use lib.ListN.{drop}
 use Rattle.status.specs.StatusWords.{isDone}
 use Rattle.isdp.specs.Aids.{sameBytes}
 use Rattle.card.specs.Cards.{freeIn}
-use Rattle.command.specs.Requests.{fieldOf}
 use Rattle.steps.specs.Asked.{Act, Act.enable, Act.disable, Act.delete, Act.masterDelete, Act.setFallBack, Act.status, Act.keyed, Act.stored, Act.finished, Asked, Asked.unread, Asked.create, Asked.on, Asked.confirm, Asked.statusOfAll, Asked.getData, Asked.tick, Asked.lost}
-use Rattle.manager.specs.Calls.{Call, Call.Command, Call.Keyed, Call.Stored, Call.Finished, Call.Tick, Call.Lost, askedOf}
+use Rattle.manager.specs.Calls.{Call, askedOf}
 use Rattle.manager.specs.Manager.{run}
 use Rattle.demands.specs.Inputs.{Inputs, freshOf}
 use Rattle.demands.specs.Examples as sample
