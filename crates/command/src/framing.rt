@@ -1,7 +1,7 @@
 // The rows of the table that a command meets before its data field is read. Each takes the whole string, of any length;
 // a byte that is not there reads as 00, so that a row can be asked whatever the rows before it say.
 ghost use mathlib.Core.Path.{_≡_};
-ghost use Rattle.tlv.specs.Tlv.{byte};
+ghost use Rattle.byte_string.specs.Bytes.{byte};
 ghost use Rattle.command.specs.Framing.{lengthWrong, classRight, classWrong, instructionWrong, parametersRight, parametersWrong, dataEnd, shapeWrong};
 
 pub const INSTALL: u8 = 0xE6;

@@ -6,7 +6,7 @@ use Rattle.choice.specs.Choice.{pick, isSame}
 use Rattle.tlv.specs.Tlv.{expectAt, onFound}
 use Rattle.tlv.specs.declared.Element.{Element}
 use Rattle.tlv.specs.declared.Element.the-variants as element
-use Rattle.tlv.specs.declared.Part.{Part}
+use Rattle.byte_string.specs.declared.Part.{Part}
 
 unfoldable pub aloneAt : List ℕ → ℕ → ℕ → ℕ → ℕ → ℕ → Element
 aloneAt s at end tag low high =

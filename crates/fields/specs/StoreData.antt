@@ -4,8 +4,9 @@ use Prim.Native.Nat.{ℕ, _+_, _-_, _*_}
 use mathlib.Core.List.{List}
 use lib.ListN.{length}
 use Rattle.choice.specs.Choice.{pick, isBelow, isSame}
-use Rattle.tlv.specs.Tlv.{byte, onFound}
-use Rattle.tlv.specs.declared.Part.{Part}
+use Rattle.byte_string.specs.Bytes.{byte}
+use Rattle.tlv.specs.Tlv.{onFound}
+use Rattle.byte_string.specs.declared.Part.{Part}
 use Rattle.fields.specs.Alone.{aloneAt, partOf}
 use Rattle.fields.specs.declared.Dgi.{Dgi}
 use Rattle.fields.specs.declared.Dgi.the-variants as dgi

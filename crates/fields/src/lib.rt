@@ -1,8 +1,8 @@
 // The data fields of STORE DATA, DELETE and GET STATUS. Every function reads a window of the whole command, from `at` up to `end`;
 // one that does not lie in it is wrong. An AID is handed on as its place in the command.
+use byte_string::Part;
 use reader::only_element;
 use tlv::Element;
-use tlv::Part;
 use tlv::TagRead;
 use tlv::expect;
 use tlv::read_tag;

@@ -5,7 +5,8 @@ use mathlib.Core.Path.{_≡_}
 use mathlib.Core.List.{List}
 use lib.ListN.{length}
 use Rattle.choice.specs.Choice.{pick, atMost, isBelow, isSame}
-use Rattle.tlv.specs.Tlv.{byte, expectAt, onFound}
+use Rattle.byte_string.specs.Bytes.{byte}
+use Rattle.tlv.specs.Tlv.{expectAt, onFound}
 use Rattle.install.specs.declared.Protocols.{Protocols}
 use Rattle.install.specs.declared.Protocols.the-variants as protocols
 use Rattle.install.specs.declared.Quota.{Quota}

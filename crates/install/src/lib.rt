@@ -1,8 +1,8 @@
 // Create's data field: GP's INSTALL, six fields each after its length, of which the ISD-P's AID and the quota are handed on.
 // Every function reads a window of the whole command, from `at` up to `end`; one that does not lie in it is wrong.
+use byte_string::Part;
 use tlv::Element;
 use tlv::LengthRead;
-use tlv::Part;
 use tlv::expect;
 use tlv::read_length;
 ghost use mathlib.Core.Path.{_≡_};

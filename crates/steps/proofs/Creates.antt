@@ -10,12 +10,13 @@ use lib.Seq.{take-append-seam, take-all, getD-set-other}
 use lib.Dec.{leb, eqb}
 use borrow.Author.Tests.{eqb-true, ne-eqb, le-leb, leb-true, not-true}
 use Rattle.isdp.specs.Sizes.{leastAid, mostAid}
-use Rattle.isdp.specs.Aids.{sameBytes, padded, aidOf, aidOk}
+use Rattle.byte_string.specs.Bytes.{sameBytes}
+use Rattle.isdp.specs.Aids.{padded, aidOf, aidOk}
 use Rattle.isdp.specs.LifeCycle.{selectable, isEnabled}
 use Rattle.isdp.specs.Place.{vacant, made, held, isFor, clash, zeros, lifeOk, emptyOk, heldOk, placeOk}
 use Rattle.isdp.specs.declared.Isdp.{Isdp}
 use Rattle.isdp.proofs.Bools.{and-l, and-r, or-l, or-r}
-use Rattle.isdp.proofs.Alike.{same-sym}
+use Rattle.byte_string.proofs.Alike.{same-sym}
 use Rattle.isdp.proofs.Placed.{made-ok}
 use Rattle.places.specs.Places.{at, seek, isFree, quotas, anyOf}
 use Rattle.places.proofs.Seeks.{seek-at, seek-below}

@@ -7,7 +7,7 @@ use native.Mathlib.Omega.{arith}
 use native.Mathlib.Numerals.{add-one}
 use lib.ListN.{length, take, drop, length-append, take-append-drop}
 use lib.Seq.{take-take, length-take-le, drop-append-le, take-at, drop-at, slice-empty, slice-cons, length-slice}
-use Rattle.tlv.specs.Tlv.{byte}
+use Rattle.byte_string.specs.Bytes.{byte}
 use Rattle.tlv.specs.Encoding.{window}
 
 module _ (s : List ℕ) where

@@ -1,13 +1,13 @@
--- `writing::put_bytes` meets its contract. The loop keeps: writing what is left, from here on, leaves what writing all leaves.
+-- `put_bytes` meets its contract. The loop keeps: writing what is left, from here on, leaves what writing all leaves.
 use borrow.Author.Needs.{needs}
 use native.Mathlib.Omega.{arith}
 use Prim.Native.Nat.{_-_, _≤_}
 use mathlib.Core.Path.{sym}
 use lib.ListN.{length}
-use Rattle.text.proofs.Rest.{rest, rest-all, rest-one, rest-end}
-use Rattle.text.proofs.PutLaws.{Writing, writing-starts, writing-goes, writing-ends, writing-as}
-use Rattle.text.proofs.writing.put_bytes.Statement.{statement}
-use Rattle.text.proofs.writing.put_bytes.Tie as tie
+use Rattle.byte_string.proofs.Rest.{rest, rest-all, rest-one, rest-end}
+use Rattle.byte_string.proofs.PutLaws.{Writing, writing-starts, writing-goes, writing-ends, writing-as}
+use Rattle.byte_string.proofs.put_bytes.Statement.{statement}
+use Rattle.byte_string.proofs.put_bytes.Tie as tie
 
 abbrev Inv-loop : tie.InvT-loop
 Inv-loop buf₀ at text i₀ k₀ buf i k = (i ≤ length text) × Writing buf₀ at text buf k (rest text i)

@@ -5,8 +5,8 @@ use Rattle.places.specs.Places.{at}
 use Rattle.isdp.specs.LifeCycle.{enabled}
 use Rattle.card.specs.Clock.{lostOf}
 use borrow.Author.Needs.{needs}
-use Rattle.card.proofs.Card.cut_off.Statement.{statement}
-use Rattle.card.proofs.Card.cut_off.Tie as tie
+use Rattle.card.proofs.Card.without_network.Statement.{statement}
+use Rattle.card.proofs.Card.without_network.Tie as tie
 
 is-quiet-requires : tie.Need-is-quiet-requires
 is-quiet-requires c κs = search needs
@@ -34,7 +34,7 @@ returns-3 c = let d = c .before in
     let card = e .before .before .args .self in
     rw (sym (e .before .is-quiet .ensures) ∙ not-false _ (e .if1 .left), ne-eqb (at (card .places) (card .fallback) .life) enabled (λ z. d .if2 .left (ap (λ (p : Isdp). p .life) (d .before .before .profile .ensures) ∙ z))) (c .fallen .ensures)
 
-pub cut-off-spec : {M : Type 1} → statement M
-cut-off-spec =
+pub without-network-spec : {M : Type 1} → statement M
+without-network-spec =
     tie.close
     (tie.spec is-quiet-requires returns profile-requires returns-2 fallen-requires returns-3)

@@ -1,9 +1,10 @@
+-- `byte_at` meets its contract: past the end the definition gives 0 too.
 use borrow.Author.Needs.{needs}
 use mathlib.Core.Path.{sym}
 use denote.Ref.{now}
 use lib.ListN.{List·getD-eq-default}
-use Rattle.command.proofs.framing.byte_at.Statement.{statement}
-use Rattle.command.proofs.framing.byte_at.Tie as tie
+use Rattle.byte_string.proofs.byte_at.Statement.{statement}
+use Rattle.byte_string.proofs.byte_at.Tie as tie
 
 shared-slice-read-result : tie.Need-shared-slice-read-result
 shared-slice-read-result c = search needs

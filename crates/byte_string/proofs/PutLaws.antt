@@ -11,7 +11,7 @@ use lib.Dec.{leb}
 use borrow.Author.Tests.{leb-true, leb-false}
 use lib.ListN.{length, take, drop, set, getD, length-append}
 use lib.Seq.{sets, length-sets, sets-eq, set-out, getD-set-other}
-use Rattle.text.specs.Put.{put, after, Wrote}
+use Rattle.byte_string.specs.Put.{put, after, Wrote}
 
 -- what it is where vs fits: the list before i, vs, and the list past vs, untouched
 pub put-is : (l : List ℕ) (i : ℕ) (vs : List ℕ) → i + length vs ≤ length l → put l i vs ≡ take i l ++ vs ++ drop (i + length vs) l

@@ -1,9 +1,9 @@
--- `writing::put_byte` meets its contract: a store, or nothing past the end.
+-- `put_byte` meets its contract: a store, or nothing past the end.
 use native.Mathlib.Omega.{arith}
-use Rattle.text.proofs.PutLaws.{wrote-store, wrote-past}
+use Rattle.byte_string.proofs.PutLaws.{wrote-store, wrote-past}
 use borrow.Author.Needs.{needs}
-use Rattle.text.proofs.writing.put_byte.Statement.{statement}
-use Rattle.text.proofs.writing.put_byte.Tie as tie
+use Rattle.byte_string.proofs.put_byte.Statement.{statement}
+use Rattle.byte_string.proofs.put_byte.Tie as tie
 
 slice-write-buf : tie.Need-slice-write-buf
 slice-write-buf c = search needs
