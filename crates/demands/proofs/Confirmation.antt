@@ -53,7 +53,7 @@ two-rows true false f = refl
 two-rows false true f = refl
 two-rows false false f = refl
 
-confirm-word : (c : Card) (number : ℕ) → isDone (wordOf (cardRows c (confirm number))) ≡ outstanding (c .phase) number
+confirm-word : (c : Card) (number : ℕ) → isDone (wordOf Done (cardRows c (confirm number))) ≡ outstanding (c .phase) number
 unfolding wordOf
 confirm-word c number = two-rows (isQuiet (c .phase)) (outstanding (c .phase) number) (none-quiet (c .phase) number)
 
@@ -64,7 +64,7 @@ confirmation-closes c call e =
     let s = taken-sound c call t in
     let d = step c call .card in
     let x = confirm-does c call s a t in
-    let on = x .enabled (enabledPlace c) ∙ enabled-at (c .places) (parts c s .one) in
+    let on = x .enabled (enabledPlace c) ∙ enabled-at (c .places) (parts c s .roles .one) in
     record {
       was-open = confirm-open c (asked c call) a (card-passed c call t);
       quiet = x .quiet;

@@ -4,6 +4,7 @@ use mathlib.Core.Path.{_≡_, refl, sym}
 use Prim.Native.Nat.{ℕ}
 use mathlib.Core.List.{List, [], _∷_, _++_}
 use mathlib.Core.Bool.{true}
+use Rattle.status.specs.declared.Status.the-variants.{Done}
 use Rattle.status.specs.StatusWords.{isDone}
 use Rattle.status.specs.Rows.{wordOf}
 use Rattle.card.specs.Sound.{sound}
@@ -47,7 +48,7 @@ lost-retold f r s e x = coe 0 1 (i. LostChange f (λ calls. e calls i)) x
 step-ticks : (c : Card) (call : Call) → sound c ≡ true → step c call .ticks ≡ ticksToCome (step c call .card)
 unfolding step
 step-ticks c call s =
-    let e = decide-ticks c (wordOf (table c call)) (stepOf c (asked c call)) (responseOf c (asked c call)) (took-sound c call) in
+    let e = decide-ticks c (wordOf Done (table c call)) (stepOf c (asked c call)) (responseOf c (asked c call)) (took-sound c call) in
     let k : sound (step c call .card) ≡ true = step-sound c call s in
     rw k at e
 

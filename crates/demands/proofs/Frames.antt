@@ -7,9 +7,9 @@ use mathlib.Core.Bool.{Bool, true, false, not, _&&_, false≢true}
 use lib.ListN.{set}
 use lib.Dec.{eqb}
 use borrow.Author.Tests.{eqb-true, not-false}
+use Rattle.status.specs.declared.Status.the-variants.{Done}
 use Rattle.status.specs.Rows.{row, wordOf}
 use Rattle.status.proofs.Tables.{Passed, passed}
-use Rattle.isdp.specs.Aids.{nameOf}
 use Rattle.isdp.specs.LifeCycle.{selectable, personalized, isEnabled}
 use Rattle.isdp.specs.Place.{vacant}
 use Rattle.isdp.specs.declared.Isdp.{Isdp}
@@ -41,24 +41,24 @@ use Rattle.demands.specs.Change.{taken, isTick, isConfirmation, Unmoved,
 
 -- the rows that look at the card are the table's last seven
 pub card-passed : (c : Card) (call : Call) → taken c call ≡ true → Passed (cardRows c (asked c call))
-card-passed c call e = passed (table c call) refl e .1 .1 .1 .1 .1 .1 .1 .1
+card-passed c call e = passed Done (table c call) refl e .1 .1 .1 .1 .1 .1 .1 .1
 
 -- an accepted call was made on a sound card
 pub taken-sound : (c : Card) (call : Call) → taken c call ≡ true → sound c ≡ true
-taken-sound c call e = not-false _ (passed (table c call) refl e .0)
+taken-sound c call e = not-false _ (passed Done (table c call) refl e .0)
 
 pub same : (c : Card) → Unmoved c c
 same c = record { phase = refl; enabled = λ i. refl; named = λ i. refl; fallback = refl; last = refl }
 
 -- a place rewritten that was not enabled and is not, with the AID that it had
-set-named : (x : Isdp) (l : List Isdp) (i : ℕ) → nameOf x ≡ nameOf (at l i) → (j : ℕ) → nameOf (at (set l i x) j) ≡ nameOf (at l j)
+set-named : (x : Isdp) (l : List Isdp) (i : ℕ) → x .aid ≡ at l i .aid → (j : ℕ) → at (set l i x) j .aid ≡ at l j .aid
 set-named x [] i e j = refl
 set-named x (p ∷ ps) zero e zero = e
 set-named x (p ∷ ps) zero e (suc j) = refl
 set-named x (p ∷ ps) (suc i) e zero = refl
 set-named x (p ∷ ps) (suc i) e (suc j) = set-named x ps i e j
 
-rewritten-same : (c : Card) (i : ℕ) (x : Isdp) → isEnabled x ≡ isEnabled (at (c .places) i) → nameOf x ≡ nameOf (at (c .places) i) → Unmoved c (withPlaces c (set (c .places) i x))
+rewritten-same : (c : Card) (i : ℕ) (x : Isdp) → isEnabled x ≡ isEnabled (at (c .places) i) → x .aid ≡ at (c .places) i .aid → Unmoved c (withPlaces c (set (c .places) i x))
 rewritten-same c i x e n =
     record { phase = refl; enabled = set-enabled x (c .places) i e; named = set-named x (c .places) i n; fallback = refl; last = refl }
 
@@ -137,7 +137,7 @@ not-asked false b e h = refl
 pub frame : Frame
 unfolding step
 frame c call s o e =
-    decide-card (Unmoved c) c (wordOf (table c call)) (stepOf c (asked c call)) (responseOf c (asked c call))
+    decide-card (Unmoved c) c (wordOf Done (table c call)) (stepOf c (asked c call)) (responseOf c (asked c call))
     (λ d. asked-same c (asked c call) o (only-tick c call (or-l (isTick call) _ e)) (not-asked (isConfirmation (asked c call)) (taken c call) (or-r (isTick call) _ e) d) (card-passed c call d))
     (same c)
 
@@ -150,7 +150,7 @@ tick-step c s = rw s
 pub record Closed (c d : Card) : Type 0 where
   pub quiet : d .phase ≡ Quiet
   pub enabled : (i : ℕ) → isEnabled (at (d .places) i) ≡ isEnabled (at (c .places) i)
-  pub named : (i : ℕ) → isEnabled (at (d .places) i) ≡ true → nameOf (at (d .places) i) ≡ nameOf (at (c .places) i)
+  pub named : (i : ℕ) → isEnabled (at (d .places) i) ≡ true → at (d .places) i .aid ≡ at (c .places) i .aid
   pub fallback : d .fallback ≡ c .fallback
   pub last : d .last ≡ c .last
 
@@ -158,7 +158,7 @@ calm : (c : Card) → Closed c (withPhase c Quiet)
 calm c = record { quiet = refl; enabled = λ i. refl; named = λ i e. refl; fallback = refl; last = refl }
 
 -- a place rewritten that is not enabled then: those that are keep their AIDs
-pub enabled-named : (x : Isdp) → isEnabled x ≡ false → (l : List Isdp) (q i : ℕ) → isEnabled (at (set l q x) i) ≡ true → nameOf (at (set l q x) i) ≡ nameOf (at l i)
+pub enabled-named : (x : Isdp) → isEnabled x ≡ false → (l : List Isdp) (q i : ℕ) → isEnabled (at (set l q x) i) ≡ true → at (set l q x) i .aid ≡ at l i .aid
 enabled-named x n [] q i e = refl
 enabled-named x n (p ∷ ps) zero zero e = absurd (false≢true (sym n ∙ e))
 enabled-named x n (p ∷ ps) zero (suc i) e = refl

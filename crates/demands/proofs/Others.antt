@@ -9,6 +9,7 @@ use lib.ListN.{length, set}
 use lib.Seq.{getD-set-other}
 use lib.Dec.{ltb, eqb}
 use borrow.Author.Tests.{eqb-true, eqb-false, eq-eqb}
+use Rattle.status.specs.declared.Status.the-variants.{Done}
 use Rattle.status.specs.StatusWords.{isDone}
 use Rattle.isdp.specs.LifeCycle.{withLife}
 use Rattle.isdp.specs.Place.{vacant, held}
@@ -73,7 +74,7 @@ pub free-other : (l : List Isdp) (i : ℕ) → held (at l i) ≡ true → seek i
 free-other l i h = not-found isFree l i (held-within l i h) (rw h)
 
 same : (p : Isdp) → AsItWas p p
-same p = record { aid = refl; len = refl; quota = refl; used = refl; policy = refl }
+same p = record { aid = refl; quota = refl; used = refl; policy = refl }
 
 equal : (p q : Isdp) → q ≡ p → AsItWas p q
 equal p q e = rw e (same p)
@@ -83,7 +84,6 @@ lively {l} {m} j r =
     let e : at m j ≡ withLife (at l j) (at m j .life) = lives-at r j in
     record {
       aid = ap (λ (x : Isdp). x .aid) e;
-      len = ap (λ (x : Isdp). x .len) e;
       quota = ap (λ (x : Isdp). x .quota) e;
       used = ap (λ (x : Isdp). x .used) e;
       policy = ap (λ (x : Isdp). x .policy) e;
@@ -164,4 +164,4 @@ pub save-the-deletion : SaveTheDeletion
 save-the-deletion c call j e =
     let d = and-l (isDone (step c call .status)) _ e in
     let r = and-r (isDone (step c call .status)) (leaves c (asked c call) j) e in
-    rw (takes-step c call d, accepted-card (stepOf c (asked c call)) (responseOf c (asked c call))) (asks-gone c j (asked c call) r)
+    rw (takes-step c call d, accepted-card Done (stepOf c (asked c call)) (responseOf c (asked c call))) (asks-gone c j (asked c call) r)

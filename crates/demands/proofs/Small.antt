@@ -4,7 +4,7 @@ use mathlib.Core.Path.{_≡_, refl, ap, sym, _∙_}
 use mathlib.Core.List.{List, _∷_}
 use mathlib.Core.Bool.{Bool, true, not}
 use Rattle.status.specs.Rows.{Row, row, wordOf}
-use Rattle.status.specs.declared.Status.the-variants.{Unsound, BufferShort, LengthWrong, ClassWrong, InstructionWrong, ParametersWrong, DataWrong}
+use Rattle.status.specs.declared.Status.the-variants.{Unsound, BufferShort, LengthWrong, ClassWrong, InstructionWrong, ParametersWrong, DataWrong, Done}
 use Rattle.card.specs.Cards.{withFallback, withPhase}
 use Rattle.card.specs.Sound.{sound}
 use Rattle.card.specs.declared.Card.{Card}
@@ -24,7 +24,7 @@ use Rattle.demands.proofs.Words.{word-is}
 pub holder-named : statement.HolderNamed
 unfolding step
 holder-named c call aid e h =
-    decide-card (λ d. d ≡ c) c (wordOf (table c call)) (stepOf c (asked c call)) (responseOf c (asked c call))
+    decide-card (λ d. d ≡ c) c (wordOf Done (table c call)) (stepOf c (asked c call)) (responseOf c (asked c call))
     (λ done. ap (λ (a : Asked). stepOf c a .card) e ∙ ap (withFallback c) h) refl
 
 -- the values of a call are the same on the same card in Quiet
@@ -56,11 +56,11 @@ status-same : (a : Asked) → ((c : Card) → cardRows c a ≡ cardRows (withPha
 status-same a f c call s e =
     let d = withPhase c Quiet in
     word-is c call
-    ∙ ap (λ (x : Asked). wordOf (tableOf call (sound c) (valuesWrong c call) (cardRows c x))) e
-    ∙ ap (λ (b : Bool). wordOf (tableOf call b (valuesWrong c call) (cardRows c a))) (s ∙ sym (quiet-sound c s))
-    ∙ ap (λ (b : Bool). wordOf (tableOf call (sound d) b (cardRows c a))) (values-same c call)
-    ∙ ap (λ (rows : List Row). wordOf (tableOf call (sound d) (valuesWrong d call) rows)) (f c)
-    ∙ ap (λ (x : Asked). wordOf (tableOf call (sound d) (valuesWrong d call) (cardRows d x))) (sym e)
+    ∙ ap (λ (x : Asked). wordOf Done (tableOf call (sound c) (valuesWrong c call) (cardRows c x))) e
+    ∙ ap (λ (b : Bool). wordOf Done (tableOf call b (valuesWrong c call) (cardRows c a))) (s ∙ sym (quiet-sound c s))
+    ∙ ap (λ (b : Bool). wordOf Done (tableOf call (sound d) b (cardRows c a))) (values-same c call)
+    ∙ ap (λ (rows : List Row). wordOf Done (tableOf call (sound d) (valuesWrong d call) rows)) (f c)
+    ∙ ap (λ (x : Asked). wordOf Done (tableOf call (sound d) (valuesWrong d call) (cardRows d x))) (sym e)
     ∙ sym (word-is d call)
 
 pub allowed-while-open : statement.AllowedWhileOpen

@@ -5,6 +5,7 @@ use Prim.Native.Nat.{ℕ, _≤_}
 use native.Mathlib.Omega.{arith}
 use mathlib.Core.List.{List}
 use mathlib.Core.Bool.{Bool, true, false, cond}
+use Rattle.status.specs.declared.Status.the-variants.{Done}
 use Rattle.status.specs.Rows.{wordOf}
 use Rattle.card.specs.Sound.{sound}
 use Rattle.card.specs.Ticks.{ticksToCome, StepsTo}
@@ -23,7 +24,7 @@ use Rattle.demands.proofs.Demand2.{fresh-taken, fresh-refused}
 figure : (c : Card) (call : Call) → step c call .ticks ≡ cond (sound (step c call .card)) (ticksToCome (step c call .card)) 0
 unfolding step
 figure c call =
-    decide-ticks c (wordOf (table c call)) (stepOf c (asked c call)) (responseOf c (asked c call)) (took-sound c call)
+    decide-ticks c (wordOf Done (table c call)) (stepOf c (asked c call)) (responseOf c (asked c call)) (took-sound c call)
 
 sound-figure : (c : Card) (call : Call) → sound (step c call .card) ≡ true → step c call .ticks ≡ ticksToCome (step c call .card)
 sound-figure c call s = figure c call ∙ rw s

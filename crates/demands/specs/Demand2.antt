@@ -60,7 +60,7 @@ abbrev pub Takes : Type 0
 Takes =
     (c : Card) (call : Call)
     → step c call .status ≡ Done
-    → step c call ≡ accepted (stepOf c (asked c call)) (responseOf c (asked c call))
+    → step c call ≡ accepted Done (stepOf c (asked c call)) (responseOf c (asked c call))
 
 -- fresh: its whole answer, where its inputs keep the sizes and where not
 abbrev pub FreshTaken : Type 0

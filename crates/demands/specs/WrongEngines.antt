@@ -140,7 +140,7 @@ FirstThenOnly9000 =
 
 -- 90 00 and nothing done
 abbrev pub idle : Card → Call → Outcome
-idle c call = accepted (stepTo c c noAid) []
+idle c call = accepted Done (stepTo c c noAid) []
 
 -- by demand 3 from the second change on: the first takes four commands (two creations, the enable and its confirmation), and it may work
 -- on any number more
@@ -217,7 +217,7 @@ abbrev pub secondEnableRestartsWait : Engine
 secondEnableRestartsWait =
     plain
     (λ c call.
-    cond (asksEnable (asked c call) && not (isQuiet (c .phase))) (accepted (stepTo c (restarted (c .phase) c) noAid) [])
+    cond (asksEnable (asked c call) && not (isQuiet (c .phase))) (accepted Done (stepTo c (restarted (c .phase) c) noAid) [])
     (step c call))
 
 -- "A late confirmation of number 1 accepted as that of number 2."
@@ -232,7 +232,7 @@ isLate phase tick = false
 isLate phase lost = false
 
 abbrev pub lateConfirmationTaken : Engine
-lateConfirmationTaken = plain (λ c call. cond (isLate (c .phase) (asked c call)) (accepted (confirmStep c) []) (step c call))
+lateConfirmationTaken = plain (λ c call. cond (isLate (c .phase) (asked c call)) (accepted Done (confirmStep c) []) (step c call))
 
 -- "These engines have to be caught": none of them meets the demands
 pub record Caught : Type 0 where
