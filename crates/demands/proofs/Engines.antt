@@ -13,7 +13,7 @@ use Rattle.card.specs.declared.Card.{Card}
 use Rattle.card.proofs.Counts.{steps-are}
 use Rattle.card.proofs.Outcomes.{decide-ticks}
 use Rattle.card.proofs.Freshness.{fresh-sound}
-use Rattle.steps.specs.Steps.{stepOf, responseOf}
+use Rattle.steps.specs.Steps.{stepOf, responseOf, success}
 use Rattle.manager.specs.Calls.{Call, Call.Lost, asked}
 use Rattle.manager.specs.Table.{table}
 use Rattle.manager.specs.Manager.{step, run}
@@ -48,7 +48,7 @@ lost-retold f r s e x = coe 0 1 (i. LostChange f (λ calls. e calls i)) x
 step-ticks : (c : Card) (call : Call) → sound c ≡ true → step c call .ticks ≡ ticksToCome (step c call .card)
 unfolding step
 step-ticks c call s =
-    let e = decide-ticks c (wordOf Done (table c call)) (stepOf c (asked c call)) (responseOf c (asked c call)) (took-sound c call) in
+    let e = decide-ticks c (wordOf success (table c call)) (stepOf c (asked c call)) (responseOf c (asked c call)) (took-sound c call) in
     let k : sound (step c call .card) ≡ true = step-sound c call s in
     rw k at e
 

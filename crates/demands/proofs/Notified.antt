@@ -9,7 +9,7 @@ use lib.Dec.{ltb, eqb}
 use borrow.Author.Tests.{eqb-true, ltb-true, not-true, not-false}
 use Rattle.status.specs.StatusWords.{isDone}
 use Rattle.status.specs.declared.Status.{Status}
-use Rattle.status.proofs.Tables.{Passed}
+use Rattle.steps.proofs.Rows.{Passed}
 use Rattle.isdp.specs.Sizes.{mostPlaces}
 use Rattle.isdp.specs.Aids.{named, noAid}
 use Rattle.isdp.specs.declared.Aid.{Aid}
@@ -78,25 +78,25 @@ module _ (c : Card) (s : sound c ≡ true) where
   gone-off : (aid : List ℕ) → not (eqb (profileOf c aid .life) disabled && not (eqb (placeOf c aid) (c .fallback))) ≡ false → isEnabled (profileOf c aid) ≡ false
   gone-off aid e = other-life (placeOf c aid) disabled refl (eqb-true _ _ (and-l (eqb (profileOf c aid .life) disabled) _ (not-false _ e)))
 
-  acts : (aid : List ℕ) (act : Act) → Passed (cardRows c (on aid act)) → Noticed c (stepOf c (on aid act))
+  acts : (aid : List ℕ) (act : Act) → Passed c (on aid act) → Noticed c (stepOf c (on aid act))
   acts aid enable p = steps-noticed .opening c (placeOf c aid) s
   acts aid disable p = steps-noticed .opening c (c .fallback) s
-  acts aid delete p = rewrites (placeOf c aid) vacant refl (gone-off aid (p .1 .1 .1 .0))
-  acts aid (masterDelete verdict) p = rewrites (placeOf c aid) vacant refl (gone-off aid (p .1 .1 .1 .0))
+  acts aid delete p = rewrites (placeOf c aid) vacant refl (gone-off aid (p .state))
+  acts aid (masterDelete verdict) p = rewrites (placeOf c aid) vacant refl (gone-off aid (p .state))
   acts aid setFallBack p = unmoved c (withFallback c (placeOf c aid)) noAid refl refl
   acts aid (status life fallback) p = unmoved c c noAid refl refl
   acts aid keyed p =
-      rewrites (placeOf c aid) _ refl (other-life (placeOf c aid) selectable refl (eqb-true _ _ (not-false _ (p .1 .1 .1 .0))))
+      rewrites (placeOf c aid) _ refl (other-life (placeOf c aid) selectable refl (eqb-true _ _ (not-false _ (p .state))))
   acts aid (stored n) p =
-      let e = other-life (placeOf c aid) personalized refl (eqb-true _ _ (not-false _ (p .1 .1 .1 .0))) in
+      let e = other-life (placeOf c aid) personalized refl (eqb-true _ _ (not-false _ (p .state))) in
       rewrites (placeOf c aid) _ e e
   acts aid (finished policy) p =
-      rewrites (placeOf c aid) _ refl (other-life (placeOf c aid) personalized refl (eqb-true _ _ (and-l (eqb (profileOf c aid .life) personalized) _ (not-false _ (p .1 .1 .1 .0)))))
+      rewrites (placeOf c aid) _ refl (other-life (placeOf c aid) personalized refl (eqb-true _ _ (and-l (eqb (profileOf c aid .life) personalized) _ (not-false _ (p .state)))))
 
-  asks : (a : Asked) → Passed (cardRows c a) → Noticed c (stepOf c a)
+  asks : (a : Asked) → Passed c a → Noticed c (stepOf c a)
   asks unread p = unmoved c c noAid refl refl
   asks (create aid quota) p =
-      let k : freePlace c < length (c .places) = rw (parts c s .sizes .full) (ltb-true _ _ (not-false _ (or-l (not (ltb (freePlace c) mostPlaces)) _ (p .1 .1 .1 .1 .1 .1 .0)))) in
+      let k : freePlace c < length (c .places) = rw (parts c s .sizes .full) (ltb-true _ _ (not-false _ (or-l (not (ltb (freePlace c) mostPlaces)) _ (p .room)))) in
       rewrites (freePlace c) (made aid selectable quota 0) refl (free-off (freePlace c) k (not-true _ (seek-below isFree (c .places) k)))
   asks (on aid act) p = acts aid act p
   asks (confirm number) p = steps-noticed .confirmation c s

@@ -31,11 +31,12 @@ use Rattle.card.proofs.Sounds.{parts, whole, nonzero}
 use Rattle.card.proofs.Counts.{counted}
 use Rattle.steps.specs.Asked.{Act.enable, Act.disable, Asked, Asked.on}
 use Rattle.steps.specs.Conditions.{stateWrong}
-use Rattle.steps.specs.Steps.{stepOf, responseOf}
+use Rattle.steps.specs.Steps.{stepOf, responseOf, success}
 use Rattle.steps.proofs.Opens.{only, opens, enabled-life, fallback-life}
 use Rattle.manager.specs.Calls.{Call, asked}
 use Rattle.manager.specs.Table.{table}
 use Rattle.manager.specs.Manager.{step}
+use Rattle.manager.proofs.Kept.{rows-accepted}
 use Rattle.demands.specs.OpeningAnswers.{Opening, EnableOpens, DisableOpens, OpeningAnswers}
 use Rattle.demands.proofs.Words.{done-as}
 use Rattle.demands.proofs.Demand2.{takes}
@@ -74,11 +75,11 @@ module _ (c : Card) (t : ℕ) (s : sound c ≡ true) (d : at (c .places) t .life
       let n : enabledPlace c ≡ t → ⊥ = λ q. let z : _≡_ {A = ℕ} disabled enabled = sym d ∙ ap (λ (i : ℕ). at (c .places) i .life) (sym q) ∙ v in omega arith in
       rw (enable-other (c .places) t (enabledPlace c) n, v)
 
-  to-come : accepted Done (stepTo c (opened c t) noAid) [] .ticks ≡ cond (eqb (enabledPlace c) (c .fallback)) 20 30
+  to-come : accepted success (stepTo c (opened c t) noAid) [] .ticks ≡ cond (eqb (enabledPlace c) (c .fallback)) 20 30
   unfolding accepted ticksByPhase
   to-come = counted (opened c t) (whole _ (opens c t (parts c s) d)) ∙ ticks-case (eqb (enabledPlace c) (c .fallback))
 
-  opening : (o : Outcome) → o ≡ accepted Done (stepTo c (opened c t) noAid) [] → Opening c t o
+  opening : (o : Outcome) → o ≡ accepted success (stepTo c (opened c t) noAid) [] → Opening c t o
   unfolding accepted
   opening o e =
       rw e
@@ -94,23 +95,23 @@ module _ (c : Card) (t : ℕ) (s : sound c ≡ true) (d : at (c .places) t .life
       }
 
 -- the accepted answer of a call that asks this
-asks-as : (c : Card) (call : Call) (a : Asked) → asked c call ≡ a → step c call .status ≡ Done → step c call ≡ accepted Done (stepOf c a) (responseOf c a)
-asks-as c call a q e = takes c call e ∙ ap (λ (x : Asked). accepted Done (stepOf c x) (responseOf c x)) q
+asks-as : (c : Card) (call : Call) (a : Asked) → asked c call ≡ a → step c call .status ≡ Done → step c call ≡ accepted success (stepOf c a) (responseOf c a)
+asks-as c call a q e = takes c call e ∙ ap (λ (x : Asked). accepted success (stepOf c x) (responseOf c x)) q
 
 pub enable-opens : EnableOpens
 enable-opens c call aid q e =
-    let p = passed Done (table c call) refl (done-as c call true (ap isDone e)) in
-    let v = p .1 .1 .1 .1 .1 .1 .1 .1 .1 .1 .1 .0 in
+    let p = rows-accepted c call (done-as c call true (ap isDone e)) in
+    let v = p .card .state in
     let h : stateWrong c (on aid enable) ≡ false = ap (stateWrong c) (sym q) ∙ v in
-    opening c (placeOf c aid) (not-false _ (p .0)) (eqb-true _ _ (not-false _ h)) (step c call) (asks-as c call (on aid enable) q e)
+    opening c (placeOf c aid) (p .whole) (eqb-true _ _ (not-false _ h)) (step c call) (asks-as c call (on aid enable) q e)
 
 pub disable-opens : DisableOpens
 disable-opens c call aid q e =
-    let p = passed Done (table c call) refl (done-as c call true (ap isDone e)) in
-    let v = p .1 .1 .1 .1 .1 .1 .1 .1 .1 .1 .1 .0 in
+    let p = rows-accepted c call (done-as c call true (ap isDone e)) in
+    let v = p .card .state in
     let g : stateWrong c (on aid disable) ≡ false = ap (stateWrong c) (sym q) ∙ v in
     let h = not-false _ g in
-    let s = not-false _ (p .0) in
+    let s = p .whole in
     let f = fallback-life c (placeOf c aid) (parts c s) (and-l (isEnabled (profileOf c aid)) _ h) (not-true _ (and-r (isEnabled (profileOf c aid)) _ h)) in
     opening c (c .fallback) s f (step c call) (asks-as c call (on aid disable) q e)
 

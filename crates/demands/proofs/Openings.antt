@@ -7,7 +7,7 @@ use mathlib.Core.Bool.{Bool, true, false, false≢true}
 use lib.Dec.{eqb}
 use borrow.Author.Tests.{eqb-true, eq-eqb, ne-eqb, not-true, not-false}
 use Rattle.status.specs.Rows.{wordOf}
-use Rattle.status.proofs.Tables.{Passed}
+use Rattle.steps.proofs.Rows.{Passed}
 use Rattle.isdp.specs.Aids.{aidOf}
 use Rattle.isdp.specs.Place.{held, isFor}
 use Rattle.byte_string.proofs.Alike.{same-true}
@@ -47,12 +47,12 @@ opens c t s d =
     }
 
 -- by the rows that enable and disable have passed
-enable-opens : (c : Card) (aid : List ℕ) → sound c ≡ true → Passed (cardRows c (on aid enable)) → Opened (placeOf c aid) (enabledPlace c) (c .fallback) (opened c (placeOf c aid))
-enable-opens c aid s p = opens c (placeOf c aid) s (eqb-true _ _ (not-false _ (p .1 .1 .1 .0)))
+enable-opens : (c : Card) (aid : List ℕ) → sound c ≡ true → Passed c (on aid enable) → Opened (placeOf c aid) (enabledPlace c) (c .fallback) (opened c (placeOf c aid))
+enable-opens c aid s p = opens c (placeOf c aid) s (eqb-true _ _ (not-false _ (p .state)))
 
-disable-opens : (c : Card) (aid : List ℕ) → sound c ≡ true → Passed (cardRows c (on aid disable)) → Opened (c .fallback) (enabledPlace c) (c .fallback) (opened c (c .fallback))
+disable-opens : (c : Card) (aid : List ℕ) → sound c ≡ true → Passed c (on aid disable) → Opened (c .fallback) (enabledPlace c) (c .fallback) (opened c (c .fallback))
 disable-opens c aid s p =
-    let h = not-false _ (p .1 .1 .1 .0) in
+    let h = not-false _ (p .state) in
     let v = and-l (isEnabled (profileOf c aid)) _ h in
     let n = not-true _ (and-r (isEnabled (profileOf c aid)) _ h) in
     opens c (c .fallback) s (steps.fallback-life c (placeOf c aid) (parts c s) v n)
@@ -85,12 +85,12 @@ change-of c t s o =
 pub demand-3 : Demand3
 demand-3 c call _ (enables aid a e) =
     let s = taken-sound c call e in
-    let p : Passed (cardRows c (on aid enable)) = rw a at (card-passed c call e) in
-    let f = found-aid c aid (eqb-true _ _ (not-false _ (p .1 .1 .1 .0))) in
+    let p : Passed c (on aid enable) = rw a at (card-passed c call e) in
+    let f = found-aid c aid (eqb-true _ _ (not-false _ (p .state))) in
     rw (taken-step c call e, a) (rw f at (change-of c (placeOf c aid) s (enable-opens c aid s p)))
 demand-3 c call _ (disables aid a e) =
     let s = taken-sound c call e in
-    let p : Passed (cardRows c (on aid disable)) = rw a at (card-passed c call e) in
+    let p : Passed c (on aid disable) = rw a at (card-passed c call e) in
     rw (taken-step c call e, a) (change-of c (c .fallback) s (disable-opens c aid s p))
 
 -- a lost network

@@ -36,7 +36,7 @@ use Rattle.command.proofs.ReadBack.{command-back}
 use Rattle.command.proofs.Written.{command-written}
 use Rattle.steps.specs.Asked.{Asked, Asked.on, Act.status}
 use Rattle.steps.specs.Conditions.{cardRows}
-use Rattle.steps.specs.Steps.{stepOf, responseOf, askedWork}
+use Rattle.steps.specs.Steps.{stepOf, responseOf, askedWork, success}
 use Rattle.byte_string.specs.Bytes.{partOf}
 use Rattle.manager.specs.Calls.{Call.Command, requestAsks, asked}
 use Rattle.manager.specs.Table.{leastBuffer, rowsAfter, table}
@@ -85,12 +85,12 @@ read-some : (s : List ℕ) (x : Reading) (w : Wanted) → readAs s x ≡ some w 
 read-some s (reading.Read r) w q = (r, (refl, cc))
 read-some s (reading.Refused word) w q = let z : _≡_ {A = ℕ} 0 1 = cc in absurd (omega arith)
 
-after-sound : (c : Card) (rows more : List Row) → wordOf Done rows ≡ wordOf Done more → wordOf Done (soundRow c ∷ rows) ≡ wordOf Done (soundRow c ∷ more)
+after-sound : (c : Card) (rows more : List Row) → wordOf success rows ≡ wordOf success more → wordOf success (soundRow c ∷ rows) ≡ wordOf success (soundRow c ∷ more)
 unfolding wordOf
 after-sound c rows more e = ap (cond (not (sound c)) Unsound) e
 
 -- the row 6F 00 is passed
-pub past-sound : (c : Card) (rows : List Row) → sound c ≡ true → wordOf Done (soundRow c ∷ rows) ≡ wordOf Done rows
+pub past-sound : (c : Card) (rows : List Row) → sound c ≡ true → wordOf success (soundRow c ∷ rows) ≡ wordOf success rows
 unfolding wordOf
 past-sound c rows e = rw e
 
@@ -111,15 +111,15 @@ module _ (c : Card) (verdict : ℕ) (s : List ℕ) (room : ℕ) (wanted : Wanted
   abbrev asks : Asked
   asks = wantedAsks verdict wanted
 
-  pub written-word : step c (Command verdict s room) .status ≡ wordOf Done (cardRows c asks)
+  pub written-word : step c (Command verdict s room) .status ≡ wordOf success (cardRows c asks)
   written-word =
       ap (λ (o : Outcome). o .status) (written-answered c verdict s room wanted h encoded)
-      ∙ decided c (wordOf Done (soundRow c ∷ cardRows c asks)) (stepOf c asks) (responseOf c asks)
+      ∙ decided c (wordOf success (soundRow c ∷ cardRows c asks)) (stepOf c asks) (responseOf c asks)
       ∙ past-sound c (cardRows c asks) e
 
-  pub written-taken : isDone (wordOf Done (cardRows c asks)) ≡ true → step c (Command verdict s room) ≡ accepted Done (stepOf c asks) (responseOf c asks)
+  pub written-taken : isDone (wordOf success (cardRows c asks)) ≡ true → step c (Command verdict s room) ≡ accepted success (stepOf c asks) (responseOf c asks)
   written-taken d =
-      let w : wordOf Done (soundRow c ∷ cardRows c asks) ≡ Done = past-sound c (cardRows c asks) e ∙ succeeds Done (cardRows c asks) refl d in
+      let w : wordOf success (soundRow c ∷ cardRows c asks) ≡ Done = past-sound c (cardRows c asks) e ∙ succeeds success (cardRows c asks) refl d in
       written-answered c verdict s room wanted h encoded ∙ ap (λ (x : Status). settle c x (stepOf c asks) (responseOf c asks)) w
 
 -- one that was read was written
@@ -128,7 +128,7 @@ read-written s capacity r b q = command-written s capacity (wantedOf s r) b (ap 
 
 pub accepted-written : statement.AcceptedWritten
 accepted-written c verdict s room b e =
-    let p = passed Done (table c (Command verdict s room)) refl (done-as c (Command verdict s room) true e) .1 in
+    let p = passed success (table c (Command verdict s room)) refl (done-as c (Command verdict s room) true e) .1 in
     let m = p .1 in
     let r = done-read s (c .capacity) (passes-done s (c .capacity) record {
       lengthRight = m .0;
@@ -141,8 +141,8 @@ accepted-written c verdict s room b e =
     (wantedOf s (r .0), (ltb-false room leastBuffer (p .0), read-written s (c .capacity) (r .0) b (r .1)))
 
 -- the words of the rows of reading
-reading-word : (a b c d e f : Bool) → isDone (wordOf Done (row a LengthWrong ∷ row b ClassWrong ∷ row c InstructionWrong ∷ row d ParametersWrong ∷ row e LengthWrong ∷ row f DataWrong ∷ [])) ≡ false
-    → ofReading (wordOf Done (row a LengthWrong ∷ row b ClassWrong ∷ row c InstructionWrong ∷ row d ParametersWrong ∷ row e LengthWrong ∷ row f DataWrong ∷ [])) ≡ true
+reading-word : (a b c d e f : Bool) → isDone (wordOf success (row a LengthWrong ∷ row b ClassWrong ∷ row c InstructionWrong ∷ row d ParametersWrong ∷ row e LengthWrong ∷ row f DataWrong ∷ [])) ≡ false
+    → ofReading (wordOf success (row a LengthWrong ∷ row b ClassWrong ∷ row c InstructionWrong ∷ row d ParametersWrong ∷ row e LengthWrong ∷ row f DataWrong ∷ [])) ≡ true
 unfolding wordOf
 reading-word true b c d e f h = refl
 reading-word false true c d e f h = refl

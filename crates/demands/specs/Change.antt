@@ -15,6 +15,7 @@ use Rattle.card.specs.Cards.{isQuiet, enabledAid, onFallback}
 use Rattle.card.specs.Sound.{sound}
 use Rattle.card.specs.Clock.{outstanding}
 use Rattle.card.specs.declared.Card.{Card}
+use Rattle.steps.specs.Steps.{success}
 use Rattle.steps.specs.Asked.{Act.enable, Act.disable, Asked, Asked.unread, Asked.create, Asked.on, Asked.confirm, Asked.statusOfAll, Asked.getData, Asked.tick, Asked.lost}
 use Rattle.manager.specs.Calls.{Call, Call.Command, Call.Keyed, Call.Stored, Call.Finished, Call.Tick, Call.Lost, asked}
 use Rattle.manager.specs.Table.{table}
@@ -29,7 +30,7 @@ fallbackBytes c = aidOf (at (c .places) (c .fallback))
 
 -- no row of the table refuses the call
 abbrev pub taken : Card → Call → Bool
-taken c call = isDone (wordOf Done (table c call))
+taken c call = isDone (wordOf success (table c call))
 
 abbrev pub isTick : Call → Bool
 isTick (Command verdict s room) = false
