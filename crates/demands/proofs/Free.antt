@@ -10,7 +10,8 @@ use borrow.Author.Tests.{ne-eqb, not-true, not-false, ltb-true}
 use Rattle.status.specs.StatusWords.{isDone}
 use Rattle.status.specs.Rows.{row, wordOf}
 use Rattle.status.specs.declared.Status.the-variants.{DataWrong, Done}
-use Rattle.status.proofs.Tables.{Passed, passed}
+use Rattle.status.proofs.Tables.{passed}
+use Rattle.steps.proofs.Rows.{Passed}
 use Rattle.isdp.specs.Sizes.{mostPlaces, eidSize}
 use Rattle.isdp.specs.Aids.{aidOk, aidOf, noAid}
 use Rattle.isdp.specs.LifeCycle.{selectable, disabled, enabled}
