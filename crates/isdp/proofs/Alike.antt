@@ -1,9 +1,7 @@
--- When two places bear one AID: the comparison is even-handed, looks at nothing but the AID, and a place not held clashes with none.
+-- When two places bear one AID: the comparison looks at nothing but the AID, and a place not held clashes with none.
 -- Assumes nothing.
 use mathlib.Core.Path.{_≡_, refl}
-use mathlib.Core.Bool.{Bool, true, false, _&&_, and-false}
-use Rattle.byte_string.proofs.Alike.{same-sym}
-use Rattle.isdp.specs.Aids.{aidOf}
+use mathlib.Core.Bool.{false, and-false}
 use Rattle.isdp.specs.Place.{vacant, held, isFor, clash}
 use Rattle.isdp.specs.declared.Isdp.{Isdp}
 
@@ -24,14 +22,3 @@ clash-none p = and-false (held p)
 pub none-clash : (q : Isdp) → clash vacant q ≡ false
 unfolding clash
 none-clash q = refl
-
--- two held places clash either way round
-swap : (a b s t : Bool) → s ≡ t → (a && (b && s)) ≡ (b && (a && t))
-swap true true s t e = e
-swap true false s t e = refl
-swap false true s t e = refl
-swap false false s t e = refl
-
-pub clash-sym : (p q : Isdp) → clash p q ≡ clash q p
-unfolding clash isFor
-clash-sym p q = swap (held p) (held q) _ _ (same-sym (aidOf p) (aidOf q))

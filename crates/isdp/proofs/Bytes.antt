@@ -59,8 +59,3 @@ pub taken : (n : ℕ) (s : List ℕ) → take (length (take n s)) s ≡ take n s
 taken zero s = refl
 taken (suc n) [] = refl
 taken (suc n) (x ∷ xs) = ap (λ (l : List ℕ). x ∷ l) (taken n xs)
-
-pub taken-within : (n : ℕ) (s : List ℕ) → length (take n s) ≤ length s
-taken-within zero s = omega arith
-taken-within (suc n) [] = omega arith
-taken-within (suc n) (x ∷ xs) = let h = taken-within n xs in omega arith

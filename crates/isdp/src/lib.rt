@@ -6,6 +6,7 @@ ghost use mathlib.Core.Bool.{cond, _&&_};
 ghost use Prim.Native.Nat.{_+_, _≤_};
 ghost use lib.ListN.{length, drop};
 ghost use lib.Dec.{leb, ltb, eqb};
+ghost use Rattle.isdp.specs.Sizes.{mostAid};
 ghost use Rattle.isdp.specs.Aids.{aidOk, padded, named, noAid, bytesOf};
 ghost use Rattle.isdp.specs.Policy.{policyOk, forbidsDisabling, forbidsDeletion, onceDisabled};
 ghost use Rattle.isdp.specs.LifeCycle.{isEnabled, withLife, withUsed, finish, off};
@@ -84,7 +85,7 @@ impl Aid {
 
     // How many of the sixteen bytes are the AID.
     pub fn size(self) -> usize
-        ensures { λ r. ⌜ r ≡ length (bytesOf self) ⌝ }
+        ensures { λ r. ⌜ (r ≡ length (bytesOf self)) × (r ≤ mostAid) ⌝ }
     {
         let n = self.len as usize;
         if n > 16 {

@@ -7,7 +7,8 @@ use lib.Seq.{length-take-le}
 use borrow.Author.Needs.{needs}
 use borrow.Author.Tests.{eq-eqb, ne-eqb}
 use Rattle.isdp.specs.Place.{isFor}
-use Rattle.isdp.proofs.Bytes.{taken, taken-within}
+use Rattle.isdp.proofs.Bytes.{taken}
+use Rattle.isdp.proofs.Records.{wide}
 use Rattle.isdp.proofs.is_for.Statement.{statement}
 use Rattle.isdp.proofs.is_for.Tie as tie
 
@@ -19,12 +20,14 @@ size-requires : tie.Need-size-requires
 size-requires c κs = search needs
 
 array-share-prefix-bytes : tie.Need-array-share-prefix-bytes
-array-share-prefix-bytes c = let a = c .before .before .before .before .before .before .args .p .aid in
-    omega (arith, c .before .size .ensures, taken-within (a .len) (a .bytes))
+array-share-prefix-bytes c = let s = c .before .before .before .before .before .before in
+    let n = wide (s .args .p) _ (s .good .0) in
+    omega arith
 
 slice-aggregate-same : tie.Need-slice-aggregate-same
-slice-aggregate-same c = let a = c .before .before .before .before .before .before .before .args .p .aid in
-    sym (length-take-le (c .before .before .size .result) (a .bytes) (omega (arith, c .before .before .size .ensures, taken-within (a .len) (a .bytes))))
+slice-aggregate-same c = let s = c .before .before .before .before .before .before .before in
+    let n = wide (s .args .p) _ (s .good .0) in
+    sym (length-take-le (c .before .before .size .result) (s .args .p .aid .bytes) (omega arith))
 
 same-requires : tie.Need-same-requires
 same-requires c κs = search needs
@@ -32,7 +35,7 @@ same-requires c κs = search needs
 returns-2 : tie.Need-returns-2
 unfolding isFor
 returns-2 c = let p = c .before .before .before .before .before .before .before .before .args .p in
-    let e = ap (λ (k : ℕ). take k (p .aid .bytes)) (c .before .before .before .size .ensures) ∙ taken (p .aid .len) (p .aid .bytes) in
+    let e = ap (λ (k : ℕ). take k (p .aid .bytes)) (c .before .before .before .size .ensures .0) ∙ taken (p .aid .len) (p .aid .bytes) in
     rw (ne-eqb (p .aid .len) 0 (c .before .before .before .before .if1 .left), ← e) (c .same .ensures)
 
 pub is-for-spec : {M : Type 1} → statement M

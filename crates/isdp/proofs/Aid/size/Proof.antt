@@ -13,12 +13,12 @@ cast-n c = search needs
 returns : tie.Need-returns
 returns c = let a = c .before .before .args .self in
     let n : length (a .bytes) ≡ 16 = search needs in
-    sym (rw (take-all (a .len) (a .bytes) (omega arith)) n)
+    (sym (rw (take-all (a .len) (a .bytes) (omega arith)) n), omega arith)
 
 returns-2 : tie.Need-returns-2
 returns-2 c = let a = c .before .before .args .self in
     let n : length (a .bytes) ≡ 16 = search needs in
-    sym (length-take-le (a .len) (a .bytes) (omega arith))
+    (sym (length-take-le (a .len) (a .bytes) (omega arith)), omega arith)
 
 pub size-spec : {M : Type 1} → statement M
 size-spec = tie.close (tie.spec cast-n returns returns-2)
