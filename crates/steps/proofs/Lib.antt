@@ -2,3 +2,4 @@
 pub mod Opens
 pub mod Creates
 pub mod Kept
+pub mod Laws

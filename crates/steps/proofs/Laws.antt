@@ -1,0 +1,3 @@
+-- The law of each call, and what they share.
+pub mod Places
+pub mod Answer

@@ -1,0 +1,142 @@
+-- Where a call is taken its answer is its step's, and each kind of step that stands in the laws has the answer that they tell: a place set
+-- anew, another phase, a profile enabled over another, nothing. Assumes nothing.
+use mathlib.Core.Path.{_≡_, refl, sym, ap, _∙_}
+use Prim.Native.Nat.{ℕ, _+_, _<_}
+use native.Mathlib.Omega.{arith}
+use mathlib.Core.List.{List, [], _∷_}
+use mathlib.Core.Bool.{Bool, true, false, not, cond, _&&_}
+use lib.ListN.{length, set, length-set}
+use lib.Dec.{eqb}
+use borrow.Author.Tests.{eqb-true, eq-eqb, ne-eqb}
+use Rattle.status.specs.StatusWords.{isDone}
+use Rattle.status.specs.Rows.{wordOf}
+use Rattle.status.specs.declared.Status.{Status}
+use Rattle.status.specs.declared.Status.the-variants.{Done}
+use Rattle.status.proofs.Tables.{Passed, proper, passed, no-row}
+use Rattle.isdp.specs.Sizes.{lastNumber}
+use Rattle.isdp.specs.Aids.{nameOf, noAid}
+use Rattle.isdp.specs.LifeCycle.{enabled, isEnabled, withLife}
+use Rattle.isdp.specs.declared.Isdp.{Isdp}
+use Rattle.places.specs.Places.{at, seek, enableAt}
+use Rattle.places.proofs.Lives.{enable-lives, lives-at, lives-length, enable-at, enable-one}
+use Rattle.places.proofs.Seeks.{enabled-at}
+use Rattle.card.specs.Cards.{isQuiet, onFallback, withPlaces, withPhase, withFallback}
+use Rattle.card.specs.Clock.{nextOf, moved}
+use Rattle.card.specs.Sound.{sound}
+use Rattle.card.specs.Steps.{stepTo}
+use Rattle.card.specs.Ticks.{stepsIn, ticksToCome, ticksIn, ticksByPhase}
+use Rattle.card.specs.Notifications.{kindOf, silent, noticeOf}
+use Rattle.card.specs.Answers.{Outcome, Work, accepted, settle, soundRow, outcome}
+use Rattle.card.specs.declared.Card.{Card}
+use Rattle.card.specs.declared.Kind.{Kind}
+use Rattle.card.specs.declared.Phase.{Phase}
+use Rattle.card.specs.declared.Phase.the-variants.{Quiet, Trial, Back, Fallen}
+use Rattle.card.proofs.Counts.{counted}
+use Rattle.card.proofs.Outcomes.{took}
+use Rattle.card.proofs.Sounds.{Sound, parts}
+use Rattle.steps.specs.Laws.Answer.{profileAt, Enabled, Answers, Still, onlyAt, replaced, rephased, entered}
+use Rattle.steps.proofs.Opens.{only}
+use Rattle.steps.proofs.Laws.Places.{set-places, trade-places}
+
+-- a call is taken exactly where its rows pass
+module _ (c : Card) (w : Work) where
+  pub rows-passed : proper (w .rows) ≡ true → outcome c w .status ≡ Done → Passed (w .rows)
+  rows-passed p e =
+      passed (soundRow c ∷ w .rows) p (took c (wordOf (soundRow c ∷ w .rows)) (w .step) (w .response) (ap isDone e) .0) .1
+
+  pub step-taken : sound c ≡ true → Passed (w .rows) → outcome c w ≡ accepted (w .step) (w .response)
+  step-taken s p =
+      ap (λ (x : Status). settle c x (accepted (w .step) (w .response))) (no-row (soundRow c ∷ w .rows) (ap not s, p))
+
+-- no number, no notification
+pub no-notice : (c d : Card) → d .last ≡ c .last → noticeOf c d ≡ silent
+unfolding noticeOf
+no-notice c d e = rw (eq-eqb (d .last) (c .last) e)
+
+-- in Quiet nothing is to come
+quiet-case : (c : Card) (p : Phase) → p ≡ Quiet → isQuiet p ≡ true
+quiet-case c p e = rw e
+
+pub none-to-come : (c : Card) → c .phase ≡ Quiet → ticksToCome c ≡ 0
+unfolding ticksToCome stepsIn
+none-to-come c e = rw e
+
+module _ (c : Card) where
+  pub still : (bytes : List ℕ) → sound c ≡ true → Still c bytes (accepted (stepTo c c noAid) bytes)
+  unfolding accepted
+  still bytes s = record { status = refl; card = refl; response = refl; notification = no-notice c c refl; ticks = counted c s }
+
+  pub rewrites : (t : ℕ) (p : Isdp) (bytes : List ℕ) (ticks : ℕ) → t < length (c .places) → ticksToCome (withPlaces c (set (c .places) t p)) ≡ ticks → Answers c (replaced c (onlyAt c t p) bytes ticks) (accepted (stepTo c (withPlaces c (set (c .places) t p)) noAid) bytes)
+  unfolding accepted
+  rewrites t p bytes ticks h q =
+      record {
+        status = refl;
+        eid = refl;
+        capacity = refl;
+        volatile = refl;
+        last = refl;
+        fallback = refl;
+        phase = refl;
+        as-many = length-set (c .places) t p;
+        places = set-places c t p h;
+        response = refl;
+        notification = no-notice c (withPlaces c (set (c .places) t p)) refl;
+        ticks = q;
+      }
+
+  pub rephases : (p : Phase) (ticks : ℕ) → ticksToCome (withPhase c p) ≡ ticks → Answers c (rephased c p ticks) (accepted (stepTo c (withPhase c p) noAid) [])
+  unfolding accepted
+  rephases p ticks q =
+      record {
+        status = refl;
+        eid = refl;
+        capacity = refl;
+        volatile = refl;
+        last = refl;
+        fallback = refl;
+        phase = refl;
+        as-many = refl;
+        places = λ i. refl;
+        response = refl;
+        notification = no-notice c (withPhase c p) refl;
+        ticks = q;
+      }
+
+-- the next number is another one
+new-case : (n : ℕ) (b : Bool) → eqb n lastNumber ≡ b → cond b 0 (n + 1) ≡ n → ⊥
+new-case n true e q = let h = eqb-true n lastNumber e in omega arith
+new-case n false e q = omega arith
+
+new-number : (n : ℕ) → eqb (nextOf n) n ≡ false
+new-number n = ne-eqb _ _ (new-case n (eqb n lastNumber) refl)
+
+module _ (c : Card) (t : ℕ) (h : t < length (c .places)) where
+  found : seek isEnabled (enableAt (c .places) t) ≡ t
+  found =
+      let one = enable-one (c .places) t h in
+      only (enableAt (c .places) t) (seek isEnabled (enableAt (c .places) t)) t one (enabled-at (enableAt (c .places) t) one) (eq-eqb _ _ (enable-at (c .places) t h))
+
+  named : nameOf (at (enableAt (c .places) t) t) ≡ nameOf (at (c .places) t)
+  named = ap nameOf (lives-at (enable-lives (c .places) t) t)
+
+  notice : (p : Phase) → noticeOf c (moved c t p) ≡ record { kind = kindOf p; number = nextOf (c .last); eid = c .eid; aid = nameOf (profileAt c t) }
+  unfolding noticeOf
+  notice p = rw (new-number (c .last), found, named)
+
+  pub enters : (e : ℕ) (p : Phase) (ticks : ℕ) → Sound c → Enabled c e → ticksToCome (moved c t p) ≡ ticks → Answers c (entered c e t p (kindOf p) ticks) (accepted (stepTo c (moved c t p) noAid) [])
+  unfolding accepted
+  enters e p ticks s v q =
+      record {
+        status = refl;
+        eid = refl;
+        capacity = refl;
+        volatile = refl;
+        last = refl;
+        fallback = refl;
+        phase = refl;
+        as-many = lives-length (enable-lives (c .places) t);
+        places = trade-places c e t s v h;
+        response = refl;
+        notification = notice p;
+        ticks = q;
+      }
