@@ -1,3 +1,4 @@
 -- The law of each call, and what they share.
 pub mod Places
 pub mod Answer
+pub mod Deletion

@@ -1,13 +1,13 @@
 -- Where a call is taken its answer is its step's, and each kind of step that stands in the laws has the answer that they tell: a place set
 -- anew, another phase, a profile enabled over another, nothing. Assumes nothing.
-use mathlib.Core.Path.{_≡_, refl, sym, ap, _∙_}
+use mathlib.Core.Path.{_≡_, refl, sym, ap, subst, _∙_}
 use Prim.Native.Nat.{ℕ, _+_, _<_}
 use native.Mathlib.Omega.{arith}
 use mathlib.Core.List.{List, [], _∷_}
 use mathlib.Core.Bool.{Bool, true, false, not, cond, _&&_}
 use lib.ListN.{length, set, length-set}
 use lib.Dec.{eqb}
-use borrow.Author.Tests.{eqb-true, eq-eqb, ne-eqb}
+use borrow.Author.Tests.{eqb-true, eq-eqb, ne-eqb, not-false}
 use Rattle.status.specs.StatusWords.{isDone}
 use Rattle.status.specs.Rows.{wordOf}
 use Rattle.status.specs.declared.Status.{Status}
@@ -16,11 +16,12 @@ use Rattle.status.proofs.Tables.{Passed, proper, passed, no-row}
 use Rattle.isdp.specs.Sizes.{lastNumber}
 use Rattle.isdp.specs.Aids.{nameOf, noAid}
 use Rattle.isdp.specs.LifeCycle.{enabled, isEnabled, withLife}
+use Rattle.isdp.specs.Place.{held}
 use Rattle.isdp.specs.declared.Isdp.{Isdp}
 use Rattle.places.specs.Places.{at, seek, enableAt}
 use Rattle.places.proofs.Lives.{enable-lives, lives-at, lives-length, enable-at, enable-one}
 use Rattle.places.proofs.Seeks.{enabled-at}
-use Rattle.card.specs.Cards.{isQuiet, onFallback, withPlaces, withPhase, withFallback}
+use Rattle.card.specs.Cards.{isQuiet, placeOf, profileOf, withPlaces, withPhase, withFallback}
 use Rattle.card.specs.Clock.{nextOf, moved}
 use Rattle.card.specs.Sound.{sound}
 use Rattle.card.specs.Steps.{stepTo}
@@ -34,9 +35,10 @@ use Rattle.card.specs.declared.Phase.the-variants.{Quiet, Trial, Back, Fallen}
 use Rattle.card.proofs.Counts.{counted}
 use Rattle.card.proofs.Outcomes.{took}
 use Rattle.card.proofs.Sounds.{Sound, parts}
-use Rattle.steps.specs.Laws.Answer.{profileAt, Enabled, Answers, Still, onlyAt, replaced, rephased, entered}
+use Rattle.steps.specs.Laws.Answer.{profileAt, Holds, Enabled, Answers, Still, OnPlace, onlyAt, replaced, rephased, entered}
+use Rattle.steps.proofs.Kept.{quiet-is}
 use Rattle.steps.proofs.Opens.{only}
-use Rattle.steps.proofs.Laws.Places.{set-places, trade-places}
+use Rattle.steps.proofs.Laws.Places.{place-is, holds, set-places, trade-places}
 
 -- a call is taken exactly where its rows pass
 module _ (c : Card) (w : Work) where
@@ -48,15 +50,36 @@ module _ (c : Card) (w : Work) where
   step-taken s p =
       ap (λ (x : Status). settle c x (accepted (w .step) (w .response))) (no-row (soundRow c ∷ w .rows) (ap not s, p))
 
+-- the law of a call on one target, from its rows: they ask that the AID is held, and pass exactly where the law allows it
+pub on-target : (c : Card) (aid : List ℕ) (w : Work) (May : ℕ → Type 0) (Answered : ℕ → Outcome → Type 0) → sound c ≡ true → proper (w .rows) ≡ true
+    → (Passed (w .rows) → (held (profileOf c aid) ≡ true) × May (placeOf c aid))
+    → (Holds c aid (placeOf c aid) → May (placeOf c aid) → Passed (w .rows) × Answered (placeOf c aid) (accepted (w .step) (w .response)))
+    → OnPlace (Holds c aid) May Answered (outcome c w)
+on-target c aid w May Answered s p f g =
+    let o = outcome c w in
+    record {
+      some-place = λ e. (placeOf c aid, holds c aid (f (rows-passed c w p e) .0));
+      exactly =
+          λ t h.
+          let q = place-is c aid t (parts c s) h in
+          record {
+            only-where = λ e. subst May q (f (rows-passed c w p e) .1);
+            where-may =
+                λ m.
+                let r = g (subst (Holds c aid) (sym q) h) (subst May (sym q) m) in
+                subst (λ (i : ℕ). Answered i o) q (subst (Answered (placeOf c aid)) (sym (step-taken c w s (r .0))) (r .1));
+          };
+    }
+
 -- no number, no notification
 pub no-notice : (c d : Card) → d .last ≡ c .last → noticeOf c d ≡ silent
 unfolding noticeOf
 no-notice c d e = rw (eq-eqb (d .last) (c .last) e)
 
--- in Quiet nothing is to come
-quiet-case : (c : Card) (p : Phase) → p ≡ Quiet → isQuiet p ≡ true
-quiet-case c p e = rw e
+pub quietly : (p : Phase) → not (isQuiet p) ≡ false → p ≡ Quiet
+quietly p e = quiet-is p (not-false _ e)
 
+-- in Quiet nothing is to come
 pub none-to-come : (c : Card) → c .phase ≡ Quiet → ticksToCome c ≡ 0
 unfolding ticksToCome stepsIn
 none-to-come c e = rw e
