@@ -2,3 +2,5 @@
 pub mod Places
 pub mod Answer
 pub mod Deletion
+pub mod Change
+pub mod FallBack
