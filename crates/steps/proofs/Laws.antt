@@ -4,3 +4,6 @@ pub mod Answer
 pub mod Deletion
 pub mod Change
 pub mod FallBack
+pub mod Confirmation
+pub mod Create
+pub mod Loading
