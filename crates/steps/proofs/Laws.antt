@@ -7,3 +7,5 @@ pub mod FallBack
 pub mod Confirmation
 pub mod Create
 pub mod Loading
+pub mod Reports
+pub mod Clock

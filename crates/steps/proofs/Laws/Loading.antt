@@ -11,13 +11,14 @@ use borrow.Author.Tests.{eqb-true, eq-eqb, leb-true, le-leb, ltb-true, lt-ltb, n
 use Rattle.isdp.specs.Sizes.{leastAid, mostAid}
 use Rattle.isdp.specs.Aids.{aidOk, aidOf, noAid}
 use Rattle.isdp.specs.Policy.{policyOk}
-use Rattle.isdp.specs.LifeCycle.{selectable, personalized, disabled, isEnabled, withLife, withUsed, finish}
+use Rattle.isdp.specs.LifeCycle.{selectable, personalized, disabled, enabled, isEnabled, withLife, withUsed, finish}
 use Rattle.isdp.specs.declared.Isdp.{Isdp}
 use Rattle.isdp.proofs.Bools.{and-l, and-r}
 use Rattle.isdp.proofs.Placed.{Placed}
 use Rattle.places.specs.Places.{at}
 use Rattle.places.proofs.Sets.{set-enabled}
 use Rattle.card.specs.Cards.{placeOf, profileOf, withPlaces}
+use Rattle.card.specs.Policies.{withPolicy}
 use Rattle.card.specs.Sound.{sound}
 use Rattle.card.specs.Steps.{stepTo}
 use Rattle.card.specs.Ticks.{ticksIn, ticksByPhase}
@@ -59,3 +60,54 @@ sized k p h =
     let b = leb-true (p .len) mostAid (h .sixteen) in
     let n = h .wide in
     rw (aid-length (p .len) (p .aid) (omega arith), h .five, h .sixteen)
+
+module _ (c : Card) (aid : List ℕ) (s : sound c ≡ true) where
+  abbrev t : ℕ
+  t = placeOf c aid
+
+  aid-ok : (v : ℕ) → Holds c aid t → profileAt c t .life ≡ v → eqb v 0 ≡ false → aidOk aid ≡ true
+  aid-ok v h e n = rw (← (h .named)) (sized (c .capacity) (profileAt c t) (parted c t v (parts c s) e n))
+
+  inside : Holds c aid t → t < length (c .places)
+  inside h = held-within (c .places) t (h .held-there)
+
+  off : (v : ℕ) → profileAt c t .life ≡ v → eqb v enabled ≡ false → isEnabled (profileAt c t) ≡ false
+  off v e n = rw e n
+
+pub keyed-law : KeyedLaw
+keyed-law c aid s =
+    let i = placeOf c aid in
+    on-target c aid (keyedWork c aid) (λ j. profileAt c j .life ≡ selectable) (Loaded c (λ j. withLife (profileAt c j) personalized)) s refl
+    (λ p. (not-false _ (p .1 .0), eqb-true _ _ (not-false _ (p .1 .1 .0))))
+    (λ h m.
+    ((ap not (aid-ok c aid s selectable h m refl), (ap not (h .held-there), (rw m, tt))),
+    loads c i (withLife (profileAt c i) personalized) (inside c aid s h) (sym (off c aid s selectable m refl)) (keyed-at c i (parts c s) m)))
+
+pub stored-law : StoredLaw
+stored-law c aid n s =
+    let i = placeOf c aid in
+    let p = profileOf c aid in
+    on-target c aid (storedWork c aid n) (MayStore c n) (Loaded c (λ j. withUsed (profileAt c j) (profileAt c j .used + n))) s refl
+    (λ r.
+    (not-false _ (r .1 .0),
+    record { is-personalized = eqb-true _ _ (not-false _ (r .1 .1 .0)); fits = leb-true (p .used + n) (p .quota) (not-false _ (r .1 .1 .1 .0)) }))
+    (λ h m.
+    let e = m .is-personalized in
+    let f = le-leb (p .used + n) (p .quota) (m .fits) in
+    ((ap not (aid-ok c aid s personalized h e refl), (ap not (h .held-there), (rw e, (ap not f, tt)))),
+    loads c i (withUsed p (p .used + n)) (inside c aid s h) refl (stored-at c i (p .used + n) (parts c s) e f)))
+
+pub finished-law : FinishedLaw
+finished-law c aid policy s =
+    let i = placeOf c aid in
+    let p = profileOf c aid in
+    on-target c aid (finishedWork c aid policy) (MayFinish c policy) (Loaded c (λ j. withPolicy (withLife (profileAt c j) disabled) policy)) s refl
+    (λ r.
+    let a = not-false _ (r .1 .1 .0) in
+    let k = ltb-true 0 (p .used) (and-r (eqb (p .life) personalized) _ a) in
+    (not-false _ (r .1 .0),
+    record { legal = and-r (aidOk aid) _ (not-false _ (r .0)); is-personalized = eqb-true _ _ (and-l (eqb (p .life) personalized) _ a); used-over-0 = k }))
+    (λ h m.
+    let e = m .is-personalized in
+    ((rw (aid-ok c aid s personalized h e refl, m .legal), (ap not (h .held-there), (rw (e, lt-ltb 0 (p .used) (m .used-over-0)), tt))),
+    loads c i (finish p policy) (inside c aid s h) (sym (off c aid s personalized e refl)) (finished-at c i policy (parts c s) e (m .legal))))
