@@ -1,10 +1,10 @@
 -- Where a call is taken its answer is its step's, and each kind of step that stands in the laws has the answer that they tell: a place set
 -- anew, another phase, a profile enabled over another, nothing. Assumes nothing.
-use mathlib.Core.Path.{_≡_, refl, sym, ap, subst, _∙_}
+use mathlib.Core.Path.{_≡_, refl, sym, ap, subst}
 use Prim.Native.Nat.{ℕ, _+_, _<_}
 use native.Mathlib.Omega.{arith}
 use mathlib.Core.List.{List, [], _∷_}
-use mathlib.Core.Bool.{Bool, true, false, not, cond, _&&_}
+use mathlib.Core.Bool.{Bool, true, false, not, cond}
 use lib.ListN.{length, set, length-set}
 use lib.Dec.{eqb}
 use borrow.Author.Tests.{eqb-true, eq-eqb, ne-eqb, not-false}
@@ -15,23 +15,22 @@ use Rattle.status.specs.declared.Status.the-variants.{Done}
 use Rattle.status.proofs.Tables.{Passed, proper, passed, no-row}
 use Rattle.isdp.specs.Sizes.{lastNumber}
 use Rattle.isdp.specs.Aids.{nameOf, noAid}
-use Rattle.isdp.specs.LifeCycle.{enabled, isEnabled, withLife}
+use Rattle.isdp.specs.LifeCycle.{enabled, isEnabled}
 use Rattle.isdp.specs.Place.{held}
 use Rattle.isdp.specs.declared.Isdp.{Isdp}
 use Rattle.places.specs.Places.{at, seek, enableAt}
 use Rattle.places.proofs.Lives.{enable-lives, lives-at, lives-length, enable-at, enable-one}
 use Rattle.places.proofs.Seeks.{enabled-at}
-use Rattle.card.specs.Cards.{isQuiet, placeOf, profileOf, withPlaces, withPhase, withFallback}
+use Rattle.card.specs.Cards.{isQuiet, placeOf, profileOf, withPlaces, withPhase}
 use Rattle.card.specs.Clock.{nextOf, moved}
 use Rattle.card.specs.Sound.{sound}
 use Rattle.card.specs.Steps.{stepTo}
-use Rattle.card.specs.Ticks.{stepsIn, ticksToCome, ticksIn, ticksByPhase}
+use Rattle.card.specs.Ticks.{stepsIn, ticksToCome}
 use Rattle.card.specs.Notifications.{kindOf, silent, noticeOf}
 use Rattle.card.specs.Answers.{Outcome, Work, accepted, settle, soundRow, outcome}
 use Rattle.card.specs.declared.Card.{Card}
-use Rattle.card.specs.declared.Kind.{Kind}
 use Rattle.card.specs.declared.Phase.{Phase}
-use Rattle.card.specs.declared.Phase.the-variants.{Quiet, Trial, Back, Fallen}
+use Rattle.card.specs.declared.Phase.the-variants.{Quiet}
 use Rattle.card.proofs.Counts.{counted}
 use Rattle.card.proofs.Outcomes.{took}
 use Rattle.card.proofs.Sounds.{Sound, parts}

@@ -1,8 +1,8 @@
 -- Enable and disable: the rows are the law's conditions, and a DISABLED profile is enabled over the enabled one, which is one. Assumes nothing.
-use mathlib.Core.Path.{_≡_, refl, sym, ap, subst, _∙_}
+use mathlib.Core.Path.{_≡_, refl, ap, subst, _∙_}
 use Prim.Native.Nat.{ℕ, _+_}
-use mathlib.Core.List.{List, []}
-use mathlib.Core.Bool.{Bool, true, false, not, cond, _&&_}
+use mathlib.Core.List.{[]}
+use mathlib.Core.Bool.{Bool, true, false, not, cond}
 use lib.Dec.{eqb}
 use borrow.Author.Tests.{eqb-true, eqb-false, eq-eqb, ne-eqb, not-true, not-false}
 use Rattle.isdp.specs.Sizes.{wait}
@@ -15,7 +15,7 @@ use Rattle.card.specs.Cards.{placeOf, profileOf, enabledPlace}
 use Rattle.card.specs.Clock.{nextOf, opened}
 use Rattle.card.specs.Sound.{sound}
 use Rattle.card.specs.Steps.{stepTo}
-use Rattle.card.specs.Ticks.{ticksToCome, ticksByPhase}
+use Rattle.card.specs.Ticks.{ticksByPhase}
 use Rattle.card.specs.Answers.{accepted, outcome}
 use Rattle.card.specs.declared.Card.{Card}
 use Rattle.card.specs.declared.Phase.the-variants.{Trial}
@@ -47,12 +47,14 @@ pub enable-law : EnableLaw
 enable-law c aid s e v =
     subst (λ (i : ℕ). OnPlace (Holds c aid) (MayEnable c i) (TrialEntered c i) (outcome c (askedWork c (on aid enable)))) (enabled-is c e (parts c s) v)
     (on-target c aid (askedWork c (on aid enable)) (MayEnable c (enabledPlace c)) (TrialEntered c (enabledPlace c)) s refl
-    (λ p.
-    (not-false _ (p .1 .0),
-    record { none-open = quietly (c .phase) (p .0); is-disabled = eqb-true _ _ (not-false _ (p .1 .1 .1 .0)); enabled-allows = p .1 .1 .1 .1 .0 }))
-    (λ h m.
-    ((rw (m .none-open), (ap not (h .held-there), (refl, (rw (m .is-disabled), (m .enabled-allows, (refl, (refl, tt))))))),
-    trial c (placeOf c aid) s (m .is-disabled))))
+    (λ p. (
+      not-false _ (p .1 .0),
+      record { none-open = quietly (c .phase) (p .0); is-disabled = eqb-true _ _ (not-false _ (p .1 .1 .1 .0)); enabled-allows = p .1 .1 .1 .1 .0 },
+    ))
+    (λ h m. (
+      (rw (m .none-open), (ap not (h .held-there), (refl, (rw (m .is-disabled), (m .enabled-allows, (refl, (refl, tt))))))),
+      trial c (placeOf c aid) s (m .is-disabled),
+    )))
 
 pub disable-law : DisableLaw
 disable-law c aid s =
@@ -60,16 +62,18 @@ disable-law c aid s =
     let w = parts c s in
     on-target c aid (askedWork c (on aid disable)) (MayDisable c) (λ i. TrialEntered c i (c .fallback)) s refl
     (λ p.
-    let h = not-false _ (p .1 .1 .1 .0) in
-    (not-false _ (p .1 .0),
-    record {
-      none-open = quietly (c .phase) (p .0);
-      is-enabled = eqb-true _ _ (and-l (isEnabled (profileOf c aid)) _ h);
-      not-fallback = eqb-false _ _ (not-true _ (and-r (isEnabled (profileOf c aid)) _ h));
-      allows = p .1 .1 .1 .1 .0;
-    }))
+    let h = not-false _ (p .1 .1 .1 .0) in (
+      not-false _ (p .1 .0),
+      record {
+        none-open = quietly (c .phase) (p .0);
+        is-enabled = eqb-true _ _ (and-l (isEnabled (profileOf c aid)) _ h);
+        not-fallback = eqb-false _ _ (not-true _ (and-r (isEnabled (profileOf c aid)) _ h));
+        allows = p .1 .1 .1 .1 .0;
+      },
+    ))
     (λ h m.
-    let n = ne-eqb t (c .fallback) (m .not-fallback) in
-    ((rw (m .none-open), (ap not (h .held-there), (refl, (rw (m .is-enabled, n), (m .allows, (refl, (refl, tt))))))),
-    subst (λ (i : ℕ). TrialEntered c i (c .fallback) (accepted (stepTo c (opened c (c .fallback)) noAid) [])) (enabled-is c t w (m .is-enabled))
-    (trial c (c .fallback) s (fallback-life c t w (eq-eqb _ _ (m .is-enabled)) n))))
+    let n = ne-eqb t (c .fallback) (m .not-fallback) in (
+      (rw (m .none-open), (ap not (h .held-there), (refl, (rw (m .is-enabled, n), (m .allows, (refl, (refl, tt))))))),
+      subst (λ (i : ℕ). TrialEntered c i (c .fallback) (accepted (stepTo c (opened c (c .fallback)) noAid) [])) (enabled-is c t w (m .is-enabled))
+          (trial c (c .fallback) s (fallback-life c t w (eq-eqb _ _ (m .is-enabled)) n)),
+    ))

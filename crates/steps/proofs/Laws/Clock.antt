@@ -1,16 +1,15 @@
 -- Tick and lost: no row refuses them. A tick by cases on the phase, and on whether its wait runs out; the ticks to come are the closed form
 -- of a sound card. Assumes nothing.
 use mathlib.Core.Path.{_≡_, refl, sym, ap, subst, _∙_}
-use Prim.Native.Nat.{ℕ, _+_, _-_, _<_}
+use Prim.Native.Nat.{ℕ, _+_, _-_}
 use native.Mathlib.Omega.{arith}
-use mathlib.Core.List.{List, []}
-use mathlib.Core.Bool.{Bool, true, false, not, cond, _||_, false≢true}
+use mathlib.Core.List.{[]}
+use mathlib.Core.Bool.{Bool, true, false, cond}
 use lib.Dec.{ltb, eqb}
 use borrow.Author.Tests.{eqb-true, eqb-false, eq-eqb, ne-eqb, lt-ltb, le-ltb}
-use Rattle.status.specs.declared.Status.the-variants.{Done}
 use Rattle.isdp.specs.Sizes.{wait}
 use Rattle.isdp.specs.Aids.{noAid}
-use Rattle.isdp.specs.LifeCycle.{disabled, isEnabled}
+use Rattle.isdp.specs.LifeCycle.{disabled}
 use Rattle.places.specs.Places.{at}
 use Rattle.places.proofs.Lives.{within}
 use Rattle.card.specs.Cards.{isQuiet, onFallback, withPhase}
@@ -25,7 +24,7 @@ use Rattle.card.specs.declared.Phase.{Phase}
 use Rattle.card.specs.declared.Phase.the-variants.{Quiet, Trial, Back, Fallen}
 use Rattle.card.proofs.Counts.{after, counted}
 use Rattle.card.proofs.Sounds.{Phased, Sound, parts, whole, nonzero, done-nonzero, falls, tick-sound}
-use Rattle.steps.specs.Asked.{Asked, Asked.tick, Asked.lost}
+use Rattle.steps.specs.Asked.{Asked.tick, Asked.lost}
 use Rattle.steps.specs.Steps.{askedWork}
 use Rattle.steps.specs.Laws.Answer.{profileAt, Enabled, Answers, Still, rephased, entered}
 use Rattle.steps.specs.Laws.Clock.{furtherWait, FallenEntered, TickedIn, TickLaw, LostLaw}
@@ -95,3 +94,43 @@ module _ (c : Card) (e : ℕ) (s : sound c ≡ true) (v : Enabled c e) where
         falls-by-one = λ k. let b = lt-ltb 1 left k in rw b (goes-on (Fallen (left - 1) n) (left - 1) (rw b at w) refl);
         at-zero = λ k. let b : ltb 1 left ≡ false = le-ltb 1 left (omega arith) in rw b closes;
       }
+
+pub tick-law : TickLaw
+unfolding tickStep tickOf accepted
+tick-law c s =
+    let r = step-taken c (askedWork c tick) s (refl, (refl, (refl, (refl, (refl, (refl, (refl, tt))))))) in
+    record {
+      status = ap (λ (o : Outcome). o .status) r;
+      ticked = λ e v. subst (TickedIn (c .phase) c e) (sym r) (ticked c e s v (c .phase) refl (parts c s .phased) (tick-sound c s));
+    }
+
+-- lost, where the phase and the enabled profile are known
+lost-as : (c : Card) (quiet on : Bool) → isQuiet (c .phase) ≡ quiet → onFallback c ≡ on → lostOf c ≡ cond quiet (cond on c (fallen c)) c
+unfolding lostOf
+lost-as c quiet on q f = rw (q, f)
+
+open-is : (p : Phase) → (p ≡ Quiet → ⊥) → isQuiet p ≡ false
+open-is Quiet n = absurd (n refl)
+open-is (Trial previous left number) n = refl
+open-is (Back left number) n = refl
+open-is (Fallen left number) n = refl
+
+either : (c : Card) (b : Bool) → isQuiet (c .phase) ≡ b → onFallback c ≡ true → lostOf c ≡ c
+either c true q f = lost-as c true true q f
+either c false q f = lost-as c false true q f
+
+pub lost-law : LostLaw
+unfolding lostStep accepted
+lost-law c s =
+    let w = parts c s in
+    let r = step-taken c (askedWork c lost) s (refl, (refl, (refl, (refl, (refl, (refl, (refl, tt))))))) in
+    let nothing : lostOf c ≡ c → Still c [] (outcome c (askedWork c lost)) = λ q. subst (Still c []) (sym r) (rw q (still c [] s)) in
+    record {
+      status = ap (λ (o : Outcome). o .status) r;
+      away =
+          λ e v q n.
+          let f = on-is c e w v ∙ ne-eqb e (c .fallback) n in
+          subst (FallenEntered c e) (sym r) (rw (lost-as c true false (ap isQuiet q) f) (fallen-entered c e w v));
+      on-fallback = λ v. nothing (either c (isQuiet (c .phase)) refl (eq-eqb _ _ v));
+      while-open = λ n. nothing (lost-as c false (onFallback c) (open-is (c .phase) n) refl);
+    }

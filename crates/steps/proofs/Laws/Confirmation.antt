@@ -1,9 +1,9 @@
 -- Confirmation, phase by phase: two rows are left, and the change closes with the previous profile deleted or not. Assumes nothing.
 use mathlib.Core.Path.{_≡_, refl, sym, ap, subst, _∙_}
 use Prim.Native.Nat.{ℕ}
-use mathlib.Core.List.{List, [], _∷_}
+use mathlib.Core.List.{[], _∷_}
 use mathlib.Core.Bool.{Bool, true, false, not, cond}
-use lib.ListN.{length, set, length-set}
+use lib.ListN.{set, length-set}
 use lib.Dec.{eqb}
 use borrow.Author.Tests.{eqb-true, eq-eqb, ne-eqb, not-true, not-false}
 use Rattle.status.specs.Rows.{wordOf}
@@ -13,13 +13,12 @@ use Rattle.isdp.specs.LifeCycle.{disabled}
 use Rattle.isdp.specs.Place.{vacant, held}
 use Rattle.isdp.specs.declared.Isdp.{Isdp}
 use Rattle.isdp.proofs.Placed.{placed}
-use Rattle.places.specs.Places.{at}
 use Rattle.places.proofs.Lives.{within}
 use Rattle.places.proofs.Sets.{all-at}
 use Rattle.card.specs.Cards.{isQuiet, withChange, withPhase}
 use Rattle.card.specs.Clock.{outstanding, dropped, confirmIn, confirmOf}
 use Rattle.card.specs.Sound.{sound}
-use Rattle.card.specs.Steps.{stepTo, trialGone, goneIn, confirmStep}
+use Rattle.card.specs.Steps.{stepTo, goneIn, confirmStep}
 use Rattle.card.specs.Answers.{Outcome, accepted, soundRow, outcome}
 use Rattle.card.specs.declared.Card.{Card}
 use Rattle.card.specs.declared.Phase.{Phase}
@@ -32,7 +31,7 @@ use Rattle.steps.specs.Conditions.{cardRows}
 use Rattle.steps.specs.Steps.{askedWork}
 use Rattle.steps.specs.Laws.Answer.{profileAt, element, Answers, Exactly, rephased}
 use Rattle.steps.specs.Laws.Confirmation.{closedWithout, trialConfirmed, ConfirmedIn, ConfirmationLaw}
-use Rattle.steps.proofs.Laws.Places.{held-within, set-places}
+use Rattle.steps.proofs.Laws.Places.{set-places}
 use Rattle.steps.proofs.Laws.Answer.{rows-passed, step-taken, no-notice, none-to-come, rephases}
 
 gone-bytes : (p : Isdp) → held p ≡ true → deletedResponse (nameOf p) ≡ element 0x80 (element 0x4F (aidOf p))

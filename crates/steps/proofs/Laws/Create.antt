@@ -1,12 +1,12 @@
 -- Create: the search for a free place ends at the lowest one, an AID that no place holds is not found, and in Quiet nothing is to come.
 -- By induction over the places. Assumes nothing.
 use mathlib.Core.Path.{_≡_, refl, sym, ap, subst, _∙_}
-use Prim.Native.Nat.{ℕ, zero, suc, _≤_, _<_}
+use Prim.Native.Nat.{ℕ, zero, suc, _<_}
 use native.Mathlib.Omega.{arith}
 use mathlib.Core.List.{List, [], _∷_}
-use mathlib.Core.Bool.{Bool, true, false, not, cond, _||_, false≢true}
+use mathlib.Core.Bool.{Bool, true, false, not, cond, false≢true}
 use lib.ListN.{length}
-use lib.Dec.{ltb, leb}
+use lib.Dec.{ltb}
 use borrow.Author.Tests.{ltb-true, lt-ltb, leb-true, le-leb, not-true, not-false}
 use Rattle.status.proofs.Tables.{Passed}
 use Rattle.isdp.specs.Sizes.{mostPlaces}
@@ -14,17 +14,16 @@ use Rattle.isdp.specs.LifeCycle.{selectable}
 use Rattle.isdp.specs.Place.{held, made}
 use Rattle.isdp.specs.declared.Isdp.{Isdp}
 use Rattle.isdp.proofs.Bools.{or-l, or-r}
-use Rattle.places.specs.Places.{at, seek, isFree, quotas}
+use Rattle.places.specs.Places.{at, seek, isFree}
 use Rattle.places.proofs.Seeks.{seek-below}
 use Rattle.card.specs.Cards.{placeOf, profileOf, freePlace, freeIn}
 use Rattle.card.specs.Sound.{sound}
-use Rattle.card.specs.Answers.{Outcome, accepted, outcome}
 use Rattle.card.specs.declared.Card.{Card}
-use Rattle.card.proofs.Sounds.{Sound, parts}
+use Rattle.card.proofs.Sounds.{parts}
 use Rattle.steps.specs.Asked.{Asked.create}
 use Rattle.steps.specs.Conditions.{cardRows}
-use Rattle.steps.specs.Steps.{askedWork, stepOf, responseOf}
-use Rattle.steps.specs.Laws.Answer.{profileAt, Holds, Answers, onlyAt, replaced}
+use Rattle.steps.specs.Steps.{askedWork}
+use Rattle.steps.specs.Laws.Answer.{Holds, Answers, onlyAt, replaced}
 use Rattle.steps.specs.Laws.Create.{LowestFree, MayCreate, CreateLaw}
 use Rattle.steps.proofs.Laws.Places.{place-is, holds}
 use Rattle.steps.proofs.Laws.Answer.{rows-passed, step-taken, quietly, none-to-come, rewrites}
@@ -60,13 +59,14 @@ module _ (c : Card) (aid : List ℕ) (quota : ℕ) (s : sound c ≡ true) where
       let m = w .room in
       let r = p .1 .1 .1 .1 .1 .1 .0 in
       let k = ltb-true (freePlace c) mostPlaces (not-false _ (or-l (not (ltb (freePlace c) mostPlaces)) _ r)) in
-      let q = leb-true quota (freeIn c) (not-false _ (or-r (not (ltb (freePlace c) mostPlaces)) _ r)) in
-      (omega arith,
-      record {
-        none-open = quietly (c .phase) (p .0);
-        not-held = λ i h. false≢true (sym (p .1 .1 .0) ∙ rw (place-is c aid i w h) (h .held-there));
-        room = omega arith;
-      })
+      let q = leb-true quota (freeIn c) (not-false _ (or-r (not (ltb (freePlace c) mostPlaces)) _ r)) in (
+        omega arith,
+        record {
+          none-open = quietly (c .phase) (p .0);
+          not-held = λ i h. false≢true (sym (p .1 .1 .0) ∙ rw (place-is c aid i w h) (h .held-there));
+          room = omega arith;
+        },
+      )
 
   rows-pass : freePlace c < length (c .places) → MayCreate c aid quota → Passed (cardRows c (create aid quota))
   rows-pass k m =

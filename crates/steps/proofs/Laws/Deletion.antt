@@ -1,16 +1,14 @@
 -- Delete and master delete: the rows that look at the card are the law's conditions, and the place is cleared in Quiet. Assumes nothing.
-use mathlib.Core.Path.{_≡_, refl, sym, ap, _∙_}
-use Prim.Native.Nat.{ℕ, _<_}
+use mathlib.Core.Path.{_≡_, refl, ap}
+use Prim.Native.Nat.{ℕ}
 use mathlib.Core.List.{List, [], _∷_}
-use mathlib.Core.Bool.{Bool, true, false, not, _&&_}
-use lib.ListN.{length}
+use mathlib.Core.Bool.{false, not}
 use lib.Dec.{eqb}
-use borrow.Author.Tests.{eqb-true, eqb-false, eq-eqb, ne-eqb, not-true, not-false}
+use borrow.Author.Tests.{eqb-true, eqb-false, ne-eqb, not-true, not-false}
 use Rattle.isdp.specs.LifeCycle.{disabled}
 use Rattle.isdp.specs.Place.{vacant}
 use Rattle.isdp.proofs.Bools.{and-l, and-r}
-use Rattle.card.specs.Cards.{isQuiet, placeOf, profileOf, mayBeDeleted}
-use Rattle.card.specs.Sound.{sound}
+use Rattle.card.specs.Cards.{placeOf, profileOf, mayBeDeleted}
 use Rattle.card.specs.Answers.{accepted}
 use Rattle.card.specs.declared.Card.{Card}
 use Rattle.card.specs.declared.Phase.the-variants.{Quiet}
@@ -43,17 +41,20 @@ delete-law c aid s =
     (λ p.
     let d = state c aid (p .1 .1 .1 .0) in
     (not-false _ (p .1 .0), record { none-open = quietly (c .phase) (p .0); is-disabled = d .0; not-fallback = d .1; allows = p .1 .1 .1 .1 .0 }))
-    (λ h m.
-    ((rw (m .none-open), (ap not (h .held-there), (refl, (stated c aid (m .is-disabled) (m .not-fallback), (m .allows, (refl, (refl, tt))))))),
-    clears c aid h (m .none-open)))
+    (λ h m. (
+      (rw (m .none-open), (ap not (h .held-there), (refl, (stated c aid (m .is-disabled) (m .not-fallback), (m .allows, (refl, (refl, tt))))))),
+      clears c aid h (m .none-open),
+    ))
 
 pub master-delete-law : MasterDeleteLaw
 master-delete-law c aid verdict s =
     on-target c aid (askedWork c (on aid (masterDelete verdict))) (MayMasterDelete c verdict) (Deleted c) s refl
     (λ p.
-    let d = state c aid (p .1 .1 .1 .0) in
-    (not-false _ (p .1 .0),
-    record { none-open = quietly (c .phase) (p .0); is-disabled = d .0; not-fallback = d .1; verified = eqb-true _ _ (not-false _ (p .1 .1 .1 .1 .1 .0)) }))
-    (λ h m.
-    ((rw (m .none-open), (ap not (h .held-there), (refl, (stated c aid (m .is-disabled) (m .not-fallback), (refl, (rw (m .verified), (refl, tt))))))),
-    clears c aid h (m .none-open)))
+    let d = state c aid (p .1 .1 .1 .0) in (
+      not-false _ (p .1 .0),
+      record { none-open = quietly (c .phase) (p .0); is-disabled = d .0; not-fallback = d .1; verified = eqb-true _ _ (not-false _ (p .1 .1 .1 .1 .1 .0)) },
+    ))
+    (λ h m. (
+      (rw (m .none-open), (ap not (h .held-there), (refl, (stated c aid (m .is-disabled) (m .not-fallback), (refl, (rw (m .verified), (refl, tt))))))),
+      clears c aid h (m .none-open),
+    ))

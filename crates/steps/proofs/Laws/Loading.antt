@@ -1,16 +1,15 @@
 -- Keyed, stored and finished: a held AID has 5 to 16 bytes, so that the rows are the law's conditions; the profile was not enabled and is
 -- not, so the clock runs on. Assumes nothing.
 use mathlib.Core.Path.{_≡_, refl, sym, ap, _∙_}
-use Prim.Native.Nat.{ℕ, _+_, _≤_, _<_, min}
+use Prim.Native.Nat.{ℕ, _+_, _≤_, _<_}
 use native.Mathlib.Omega.{arith}
 use mathlib.Core.List.{List, []}
-use mathlib.Core.Bool.{Bool, true, false, not, _&&_}
+use mathlib.Core.Bool.{true, false, not}
 use lib.ListN.{length, take, set, length-take}
-use lib.Dec.{leb, ltb, eqb}
-use borrow.Author.Tests.{eqb-true, eq-eqb, leb-true, le-leb, ltb-true, lt-ltb, not-false}
+use lib.Dec.{eqb}
+use borrow.Author.Tests.{eqb-true, leb-true, le-leb, ltb-true, lt-ltb, not-false}
 use Rattle.isdp.specs.Sizes.{leastAid, mostAid}
 use Rattle.isdp.specs.Aids.{aidOk, aidOf, noAid}
-use Rattle.isdp.specs.Policy.{policyOk}
 use Rattle.isdp.specs.LifeCycle.{selectable, personalized, disabled, enabled, isEnabled, withLife, withUsed, finish}
 use Rattle.isdp.specs.declared.Isdp.{Isdp}
 use Rattle.isdp.proofs.Bools.{and-l, and-r}
@@ -79,23 +78,26 @@ keyed-law c aid s =
     let i = placeOf c aid in
     on-target c aid (keyedWork c aid) (λ j. profileAt c j .life ≡ selectable) (Loaded c (λ j. withLife (profileAt c j) personalized)) s refl
     (λ p. (not-false _ (p .1 .0), eqb-true _ _ (not-false _ (p .1 .1 .0))))
-    (λ h m.
-    ((ap not (aid-ok c aid s selectable h m refl), (ap not (h .held-there), (rw m, tt))),
-    loads c i (withLife (profileAt c i) personalized) (inside c aid s h) (sym (off c aid s selectable m refl)) (keyed-at c i (parts c s) m)))
+    (λ h m. (
+      (ap not (aid-ok c aid s selectable h m refl), (ap not (h .held-there), (rw m, tt))),
+      loads c i (withLife (profileAt c i) personalized) (inside c aid s h) (sym (off c aid s selectable m refl)) (keyed-at c i (parts c s) m),
+    ))
 
 pub stored-law : StoredLaw
 stored-law c aid n s =
     let i = placeOf c aid in
     let p = profileOf c aid in
     on-target c aid (storedWork c aid n) (MayStore c n) (Loaded c (λ j. withUsed (profileAt c j) (profileAt c j .used + n))) s refl
-    (λ r.
-    (not-false _ (r .1 .0),
-    record { is-personalized = eqb-true _ _ (not-false _ (r .1 .1 .0)); fits = leb-true (p .used + n) (p .quota) (not-false _ (r .1 .1 .1 .0)) }))
+    (λ r. (
+      not-false _ (r .1 .0),
+      record { is-personalized = eqb-true _ _ (not-false _ (r .1 .1 .0)); fits = leb-true (p .used + n) (p .quota) (not-false _ (r .1 .1 .1 .0)) },
+    ))
     (λ h m.
     let e = m .is-personalized in
-    let f = le-leb (p .used + n) (p .quota) (m .fits) in
-    ((ap not (aid-ok c aid s personalized h e refl), (ap not (h .held-there), (rw e, (ap not f, tt)))),
-    loads c i (withUsed p (p .used + n)) (inside c aid s h) refl (stored-at c i (p .used + n) (parts c s) e f)))
+    let f = le-leb (p .used + n) (p .quota) (m .fits) in (
+      (ap not (aid-ok c aid s personalized h e refl), (ap not (h .held-there), (rw e, (ap not f, tt)))),
+      loads c i (withUsed p (p .used + n)) (inside c aid s h) refl (stored-at c i (p .used + n) (parts c s) e f),
+    ))
 
 pub finished-law : FinishedLaw
 finished-law c aid policy s =
@@ -104,10 +106,12 @@ finished-law c aid policy s =
     on-target c aid (finishedWork c aid policy) (MayFinish c policy) (Loaded c (λ j. withPolicy (withLife (profileAt c j) disabled) policy)) s refl
     (λ r.
     let a = not-false _ (r .1 .1 .0) in
-    let k = ltb-true 0 (p .used) (and-r (eqb (p .life) personalized) _ a) in
-    (not-false _ (r .1 .0),
-    record { legal = and-r (aidOk aid) _ (not-false _ (r .0)); is-personalized = eqb-true _ _ (and-l (eqb (p .life) personalized) _ a); used-over-0 = k }))
+    let k = ltb-true 0 (p .used) (and-r (eqb (p .life) personalized) _ a) in (
+      not-false _ (r .1 .0),
+      record { legal = and-r (aidOk aid) _ (not-false _ (r .0)); is-personalized = eqb-true _ _ (and-l (eqb (p .life) personalized) _ a); used-over-0 = k },
+    ))
     (λ h m.
-    let e = m .is-personalized in
-    ((rw (aid-ok c aid s personalized h e refl, m .legal), (ap not (h .held-there), (rw (e, lt-ltb 0 (p .used) (m .used-over-0)), tt))),
-    loads c i (finish p policy) (inside c aid s h) (sym (off c aid s personalized e refl)) (finished-at c i policy (parts c s) e (m .legal))))
+    let e = m .is-personalized in (
+      (rw (aid-ok c aid s personalized h e refl, m .legal), (ap not (h .held-there), (rw (e, lt-ltb 0 (p .used) (m .used-over-0)), tt))),
+      loads c i (finish p policy) (inside c aid s h) (sym (off c aid s personalized e refl)) (finished-at c i policy (parts c s) e (m .legal)),
+    ))

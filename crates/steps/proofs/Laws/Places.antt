@@ -7,20 +7,20 @@ use mathlib.Core.List.{List, [], _∷_}
 use mathlib.Core.Bool.{Bool, true, false, not, cond, false≢true}
 use lib.ListN.{length, set}
 use lib.Seq.{getD-set-same, getD-set-other}
-use lib.Dec.{ltb, eqb}
-use borrow.Author.Tests.{eqb-true, eqb-false, eq-eqb, ne-eqb, ltb-true, ltb-false, not-true}
-use Rattle.isdp.specs.Aids.{sameBytes, aidOf}
-use Rattle.isdp.specs.LifeCycle.{disabled, enabled, isEnabled, withLife, off}
+use lib.Dec.{eqb}
+use borrow.Author.Tests.{eqb-true, eqb-false, eq-eqb, not-true}
+use Rattle.isdp.specs.Aids.{aidOf}
+use Rattle.isdp.specs.LifeCycle.{disabled, enabled, isEnabled, withLife}
 use Rattle.isdp.specs.Place.{vacant, held, isFor, clash}
 use Rattle.isdp.specs.declared.Isdp.{Isdp}
 use Rattle.isdp.proofs.Alike.{same-true, same-self}
-use Rattle.isdp.proofs.Bools.{and-l, and-r, both, or-l, or-r}
+use Rattle.isdp.proofs.Bools.{and-l, and-r, or-l, or-r}
 use Rattle.places.specs.Places.{at, seek, anyOf, distinct, countOf, enableAt}
 use Rattle.places.proofs.Lives.{enable-at, enable-other, enable-lives, lives-at}
-use Rattle.places.proofs.Seeks.{past, seek-below}
+use Rattle.places.proofs.Seeks.{seek-below}
 use Rattle.card.specs.Cards.{placeOf, profileOf}
 use Rattle.card.specs.declared.Card.{Card}
-use Rattle.card.proofs.Sounds.{Sound, nonzero}
+use Rattle.card.proofs.Sounds.{Sound}
 use Rattle.steps.specs.Laws.Answer.{profileAt, Holds, onlyAt, traded}
 use Rattle.steps.proofs.Opens.{only}
 

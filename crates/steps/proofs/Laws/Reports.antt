@@ -1,25 +1,21 @@
 -- GET STATUS and GET DATA: no row refuses them but "target AID not held", and the rows of the response, one after the other, are those of
 -- the places from the lowest. By induction over the places. Assumes nothing.
 use mathlib.Core.Path.{_≡_, refl, sym, ap, subst, _∙_}
-use Prim.Native.Nat.{ℕ, zero, suc, _+_}
+use Prim.Native.Nat.{ℕ, suc, _+_}
 use native.Mathlib.Omega.{arith}
 use mathlib.Core.List.{List, [], _∷_, _++_, append-assoc, append-nil}
-use mathlib.Core.Bool.{Bool, true, false, not, cond}
+use mathlib.Core.Bool.{Bool, true, not, cond}
 use lib.ListN.{length}
 use borrow.Author.Tests.{not-false}
-use Rattle.isdp.specs.Aids.{noAid}
 use Rattle.isdp.specs.Place.{held}
 use Rattle.isdp.specs.declared.Isdp.{Isdp}
 use Rattle.places.specs.Places.{at}
-use Rattle.card.specs.Cards.{placeOf, profileOf}
-use Rattle.card.specs.Sound.{sound}
-use Rattle.card.specs.Steps.{stepTo}
-use Rattle.card.specs.Answers.{accepted}
+use Rattle.card.specs.Cards.{placeOf}
 use Rattle.card.specs.declared.Card.{Card}
 use Rattle.responses.specs.Responses.{markOf, statusBody, statusRow, rowOf, rowsFrom, statusResponse, oneStatus, dataResponse}
 use Rattle.steps.specs.Asked.{Act.status, Asked.on, Asked.statusOfAll, Asked.getData}
 use Rattle.steps.specs.Steps.{askedWork}
-use Rattle.steps.specs.Laws.Answer.{profileAt, Holds, Still}
+use Rattle.steps.specs.Laws.Answer.{profileAt, Still}
 use Rattle.steps.specs.Laws.Reports.{statusAt, statusBelow, StatusOfAllLaw, StatusOfOneLaw, GetDataLaw}
 use Rattle.steps.proofs.Laws.Answer.{on-target, step-taken, still}
 
@@ -58,8 +54,10 @@ pub status-of-one-law : StatusOfOneLaw
 status-of-one-law c aid life mark s =
     on-target c aid (askedWork c (on aid (status life mark))) (λ t. Unit {0}) (λ t. Still c (statusAt c life mark t)) s refl
     (λ p. (not-false _ (p .1 .0), tt))
-    (λ h m. ((refl, (ap not (h .held-there), (refl, (refl, (refl, (refl, (refl, tt))))))),
-    rw (one-bytes c (placeOf c aid) life mark (h .held-there)) (still c (statusAt c life mark (placeOf c aid)) s)))
+    (λ h m. (
+      (refl, (ap not (h .held-there), (refl, (refl, (refl, (refl, (refl, tt))))))),
+      rw (one-bytes c (placeOf c aid) life mark (h .held-there)) (still c (statusAt c life mark (placeOf c aid)) s),
+    ))
 
 pub get-data-law : GetDataLaw
 unfolding dataResponse

@@ -2,13 +2,11 @@
 -- disabled and it is not the fall-back. Response as in 000." (Table 63: 80 with 4F of the deleted ISD-P, where there is one.)
 use Prim.Native.Nat.{ℕ}
 use mathlib.Core.Path.{_≡_}
-use mathlib.Core.List.{List}
 use mathlib.Core.Bool.{true, cond, not, _&&_}
 use lib.Dec.{eqb}
 use Rattle.isdp.specs.Aids.{aidOf}
 use Rattle.isdp.specs.Policy.{onceDisabled}
 use Rattle.isdp.specs.Place.{vacant}
-use Rattle.isdp.specs.declared.Isdp.{Isdp}
 use Rattle.card.specs.Sound.{sound}
 use Rattle.card.specs.Notifications.{silent}
 use Rattle.card.specs.Answers.{Outcome, outcome}
