@@ -19,16 +19,14 @@ use Rattle.card.specs.Answers.{refused, accepted}
 use Rattle.card.specs.Fresh.{freshOutcome}
 use Rattle.card.specs.declared.Card.{Card}
 use Rattle.card.proofs.Sounds.{parts, done-nonzero}
-use Rattle.card.proofs.Outcomes.{took}
 use Rattle.card.proofs.Freshness.{fresh-sound}
-use Rattle.steps.specs.Steps.{stepOf, responseOf}
-use Rattle.manager.specs.Calls.{asked}
 use Rattle.manager.specs.Table.{table}
 use Rattle.manager.specs.Manager.{step, run, answers}
 use Rattle.manager.proofs.Runs.{run-parts, answers-parts}
 use Rattle.manager.proofs.Kept.{step-sound, run-sound}
-use Rattle.demands.specs.Demand2.{NoneHolds, First, FirstRow, OnlyFirstRow, Otherwise, OnlyOtherwise, Takes, FreshTaken, FreshRefused, Answered, Makes, Standing, FromFresh, Demand2}
+use Rattle.demands.specs.Demand2.{NoneHolds, First, FirstRow, OnlyFirstRow, Otherwise, OnlyOtherwise, Takes, FreshTaken, FreshRefused, RunAnswered, Makes, Standing, FromFresh, Demand2}
 use Rattle.demands.proofs.Words.{word-is, done-as}
+use Rattle.demands.proofs.Taken.{takes-step}
 
 -- the two ways to say that no row holds
 to-passed : (rows : List Row) → NoneHolds rows → tables.Passed rows
@@ -66,8 +64,7 @@ pub only-otherwise : OnlyOtherwise
 only-otherwise c call e = from-passed (table c call) (tables.passed (table c call) refl (done-as c call true (ap isDone e)))
 
 pub takes : Takes
-unfolding step
-takes c call e = took c (wordOf (table c call)) (stepOf c (asked c call)) (responseOf c (asked c call)) (ap isDone e) .1
+takes c call e = takes-step c call (ap isDone e)
 
 pub fresh-taken : FreshTaken
 unfolding freshOutcome wordOf accepted ticksToCome stepsIn noticeOf
@@ -77,7 +74,7 @@ pub fresh-refused : FreshRefused
 unfolding freshOutcome wordOf refused sound
 fresh-refused eid aid capacity quota used volatile e = rw e
 
-pub answered : Answered
+pub answered : RunAnswered
 unfolding run answers
 answered c before call after = rw (run-parts c before (call ∷ [])) (answers-parts c before (call ∷ after))
 

@@ -32,7 +32,7 @@ unfolding reached
 reached-more [] call calls c = reached-run calls (step c call .card)
 reached-more (x ∷ past) call calls c = reached-more past call calls (step c x .card)
 
-reached-sound : (x : Inputs) → isDone (freshOf x .status) ≡ true → (past : List Call) → sound (cardAfter manager x past) ≡ true
+pub reached-sound : (x : Inputs) → isDone (freshOf x .status) ≡ true → (past : List Call) → sound (cardAfter manager x past) ≡ true
 reached-sound x a past =
     rw (reached-run past (freshOf x .card))
     (run-sound (freshOf x .card) past (fresh-sound (x .eid) (x .aid) (x .capacity) (x .quota) (x .used) (x .volatile) a))
@@ -59,10 +59,10 @@ manager-meets =
     record {
       fresh = λ x. refl;
       demand2 = λ x a past call. record { status = refl; response = refl; notification = refl; card = refl };
-      demand3 = λ x a past call wanted q o.
+      demand3 = λ x a past call wanted o.
           retold wanted _ _ _ (run (step (cardAfter manager x past) call .card)) (λ calls. cardAfter manager x (past ++ call ∷ calls))
           (λ calls. sym (reached-more past call calls (freshOf x .card)))
-          (demand-3 (cardAfter manager x past) call wanted (reached-sound x a past) q o);
+          (demand-3 (cardAfter manager x past) call wanted o);
       lost = λ x a past q b.
           lost-retold _ (run (step (cardAfter manager x past) Lost .card)) (λ calls. cardAfter manager x (past ++ Lost ∷ calls))
           (λ calls. sym (reached-more past Lost calls (freshOf x .card)))

@@ -43,6 +43,10 @@ use Rattle.demands.specs.Change.{taken, isTick, isConfirmation, Unmoved,
 pub card-passed : (c : Card) (call : Call) → taken c call ≡ true → Passed (cardRows c (asked c call))
 card-passed c call e = passed (table c call) refl e .1 .1 .1 .1 .1 .1 .1 .1
 
+-- an accepted call was made on a sound card
+pub taken-sound : (c : Card) (call : Call) → taken c call ≡ true → sound c ≡ true
+taken-sound c call e = not-false _ (passed (table c call) refl e .0)
+
 pub same : (c : Card) → Unmoved c c
 same c = record { phase = refl; enabled = λ i. refl; named = λ i. refl; fallback = refl; last = refl }
 
@@ -148,23 +152,24 @@ pub record Closed (c d : Card) : Type 0 where
   pub enabled : (i : ℕ) → isEnabled (at (d .places) i) ≡ isEnabled (at (c .places) i)
   pub named : (i : ℕ) → isEnabled (at (d .places) i) ≡ true → nameOf (at (d .places) i) ≡ nameOf (at (c .places) i)
   pub fallback : d .fallback ≡ c .fallback
+  pub last : d .last ≡ c .last
 
 calm : (c : Card) → Closed c (withPhase c Quiet)
-calm c = record { quiet = refl; enabled = λ i. refl; named = λ i e. refl; fallback = refl }
+calm c = record { quiet = refl; enabled = λ i. refl; named = λ i e. refl; fallback = refl; last = refl }
 
--- the place that is emptied is not enabled
-clear-named : (l : List Isdp) (q i : ℕ) → isEnabled (at (set l q vacant) i) ≡ true → nameOf (at (set l q vacant) i) ≡ nameOf (at l i)
-clear-named [] q i e = refl
-clear-named (p ∷ ps) zero zero e = absurd (false≢true e)
-clear-named (p ∷ ps) zero (suc i) e = refl
-clear-named (p ∷ ps) (suc q) zero e = refl
-clear-named (p ∷ ps) (suc q) (suc i) e = clear-named ps q i e
+-- a place rewritten that is not enabled then: those that are keep their AIDs
+pub enabled-named : (x : Isdp) → isEnabled x ≡ false → (l : List Isdp) (q i : ℕ) → isEnabled (at (set l q x) i) ≡ true → nameOf (at (set l q x) i) ≡ nameOf (at l i)
+enabled-named x n [] q i e = refl
+enabled-named x n (p ∷ ps) zero zero e = absurd (false≢true (sym n ∙ e))
+enabled-named x n (p ∷ ps) zero (suc i) e = refl
+enabled-named x n (p ∷ ps) (suc q) zero e = refl
+enabled-named x n (p ∷ ps) (suc q) (suc i) e = enabled-named x n ps q i e
 
 confirm-closes : (c : Card) (p : Phase) → Phased p c → Closed c (confirmIn p c)
 confirm-closes c Quiet h = calm c
 confirm-closes c (Trial q l m) h =
     choose (Closed c) (dropped c q) _ _
-    (λ b. record { quiet = refl; enabled = set-enabled vacant (c .places) q (rw (h .1)); named = clear-named (c .places) q; fallback = refl })
+    (λ b. record { quiet = refl; enabled = set-enabled vacant (c .places) q (rw (h .1)); named = enabled-named vacant refl (c .places) q; fallback = refl; last = refl })
     (λ b. calm c)
 confirm-closes c (Back l m) h = calm c
 confirm-closes c (Fallen l m) h = calm c

@@ -39,15 +39,15 @@ use Rattle.steps.specs.Asked.{Act, Act.enable, Act.disable, Act.delete, Act.mas
 use Rattle.steps.specs.Conditions.{cardRows}
 use Rattle.steps.specs.Steps.{stepOf, actStep, responseOf}
 use Rattle.steps.proofs.Kept.{Legal}
-use Rattle.manager.specs.Calls.{Call, Call.Command, Call.Keyed, Call.Stored, Call.Finished, Call.Tick, Call.Lost, asked}
+use Rattle.manager.specs.Calls.{Call, asked, askedOf}
 use Rattle.manager.specs.Table.{table}
 use Rattle.manager.specs.Manager.{step, run}
 use Rattle.manager.proofs.Kept.{legal, step-sound}
 use Rattle.demands.specs.Inputs.{Inputs, freshOf}
 use Rattle.demands.specs.Said.{said, Exchange, exchanges}
-use Rattle.demands.specs.Free.{Made, without, afterConfirm, afterAct, afterAsked, askedOf, after, history, room, first, FreeIsCounted}
+use Rattle.demands.specs.Free.{Made, without, afterConfirm, afterAct, afterAsked, madeAfter, history, room, first, FreeIsCounted}
 use Rattle.demands.proofs.Words.{done-as}
-use Rattle.demands.proofs.Taken.{hands-back, taken}
+use Rattle.demands.proofs.Taken.{hands-back, takes-step}
 use Rattle.demands.proofs.Others.{held-within, tick-lives, lost-lives}
 use Rattle.demands.proofs.Tallies.{sumMade, sumHeld, Tally, lives-tally, alike-tally, made-weight, create-tally, delete-tally, tally-room, bears-own}
 
@@ -147,14 +147,6 @@ module _ (c : Card) (s : Sound c) (ms : List Made) (t : Tally ms (c .places)) wh
   asks-tally tick g p = lives-tally ms (tick-lives c) t
   asks-tally lost g p = lives-tally ms (lost-lives c) t
 
-asked-of : (c : Card) (call : Call) → askedOf (c .capacity) call ≡ asked c call
-asked-of c (Command verdict s room) = refl
-asked-of c (Keyed aid) = refl
-asked-of c (Stored aid n) = refl
-asked-of c (Finished aid policy) = refl
-asked-of c Tick = refl
-asked-of c Lost = refl
-
 accepted-response : (c : Card) (a : Asked) → accepted (stepOf c a) (responseOf c a) .response ≡ responseOf c a
 unfolding accepted
 accepted-response c a = refl
@@ -168,12 +160,12 @@ done-tally c call ms true e s t =
     let p = passed (table c call) refl (done-as c call true e) in
     let v = p .1 .1 .1 .1 .1 .1 .1 in
     let x = asked c call in
-    rw (asked-of c call, taken c call e, accepted-card (stepOf c x) (responseOf c x), accepted-response c x)
+    rw (takes-step c call e, accepted-card (stepOf c x) (responseOf c x), accepted-response c x)
     (asks-tally c (parts c s) ms t x (legal c call (v .0)) (v .1))
 done-tally c call ms false e s t =
     hands-back c call (λ d. Tally ms (d .places)) (λ f. absurd (false≢true (sym e ∙ f))) t
 
-pub step-tally : (c : Card) (call : Call) (ms : List Made) → sound c ≡ true → Tally ms (c .places) → Tally (after (c .capacity) (exchanged c call) ms) (step c call .card .places)
+pub step-tally : (c : Card) (call : Call) (ms : List Made) → sound c ≡ true → Tally ms (c .places) → Tally (madeAfter (c .capacity) (exchanged c call) ms) (step c call .card .places)
 step-tally c call ms s t = done-tally c call ms (isDone (step c call .status)) refl s t
 
 run-free : (calls : List Call) (c : Card) (capacity : ℕ) (ms : List Made) → c .capacity ≡ capacity → sound c ≡ true → Tally ms (c .places) → (freeIn (run c calls) ≡ capacity - room (history capacity ms (exchanges c calls))) × (room (history capacity ms (exchanges c calls)) ≤ capacity)
@@ -182,8 +174,8 @@ run-free [] c capacity ms e s t =
     let r = tally-room (c .capacity) ms (c .places) (parts c s .each) t in
     (rw (r, e), rw (r, ← e) (parts c s .room))
 run-free (call ∷ calls) c capacity ms e s t =
-    run-free calls (step c call .card) capacity (after capacity (exchanged c call) ms) (capacity-kept c call ∙ e) (step-sound c call s)
-    (subst (λ k. Tally (after k (exchanged c call) ms) (step c call .card .places)) e (step-tally c call ms s t))
+    run-free calls (step c call .card) capacity (madeAfter capacity (exchanged c call) ms) (capacity-kept c call ∙ e) (step-sound c call s)
+    (subst (λ k. Tally (madeAfter k (exchanged c call) ms) (step c call .card .places)) e (step-tally c call ms s t))
 
 -- the card that fresh makes
 abbrev cardOf : Inputs → Card
@@ -193,7 +185,7 @@ fresh-tally : (x : Inputs) → aidOk (x .aid) ≡ true → Tally (first x) (card
 unfolding sumMade sumHeld
 fresh-tally x ok w = rw (made-weight (x .aid) enabled (x .quota) (x .used) ok w)
 
-fresh-is : (x : Inputs) → isDone (freshOf x .status) ≡ true → (aidOk (x .aid) ≡ true) × (freshOf x .card ≡ cardOf x)
+pub fresh-is : (x : Inputs) → isDone (freshOf x .status) ≡ true → (aidOk (x .aid) ≡ true) × (freshOf x .card ≡ cardOf x)
 unfolding freshOutcome
 fresh-is x h =
     let rows = row (not (freshOk (x .eid) (x .aid) (x .capacity) (x .quota) (x .used))) DataWrong ∷ [] in

@@ -3,7 +3,7 @@
 use mathlib.Core.Path.{_≡_, refl, ap, _∙_}
 use Prim.Native.Nat.{ℕ}
 use mathlib.Core.List.{List, [], _∷_, _++_}
-use mathlib.Core.Bool.{Bool, true, false, not, cond, _&&_, false≢true}
+use mathlib.Core.Bool.{Bool, true, false, not, cond, _&&_, _||_, false≢true}
 use lib.Dec.{ltb}
 use Rattle.isdp.specs.Aids.{aidOf, nameOf}
 use Rattle.isdp.specs.declared.Aid.{Aid}
@@ -22,7 +22,7 @@ use Rattle.steps.proofs.Opens.{only}
 use Rattle.manager.specs.Calls.{Call, Call.Command, Call.Keyed, Call.Stored, Call.Finished, Call.Tick, Call.Lost, asked}
 use Rattle.manager.specs.Manager.{step, run}
 use Rattle.manager.proofs.Kept.{step-sound, run-sound}
-use Rattle.demands.specs.Change.{enabledAid, isTick, isConfirmation, confirms, ticksAmong, staysOpen, heir, Change, LostChange}
+use Rattle.demands.specs.Change.{enabledAid, isTick, isConfirmation, confirms, ticksAmong, staysOpen, heir, Unmoved, Change, LostChange}
 use Rattle.demands.proofs.Frames.{frame, tick-step, confirm-does}
 use Rattle.demands.proofs.Changes.{Holds, closingTick, Course, LostCourse}
 
@@ -94,7 +94,7 @@ close-case c call false e s o i h = step-named c call s o e i
 abbrev bytesOf : Aid → List ℕ
 bytesOf a = aidOf (record { aid = a .bytes; len = a .len; life = 0; quota = 0; used = 0; policy = 0 })
 
-aid-enabled : (c d : Card) (i : ℕ) → sound d ≡ true → Holds d i → nameOf (at (d .places) i) ≡ nameOf (at (c .places) i) → enabledAid d ≡ aidOf (at (c .places) i)
+pub aid-enabled : (c d : Card) (i : ℕ) → sound d ≡ true → Holds d i → nameOf (at (d .places) i) ≡ nameOf (at (c .places) i) → enabledAid d ≡ aidOf (at (c .places) i)
 aid-enabled c d i s h n =
     ap (λ (j : ℕ). aidOf (at (d .places) j)) (only (d .places) (enabledPlace d) i (parts d s .one) (enabled-at (d .places) (parts d s .one)) h)
     ∙ ap bytesOf n
@@ -130,6 +130,13 @@ module _ (c d : Card) (s : sound d ≡ true) (o : isQuiet (d .phase) ≡ false) 
       aid-enabled c (step (run d calls) call .card) i (step-sound (run d calls) call k) h
       (close-case (run d calls) call (confirms (run d calls) call) refl k (still-open calls d o e) i h ∙ open-named calls d s o e i ∙ n i)
 
+  confirmed-quiet : (calls : List Call) (call : Call) → staysOpen (run d) calls ≡ true → confirms (run d calls) call ≡ true → isQuiet (run d (calls ++ call ∷ []) .phase) ≡ true
+  confirmed-quiet calls call e q =
+      rw (run-snoc calls call d, confirm-does (run d calls) call (run-sound d calls s) (and-l (isConfirmation (asked (run d calls) call)) _ q) (and-r (isConfirmation (asked (run d calls) call)) _ q) .quiet)
+
+  others-still : (calls : List Call) (call : Call) → staysOpen (run d) calls ≡ true → (isTick call || confirms (run d calls) call) ≡ false → Unmoved (run d calls) (run d (calls ++ call ∷ []))
+  others-still calls call e q = rw (run-snoc calls call d) (frame (run d calls) call (run-sound d calls s) (still-open calls d o e) q)
+
   pub change-named : (g p f : ℕ) → Course g p f d → Change (t g) (t p) (t f) (closingTick p f) (run d)
   unfolding run
   change-named g p f x =
@@ -139,8 +146,8 @@ module _ (c d : Card) (s : sound d ≡ true) (o : isQuiet (d .phase) ≡ false) 
         meanwhile = λ calls e. after-aid calls _ e (x .meanwhile calls e) ∙ holder-aid t g p f (ltb (ticksAmong calls) 10) (ltb (ticksAmong calls) 20);
         close = λ calls call e q. rw (run-snoc calls call d) (close-aid calls call _ e (x .close calls call e (rw (run-snoc calls call d) at q)) ∙ heir-aid t g p f (ticksAmong calls) (confirms (run d calls) call));
         due = λ calls e q. x .due calls e (rw (run-snoc calls Tick d) at q);
-        confirmed = λ calls call e q. rw (run-snoc calls call d, confirm-does (run d calls) call (run-sound d calls s) (and-l (isConfirmation (asked (run d calls) call)) _ q) (and-r (isConfirmation (asked (run d calls) call)) _ q) .quiet);
-        still = λ calls call e q. rw (run-snoc calls call d) (frame (run d calls) call (run-sound d calls s) (still-open calls d o e) q);
+        confirmed = confirmed-quiet;
+        still = others-still;
       }
 
   pub lost-named : (f : ℕ) → LostCourse f d → LostChange (t f) (run d)
@@ -152,4 +159,6 @@ module _ (c d : Card) (s : sound d ≡ true) (o : isQuiet (d .phase) ≡ false) 
         throughout = λ calls e. after-aid calls f e (x .throughout calls e);
         close = λ calls call e q. rw (run-snoc calls call d) (close-aid calls call f e (x .close calls call e (rw (run-snoc calls call d) at q)));
         due = λ calls e q. x .due calls e (rw (run-snoc calls Tick d) at q);
+        confirmed = confirmed-quiet;
+        still = others-still;
       }

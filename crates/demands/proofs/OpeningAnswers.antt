@@ -44,7 +44,7 @@ new-case : (n : ℕ) (b : Bool) → eqb n lastNumber ≡ b → cond b 0 (n + 1) 
 new-case n true e q = let h = eqb-true n lastNumber e in omega arith
 new-case n false e q = omega arith
 
-new-number : (n : ℕ) → eqb (nextOf n) n ≡ false
+pub new-number : (n : ℕ) → eqb (nextOf n) n ≡ false
 new-number n = ne-eqb _ _ (new-case n (eqb n lastNumber) refl)
 
 ticks-case : (b : Bool) → wait + wait + cond b 0 wait ≡ cond b 20 30

@@ -30,7 +30,7 @@ use Rattle.manager.specs.Calls.{Call.Lost}
 use Rattle.manager.specs.Manager.{step, run}
 use Rattle.manager.proofs.Kept.{step-sound}
 use Rattle.demands.specs.Change.{enabledAid, fallbackAid, Opens.enables, Opens.disables, lastTick, Change, Demand3, LostNetwork}
-use Rattle.demands.proofs.Frames.{card-passed, taken-step}
+use Rattle.demands.proofs.Frames.{card-passed, taken-sound, taken-step}
 use Rattle.demands.proofs.Changes.{closingTick, Opened, opened-course, lost-course}
 use Rattle.demands.proofs.Named.{Named, change-named, lost-named}
 
@@ -82,11 +82,13 @@ change-of c t s o =
     rw (last-tick c s) at (change-named c (opened c t) (o .still) refl (opened-named c t) t (enabledPlace c) (c .fallback) (opened-course t (enabledPlace c) (c .fallback) (opened c t) o))
 
 pub demand-3 : Demand3
-demand-3 c call _ s q (enables aid a e) =
+demand-3 c call _ (enables aid a e) =
+    let s = taken-sound c call e in
     let p : Passed (cardRows c (on aid enable)) = rw a at (card-passed c call e) in
     let f = found-aid c aid (eqb-true _ _ (not-false _ (p .1 .1 .1 .0))) in
     rw (taken-step c call e, a) (rw f at (change-of c (placeOf c aid) s (enable-opens c aid s p)))
-demand-3 c call _ s q (disables aid a e) =
+demand-3 c call _ (disables aid a e) =
+    let s = taken-sound c call e in
     let p : Passed (cardRows c (on aid disable)) = rw a at (card-passed c call e) in
     rw (taken-step c call e, a) (change-of c (c .fallback) s (disable-opens c aid s p))
 

@@ -30,7 +30,7 @@ use Rattle.steps.specs.Steps.{stepOf, actStep, responseOf}
 use Rattle.manager.specs.Calls.{asked}
 use Rattle.manager.specs.Manager.{step}
 use Rattle.demands.specs.Others.{AsItWas, targets, leaves, leavesIn, OthersUntouched, SaveTheDeletion}
-use Rattle.demands.proofs.Taken.{hands-back, taken}
+use Rattle.demands.proofs.Taken.{hands-back, takes-step}
 
 pub lives-same : (l : List Isdp) → Lives l l
 lives-same [] = ended
@@ -164,4 +164,4 @@ pub save-the-deletion : SaveTheDeletion
 save-the-deletion c call j e =
     let d = and-l (isDone (step c call .status)) _ e in
     let r = and-r (isDone (step c call .status)) (leaves c (asked c call) j) e in
-    rw (taken c call d, accepted-card (stepOf c (asked c call)) (responseOf c (asked c call))) (asks-gone c j (asked c call) r)
+    rw (takes-step c call d, accepted-card (stepOf c (asked c call)) (responseOf c (asked c call))) (asks-gone c j (asked c call) r)

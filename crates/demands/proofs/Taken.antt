@@ -18,6 +18,6 @@ module _ (c : Card) (call : Call) where
   hands-back P f g = decide-card P c (wordOf (table c call)) (stepOf c (asked c call)) (responseOf c (asked c call)) (λ e. f (rw (word-is c call) e)) g
 
   -- an accepted call takes its step
-  pub taken : isDone (step c call .status) ≡ true → step c call ≡ accepted (stepOf c (asked c call)) (responseOf c (asked c call))
+  pub takes-step : isDone (step c call .status) ≡ true → step c call ≡ accepted (stepOf c (asked c call)) (responseOf c (asked c call))
   unfolding step
-  taken e = took c (wordOf (table c call)) (stepOf c (asked c call)) (responseOf c (asked c call)) e .1
+  takes-step e = took c (wordOf (table c call)) (stepOf c (asked c call)) (responseOf c (asked c call)) e .1

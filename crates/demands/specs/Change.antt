@@ -106,10 +106,10 @@ pub data Opens (c : Card) (call : Call) : List ℕ → Type 0 where
 abbrev pub lastTick : Card → ℕ
 lastTick c = cond (onFallback c) 20 30
 
--- demand 3: of every sound Quiet card, so of the second and every later change too
+-- demand 3: of every card on which an enable or disable is accepted, so of the second and every later change too
 abbrev pub Demand3 : Type 0
 Demand3 =
-    (c : Card) (call : Call) (wanted : List ℕ) → sound c ≡ true → isQuiet (c .phase) ≡ true → Opens c call wanted
+    (c : Card) (call : Call) (wanted : List ℕ) → Opens c call wanted
     → Change wanted (enabledAid c) (fallbackAid c) (lastTick c) (run (step c call .card))
 
 -- "A change opened by a lost network ends on the fall-back, by the tenth tick."
@@ -119,6 +119,8 @@ pub record LostChange (fallback : List ℕ) (reach : List Call → Card) : Type 
   pub throughout : (calls : List Call) → staysOpen reach calls ≡ true → enabledAid (reach calls) ≡ fallback
   pub close : (calls : List Call) (call : Call) → staysOpen reach calls ≡ true → isQuiet (reach (calls ++ call ∷ []) .phase) ≡ true → enabledAid (reach (calls ++ call ∷ [])) ≡ fallback
   pub due : (calls : List Call) → staysOpen reach calls ≡ true → isQuiet (reach (calls ++ Tick ∷ []) .phase) ≡ true → ticksAmong calls + 1 ≡ 10
+  pub confirmed : (calls : List Call) (call : Call) → staysOpen reach calls ≡ true → confirms (reach calls) call ≡ true → isQuiet (reach (calls ++ call ∷ []) .phase) ≡ true
+  pub still : (calls : List Call) (call : Call) → staysOpen reach calls ≡ true → (isTick call || confirms (reach calls) call) ≡ false → Unmoved (reach calls) (reach (calls ++ call ∷ []))
 
 abbrev pub LostNetwork : Type 0
 LostNetwork =

@@ -55,7 +55,7 @@ MeetsDemand2 e =
 abbrev pub MeetsDemand3 : Engine → Type 0
 MeetsDemand3 e =
     (x : Inputs) → isDone (freshOf x .status) ≡ true → (past : List Call) (call : Call) (wanted : List ℕ)
-    → isQuiet (cardAfter e x past .phase) ≡ true → Opens (cardAfter e x past) call wanted
+    → Opens (cardAfter e x past) call wanted
     → Change wanted (enabledAid (cardAfter e x past)) (fallbackAid (cardAfter e x past)) (lastTick (cardAfter e x past)) (λ calls. cardAfter e x (past ++ call ∷ calls))
 
 abbrev pub MeetsLost : Engine → Type 0
