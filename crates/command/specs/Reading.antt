@@ -4,6 +4,7 @@ use mathlib.Core.List.{List, [], _∷_}
 use mathlib.Core.Bool.{cond}
 use Rattle.status.specs.StatusWords.{isDone}
 use Rattle.status.specs.Rows.{Row, row, wordOf}
+use Rattle.status.specs.declared.Status.{Status}
 use Rattle.status.specs.declared.Status.the-variants as status
 use Rattle.command.specs.declared.request.Field.{Field}
 use Rattle.command.specs.declared.request.Field.the-variants as field
@@ -30,4 +31,9 @@ accepted (field.Found r) = reading.Read r
 -- the word of the first row whose condition holds, otherwise the request
 unfoldable pub readOf : List ℕ → ℕ → Reading
 readOf s capacity =
-    cond (isDone (wordOf (readingRows s capacity))) (accepted (fieldOf s capacity)) (reading.Refused (wordOf (readingRows s capacity)))
+    cond (isDone (wordOf status.Done (readingRows s capacity))) (accepted (fieldOf s capacity)) (reading.Refused (wordOf status.Done (readingRows s capacity)))
+
+-- the word of a refusal; 90 00 where the command was read
+abbrev pub readingWord : Reading → Status
+readingWord (reading.Read r) = status.Done
+readingWord (reading.Refused word) = word

@@ -12,11 +12,23 @@ pub use request::Request;
 use request::read_field;
 use status::Status;
 ghost use mathlib.Core.Path.{_≡_};
-ghost use Rattle.command.specs.Reading.{readOf};
+ghost use Rattle.command.specs.Reading.{readOf, readingWord};
 
 pub enum Reading {
     Read(Request),
     Refused(Status),
+}
+
+impl Reading {
+    // The word of a refusal; `Done` where the command was read.
+    pub fn word(self) -> Status
+        ensures { λ r. ⌜ r ≡ readingWord self ⌝ }
+    {
+        match self {
+            Reading::Read(_) => Status::Done,
+            Reading::Refused(status) => status,
+        }
+    }
 }
 
 pub fn read(bytes: &[u8], capacity: u32) -> Reading
