@@ -14,7 +14,7 @@ use Rattle.status.specs.declared.Status.{Status}
 use Rattle.status.specs.declared.Status.the-variants.{Done}
 use Rattle.status.proofs.Tables.{Passed, proper, passed, no-row}
 use Rattle.isdp.specs.Sizes.{lastNumber}
-use Rattle.isdp.specs.Aids.{nameOf, noAid}
+use Rattle.isdp.specs.Aids.{noAid}
 use Rattle.isdp.specs.LifeCycle.{enabled, isEnabled}
 use Rattle.isdp.specs.Place.{held}
 use Rattle.isdp.specs.declared.Isdp.{Isdp}
@@ -26,7 +26,7 @@ use Rattle.card.specs.Clock.{nextOf, moved}
 use Rattle.card.specs.Sound.{sound}
 use Rattle.card.specs.Steps.{stepTo}
 use Rattle.card.specs.Ticks.{stepsIn, ticksToCome}
-use Rattle.card.specs.Notifications.{kindOf, silent, noticeOf}
+use Rattle.card.specs.Notifications.{kindOf, silent, noticeSince}
 use Rattle.card.specs.Answers.{Outcome, Work, accepted, settle, soundRow, outcome}
 use Rattle.card.specs.declared.Card.{Card}
 use Rattle.card.specs.declared.Phase.{Phase}
@@ -41,38 +41,38 @@ use Rattle.steps.proofs.Laws.Places.{place-is, holds, set-places, trade
 
 -- a call is taken exactly where its rows pass
 module _ (c : Card) (w : Work) where
-  pub rows-passed : proper (w .rows) ≡ true → outcome c w .status ≡ Done → Passed (w .rows)
-  rows-passed p e =
-      passed (soundRow c ∷ w .rows) p (took c (wordOf (soundRow c ∷ w .rows)) (w .step) (w .response) (ap isDone e) .0) .1
+  pub work-passed : proper (w .rows) ≡ true → outcome c w .status ≡ Done → Passed (w .rows)
+  work-passed p e =
+      passed (w .success) (soundRow c ∷ w .rows) p (took c (wordOf (w .success) (soundRow c ∷ w .rows)) (w .step) (w .response) (ap isDone e) .0) .1
 
-  pub step-taken : sound c ≡ true → Passed (w .rows) → outcome c w ≡ accepted (w .step) (w .response)
-  step-taken s p =
-      ap (λ (x : Status). settle c x (accepted (w .step) (w .response))) (no-row (soundRow c ∷ w .rows) (ap not s, p))
+  pub step-taken : sound c ≡ true → w .success ≡ Done → Passed (w .rows) → outcome c w ≡ accepted Done (w .step) (w .response)
+  step-taken s d p =
+      ap (λ (x : Status). settle c x (w .step) (w .response)) (no-row (w .success) (soundRow c ∷ w .rows) (ap not s, p) ∙ d)
 
 -- the law of a call on one target, from its rows: they ask that the AID is held, and pass exactly where the law allows it
-pub on-target : (c : Card) (aid : List ℕ) (w : Work) (May : ℕ → Type 0) (Answered : ℕ → Outcome → Type 0) → sound c ≡ true → proper (w .rows) ≡ true
+pub on-target : (c : Card) (aid : List ℕ) (w : Work) (May : ℕ → Type 0) (Answered : ℕ → Outcome → Type 0) → sound c ≡ true → proper (w .rows) ≡ true → w .success ≡ Done
     → (Passed (w .rows) → (held (profileOf c aid) ≡ true) × May (placeOf c aid))
-    → (Holds c aid (placeOf c aid) → May (placeOf c aid) → Passed (w .rows) × Answered (placeOf c aid) (accepted (w .step) (w .response)))
+    → (Holds c aid (placeOf c aid) → May (placeOf c aid) → Passed (w .rows) × Answered (placeOf c aid) (accepted Done (w .step) (w .response)))
     → OnPlace (Holds c aid) May Answered (outcome c w)
-on-target c aid w May Answered s p f g =
+on-target c aid w May Answered s p d f g =
     let o = outcome c w in
     record {
-      some-place = λ e. (placeOf c aid, holds c aid (f (rows-passed c w p e) .0));
+      some-place = λ e. (placeOf c aid, holds c aid (f (work-passed c w p e) .0));
       exactly =
           λ t h.
           let q = place-is c aid t (parts c s) h in
           record {
-            only-where = λ e. subst May q (f (rows-passed c w p e) .1);
+            only-where = λ e. subst May q (f (work-passed c w p e) .1);
             where-may =
                 λ m.
                 let r = g (subst (Holds c aid) (sym q) h) (subst May (sym q) m) in
-                subst (λ (i : ℕ). Answered i o) q (subst (Answered (placeOf c aid)) (sym (step-taken c w s (r .0))) (r .1));
+                subst (λ (i : ℕ). Answered i o) q (subst (Answered (placeOf c aid)) (sym (step-taken c w s d (r .0))) (r .1));
           };
     }
 
 -- no number, no notification
-pub no-notice : (c d : Card) → d .last ≡ c .last → noticeOf c d ≡ silent
-unfolding noticeOf
+pub no-notice : (c d : Card) → d .last ≡ c .last → noticeSince (c .last) d ≡ silent
+unfolding noticeSince
 no-notice c d e = rw (eq-eqb (d .last) (c .last) e)
 
 pub quietly : (p : Phase) → not (isQuiet p) ≡ false → p ≡ Quiet
@@ -84,11 +84,11 @@ unfolding ticksToCome stepsIn
 none-to-come c e = rw e
 
 module _ (c : Card) where
-  pub still : (bytes : List ℕ) → sound c ≡ true → Still c bytes (accepted (stepTo c c noAid) bytes)
+  pub still : (bytes : List ℕ) → sound c ≡ true → Still c bytes (accepted Done (stepTo c c noAid) bytes)
   unfolding accepted
   still bytes s = record { status = refl; card = refl; response = refl; notification = no-notice c c refl; ticks = counted c s }
 
-  pub rewrites : (t : ℕ) (p : Isdp) (bytes : List ℕ) (ticks : ℕ) → t < length (c .places) → ticksToCome (withPlaces c (set (c .places) t p)) ≡ ticks → Answers c (replaced c (onlyAt c t p) bytes ticks) (accepted (stepTo c (withPlaces c (set (c .places) t p)) noAid) bytes)
+  pub rewrites : (t : ℕ) (p : Isdp) (bytes : List ℕ) (ticks : ℕ) → t < length (c .places) → ticksToCome (withPlaces c (set (c .places) t p)) ≡ ticks → Answers c (replaced c (onlyAt c t p) bytes ticks) (accepted Done (stepTo c (withPlaces c (set (c .places) t p)) noAid) bytes)
   unfolding accepted
   rewrites t p bytes ticks h q =
       record {
@@ -106,7 +106,7 @@ module _ (c : Card) where
         ticks = q;
       }
 
-  pub rephases : (p : Phase) (ticks : ℕ) → ticksToCome (withPhase c p) ≡ ticks → Answers c (rephased c p ticks) (accepted (stepTo c (withPhase c p) noAid) [])
+  pub rephases : (p : Phase) (ticks : ℕ) → ticksToCome (withPhase c p) ≡ ticks → Answers c (rephased c p ticks) (accepted Done (stepTo c (withPhase c p) noAid) [])
   unfolding accepted
   rephases p ticks q =
       record {
@@ -138,14 +138,14 @@ module _ (c : Card) (t : ℕ) (h : t < length (c .places)) where
       let one = enable-one (c .places) t h in
       only (enableAt (c .places) t) (seek isEnabled (enableAt (c .places) t)) t one (enabled-at (enableAt (c .places) t) one) (eq-eqb _ _ (enable-at (c .places) t h))
 
-  named : nameOf (at (enableAt (c .places) t) t) ≡ nameOf (at (c .places) t)
-  named = ap nameOf (lives-at (enable-lives (c .places) t) t)
+  named : at (enableAt (c .places) t) t .aid ≡ profileAt c t .aid
+  named = ap (λ (p : Isdp). p .aid) (lives-at (enable-lives (c .places) t) t)
 
-  notice : (p : Phase) → noticeOf c (moved c t p) ≡ record { kind = kindOf p; number = nextOf (c .last); eid = c .eid; aid = nameOf (profileAt c t) }
-  unfolding noticeOf
+  notice : (p : Phase) → noticeSince (c .last) (moved c t p) ≡ record { kind = kindOf p; number = nextOf (c .last); eid = c .eid; aid = profileAt c t .aid }
+  unfolding noticeSince
   notice p = rw (new-number (c .last), found, named)
 
-  pub enters : (e : ℕ) (p : Phase) (ticks : ℕ) → Sound c → Enabled c e → ticksToCome (moved c t p) ≡ ticks → Answers c (entered c e t p (kindOf p) ticks) (accepted (stepTo c (moved c t p) noAid) [])
+  pub enters : (e : ℕ) (p : Phase) (ticks : ℕ) → Sound c → Enabled c e → ticksToCome (moved c t p) ≡ ticks → Answers c (entered c e t p (kindOf p) ticks) (accepted Done (stepTo c (moved c t p) noAid) [])
   unfolding accepted
   enters e p ticks s v q =
       record {

@@ -5,6 +5,7 @@ use mathlib.Core.List.{[]}
 use mathlib.Core.Bool.{Bool, true, false, not, cond}
 use lib.Dec.{eqb}
 use borrow.Author.Tests.{eqb-true, eqb-false, eq-eqb, ne-eqb, not-true, not-false}
+use Rattle.status.specs.declared.Status.the-variants.{Done}
 use Rattle.isdp.specs.Sizes.{wait}
 use Rattle.isdp.specs.Aids.{noAid}
 use Rattle.isdp.specs.LifeCycle.{disabled, isEnabled}
@@ -30,13 +31,13 @@ use Rattle.steps.proofs.Laws.Answer.{on-target, quietly, enters}
 
 -- the enabled place is one
 pub enabled-is : (c : Card) (e : ℕ) → Sound c → Enabled c e → enabledPlace c ≡ e
-enabled-is c e s v = only (c .places) (enabledPlace c) e (s .one) (enabled-at (c .places) (s .one)) (eq-eqb _ _ v)
+enabled-is c e s v = only (c .places) (enabledPlace c) e (s .roles .one) (enabled-at (c .places) (s .roles .one)) (eq-eqb _ _ v)
 
 ticks-case : (b : Bool) → wait + wait + cond b 0 wait ≡ cond b 20 30
 ticks-case true = refl
 ticks-case false = refl
 
-trial : (c : Card) (t : ℕ) → sound c ≡ true → profileAt c t .life ≡ disabled → TrialEntered c (enabledPlace c) t (accepted (stepTo c (opened c t) noAid) [])
+trial : (c : Card) (t : ℕ) → sound c ≡ true → profileAt c t .life ≡ disabled → TrialEntered c (enabledPlace c) t (accepted Done (stepTo c (opened c t) noAid) [])
 unfolding ticksByPhase
 trial c t s d =
     let w = parts c s in
@@ -46,7 +47,7 @@ trial c t s d =
 pub enable-law : EnableLaw
 enable-law c aid s e v =
     subst (λ (i : ℕ). OnPlace (Holds c aid) (MayEnable c i) (TrialEntered c i) (outcome c (askedWork c (on aid enable)))) (enabled-is c e (parts c s) v)
-    (on-target c aid (askedWork c (on aid enable)) (MayEnable c (enabledPlace c)) (TrialEntered c (enabledPlace c)) s refl
+    (on-target c aid (askedWork c (on aid enable)) (MayEnable c (enabledPlace c)) (TrialEntered c (enabledPlace c)) s refl refl
     (λ p. (
       not-false _ (p .1 .0),
       record { none-open = quietly (c .phase) (p .0); is-disabled = eqb-true _ _ (not-false _ (p .1 .1 .1 .0)); enabled-allows = p .1 .1 .1 .1 .0 },
@@ -60,7 +61,7 @@ pub disable-law : DisableLaw
 disable-law c aid s =
     let t = placeOf c aid in
     let w = parts c s in
-    on-target c aid (askedWork c (on aid disable)) (MayDisable c) (λ i. TrialEntered c i (c .fallback)) s refl
+    on-target c aid (askedWork c (on aid disable)) (MayDisable c) (λ i. TrialEntered c i (c .fallback)) s refl refl
     (λ p.
     let h = not-false _ (p .1 .1 .1 .0) in (
       not-false _ (p .1 .0),
@@ -74,6 +75,6 @@ disable-law c aid s =
     (λ h m.
     let n = ne-eqb t (c .fallback) (m .not-fallback) in (
       (rw (m .none-open), (ap not (h .held-there), (refl, (rw (m .is-enabled, n), (m .allows, (refl, (refl, tt))))))),
-      subst (λ (i : ℕ). TrialEntered c i (c .fallback) (accepted (stepTo c (opened c (c .fallback)) noAid) [])) (enabled-is c t w (m .is-enabled))
+      subst (λ (i : ℕ). TrialEntered c i (c .fallback) (accepted Done (stepTo c (opened c (c .fallback)) noAid) [])) (enabled-is c t w (m .is-enabled))
           (trial c (c .fallback) s (fallback-life c t w (eq-eqb _ _ (m .is-enabled)) n)),
     ))

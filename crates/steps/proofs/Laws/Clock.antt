@@ -7,6 +7,7 @@ use mathlib.Core.List.{[]}
 use mathlib.Core.Bool.{Bool, true, false, cond}
 use lib.Dec.{ltb, eqb}
 use borrow.Author.Tests.{eqb-true, eqb-false, eq-eqb, ne-eqb, lt-ltb, le-ltb}
+use Rattle.status.specs.declared.Status.the-variants.{Done}
 use Rattle.isdp.specs.Sizes.{wait}
 use Rattle.isdp.specs.Aids.{noAid}
 use Rattle.isdp.specs.LifeCycle.{disabled}
@@ -34,7 +35,7 @@ use Rattle.steps.proofs.Laws.Answer.{step-taken, none-to-come, still, r
 -- the fall-back is enabled exactly where it is at the enabled place
 on-case : (c : Card) (e : ℕ) (b : Bool) → eqb e (c .fallback) ≡ b → (d : Bool) → onFallback c ≡ d → Sound c → Enabled c e → d ≡ b
 on-case c e true q d r s v = sym r ∙ rw (← (eqb-true e (c .fallback) q)) (eq-eqb _ _ v)
-on-case c e false q true r s v = absurd (eqb-false e (c .fallback) q (only (c .places) e (c .fallback) (s .one) (eq-eqb _ _ v) r))
+on-case c e false q true r s v = absurd (eqb-false e (c .fallback) q (only (c .places) e (c .fallback) (s .roles .one) (eq-eqb _ _ v) r))
 on-case c e false q false r s v = refl
 
 on-is : (c : Card) (e : ℕ) → Sound c → Enabled c e → onFallback c ≡ eqb e (c .fallback)
@@ -45,15 +46,15 @@ to-come : (d : Card) (ticks : ℕ) → sound d ≡ true → ticksByPhase d ≡ t
 to-come d ticks s q = counted d s ∙ q
 
 -- the fall-back is enabled over the profile at e
-fallen-entered : (c : Card) (e : ℕ) → Sound c → Enabled c e → FallenEntered c e (accepted (stepTo c (fallen c) noAid) [])
+fallen-entered : (c : Card) (e : ℕ) → Sound c → Enabled c e → FallenEntered c e (accepted Done (stepTo c (fallen c) noAid) [])
 unfolding ticksByPhase
 fallen-entered c e s v =
-    let n = within (c .places) (c .fallback) (done-nonzero (profileAt c (c .fallback) .life) (s .resort)) in
+    let n = within (c .places) (c .fallback) (done-nonzero (profileAt c (c .fallback) .life) (s .roles .resort)) in
     enters c (c .fallback) n e (Fallen wait (nextOf (c .last))) 10 s v (counted (fallen c) (whole _ (falls c s)))
 
 module _ (c : Card) (e : ℕ) (s : sound c ≡ true) (v : Enabled c e) where
   abbrev answer : Card → Outcome
-  answer d = accepted (stepTo c d noAid) []
+  answer d = accepted Done (stepTo c d noAid) []
 
   -- a wait goes on
   goes-on : (p : Phase) (ticks : ℕ) → sound (withPhase c p) ≡ true → ticksByPhase (withPhase c p) ≡ ticks → Answers c (rephased c p ticks) (answer (withPhase c p))
@@ -98,7 +99,7 @@ module _ (c : Card) (e : ℕ) (s : sound c ≡ true) (v : Enabled c e) where
 pub tick-law : TickLaw
 unfolding tickStep tickOf accepted
 tick-law c s =
-    let r = step-taken c (askedWork c tick) s (refl, (refl, (refl, (refl, (refl, (refl, (refl, tt))))))) in
+    let r = step-taken c (askedWork c tick) s refl (refl, (refl, (refl, (refl, (refl, (refl, (refl, tt))))))) in
     record {
       status = ap (λ (o : Outcome). o .status) r;
       ticked = λ e v. subst (TickedIn (c .phase) c e) (sym r) (ticked c e s v (c .phase) refl (parts c s .phased) (tick-sound c s));
@@ -123,7 +124,7 @@ pub lost-law : LostLaw
 unfolding lostStep accepted
 lost-law c s =
     let w = parts c s in
-    let r = step-taken c (askedWork c lost) s (refl, (refl, (refl, (refl, (refl, (refl, (refl, tt))))))) in
+    let r = step-taken c (askedWork c lost) s refl (refl, (refl, (refl, (refl, (refl, (refl, (refl, tt))))))) in
     let nothing : lostOf c ≡ c → Still c [] (outcome c (askedWork c lost)) = λ q. subst (Still c []) (sym r) (rw q (still c [] s)) in
     record {
       status = ap (λ (o : Outcome). o .status) r;

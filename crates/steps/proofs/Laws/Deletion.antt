@@ -5,14 +5,16 @@ use mathlib.Core.List.{List, [], _∷_}
 use mathlib.Core.Bool.{false, not}
 use lib.Dec.{eqb}
 use borrow.Author.Tests.{eqb-true, eqb-false, ne-eqb, not-true, not-false}
+use Rattle.status.specs.declared.Status.the-variants.{Done}
+use Rattle.isdp.specs.Aids.{noAid}
 use Rattle.isdp.specs.LifeCycle.{disabled}
 use Rattle.isdp.specs.Place.{vacant}
 use Rattle.isdp.proofs.Bools.{and-l, and-r}
-use Rattle.card.specs.Cards.{placeOf, profileOf, mayBeDeleted}
+use Rattle.card.specs.Cards.{cleared, placeOf, profileOf, mayBeDeleted}
+use Rattle.card.specs.Steps.{stepTo}
 use Rattle.card.specs.Answers.{accepted}
 use Rattle.card.specs.declared.Card.{Card}
 use Rattle.card.specs.declared.Phase.the-variants.{Quiet}
-use Rattle.calls.specs.Calls.{rewritten}
 use Rattle.steps.specs.Asked.{Act.delete, Act.masterDelete, Asked.on}
 use Rattle.steps.specs.Steps.{askedWork}
 use Rattle.steps.specs.Laws.Answer.{Holds}
@@ -32,12 +34,12 @@ module _ (c : Card) (aid : List ℕ) where
   stated : profileOf c aid .life ≡ disabled → (t ≡ c .fallback → ⊥) → not (mayBeDeleted c t) ≡ false
   stated d n = rw (d, ne-eqb _ _ n)
 
-  clears : Holds c aid t → c .phase ≡ Quiet → Deleted c t (accepted (rewritten c aid vacant) (0x00 ∷ []))
+  clears : Holds c aid t → c .phase ≡ Quiet → Deleted c t (accepted Done (stepTo c (cleared c t) noAid) (0x00 ∷ []))
   clears h q = rewrites c t vacant (0x00 ∷ []) 0 (held-within (c .places) t (h .held-there)) (none-to-come _ q)
 
 pub delete-law : DeleteLaw
 delete-law c aid s =
-    on-target c aid (askedWork c (on aid delete)) (MayDelete c) (Deleted c) s refl
+    on-target c aid (askedWork c (on aid delete)) (MayDelete c) (Deleted c) s refl refl
     (λ p.
     let d = state c aid (p .1 .1 .1 .0) in
     (not-false _ (p .1 .0), record { none-open = quietly (c .phase) (p .0); is-disabled = d .0; not-fallback = d .1; allows = p .1 .1 .1 .1 .0 }))
@@ -48,7 +50,7 @@ delete-law c aid s =
 
 pub master-delete-law : MasterDeleteLaw
 master-delete-law c aid verdict s =
-    on-target c aid (askedWork c (on aid (masterDelete verdict))) (MayMasterDelete c verdict) (Deleted c) s refl
+    on-target c aid (askedWork c (on aid (masterDelete verdict))) (MayMasterDelete c verdict) (Deleted c) s refl refl
     (λ p.
     let d = state c aid (p .1 .1 .1 .0) in (
       not-false _ (p .1 .0),

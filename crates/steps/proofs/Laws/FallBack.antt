@@ -5,6 +5,7 @@ use Prim.Native.Nat.{ℕ}
 use mathlib.Core.List.{List, []}
 use mathlib.Core.Bool.{not}
 use borrow.Author.Tests.{not-false}
+use Rattle.status.specs.declared.Status.the-variants.{Done}
 use Rattle.isdp.specs.Aids.{noAid}
 use Rattle.card.specs.Cards.{placeOf, withFallback}
 use Rattle.card.specs.Sound.{sound}
@@ -22,7 +23,7 @@ use Rattle.steps.specs.Laws.FallBack.{MayBeFallBack, fallsBackTo, SetFal
 use Rattle.steps.proofs.Laws.Places.{place-is}
 use Rattle.steps.proofs.Laws.Answer.{on-target, step-taken, quietly, no-notice, none-to-come, still}
 
-falls-back : (c : Card) (t : ℕ) → c .phase ≡ Quiet → Answers c (fallsBackTo c t) (accepted (stepTo c (withFallback c t) noAid) [])
+falls-back : (c : Card) (t : ℕ) → c .phase ≡ Quiet → Answers c (fallsBackTo c t) (accepted Done (stepTo c (withFallback c t) noAid) [])
 unfolding accepted
 falls-back c t q =
     record {
@@ -49,13 +50,13 @@ set-fall-back-law c aid s =
     let w = askedWork c (on aid setFallBack) in
     record {
       target =
-          on-target c aid w (MayBeFallBack c) (λ t. Answers c (fallsBackTo c t)) s refl
+          on-target c aid w (MayBeFallBack c) (λ t. Answers c (fallsBackTo c t)) s refl refl
           (λ p. (not-false _ (p .1 .0), record { none-open = quietly (c .phase) (p .0); disabled-or-enabled = not-false _ (p .1 .1 .1 .0) }))
           (λ h m. (passes c aid h m, falls-back c (placeOf c aid) (m .none-open)));
       holder =
           λ q h.
           let e = place-is c aid (c .fallback) (parts c s) h in
-          let m : MayBeFallBack c (c .fallback) = record { none-open = q; disabled-or-enabled = parts c s .resort } in
-          let r = step-taken c w s (passes c aid (subst (Holds c aid) (sym e) h) (subst (MayBeFallBack c) (sym e) m)) in
+          let m : MayBeFallBack c (c .fallback) = record { none-open = q; disabled-or-enabled = parts c s .roles .resort } in
+          let r = step-taken c w s refl (passes c aid (subst (Holds c aid) (sym e) h) (subst (MayBeFallBack c) (sym e) m)) in
           subst (Still c []) (sym r) (rw e (still c [] s));
     }

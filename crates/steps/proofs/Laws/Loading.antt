@@ -8,16 +8,16 @@ use mathlib.Core.Bool.{true, false, not}
 use lib.ListN.{length, take, set, length-take}
 use lib.Dec.{eqb}
 use borrow.Author.Tests.{eqb-true, leb-true, le-leb, ltb-true, lt-ltb, not-false}
+use Rattle.status.specs.declared.Status.the-variants.{Done}
 use Rattle.isdp.specs.Sizes.{leastAid, mostAid}
 use Rattle.isdp.specs.Aids.{aidOk, aidOf, noAid}
-use Rattle.isdp.specs.LifeCycle.{selectable, personalized, disabled, enabled, isEnabled, withLife, withUsed, finish}
+use Rattle.isdp.specs.LifeCycle.{selectable, personalized, disabled, enabled, isEnabled, withLife, withUsed, withPolicy, finish}
 use Rattle.isdp.specs.declared.Isdp.{Isdp}
 use Rattle.isdp.proofs.Bools.{and-l, and-r}
 use Rattle.isdp.proofs.Placed.{Placed}
 use Rattle.places.specs.Places.{at}
 use Rattle.places.proofs.Sets.{set-enabled}
 use Rattle.card.specs.Cards.{placeOf, profileOf, withPlaces}
-use Rattle.card.specs.Policies.{withPolicy}
 use Rattle.card.specs.Sound.{sound}
 use Rattle.card.specs.Steps.{stepTo}
 use Rattle.card.specs.Ticks.{ticksIn, ticksByPhase}
@@ -27,8 +27,9 @@ use Rattle.card.specs.declared.Phase.{Phase}
 use Rattle.card.specs.declared.Phase.the-variants.{Quiet, Trial, Back, Fallen}
 use Rattle.card.proofs.Counts.{counted}
 use Rattle.card.proofs.Sounds.{Sound, parts, whole}
-use Rattle.calls.specs.Calls.{keyedWork, storedWork, finishedWork}
-use Rattle.calls.proofs.Kept.{parted, keyed-at, stored-at, finished-at}
+use Rattle.steps.specs.Asked.{Act.keyed, Act.stored, Act.finished}
+use Rattle.steps.specs.Steps.{innerWork}
+use Rattle.steps.proofs.Inner.{parted, keyed-at, stored-at, finished-at}
 use Rattle.steps.specs.Laws.Answer.{profileAt, Holds}
 use Rattle.steps.specs.Laws.Loading.{Loaded, MayStore, MayFinish, KeyedLaw, StoredLaw, FinishedLaw}
 use Rattle.steps.proofs.Laws.Places.{held-within}
@@ -46,7 +47,7 @@ module _ (c : Card) (t : ℕ) (x : Isdp) (held-in : t < length (c .places)) (w :
   unfolding ticksByPhase
   clock = clock-case c (set (c .places) t x) (c .phase) (set-enabled x (c .places) t w (c .fallback))
 
-  loads : Loaded c (λ i. x) t (accepted (stepTo c (withPlaces c (set (c .places) t x)) noAid) [])
+  loads : Loaded c (λ i. x) t (accepted Done (stepTo c (withPlaces c (set (c .places) t x)) noAid) [])
   loads = rewrites c t x [] (ticksByPhase c) held-in (counted (withPlaces c (set (c .places) t x)) (whole _ s) ∙ clock)
 
 -- the AID of a place that keeps the sizes
@@ -55,10 +56,10 @@ aid-length n l h = length-take n l ∙ omega arith
 
 sized : (k : ℕ) (p : Isdp) → Placed k p → aidOk (aidOf p) ≡ true
 sized k p h =
-    let a = leb-true leastAid (p .len) (h .five) in
-    let b = leb-true (p .len) mostAid (h .sixteen) in
+    let a = leb-true leastAid (p .aid .len) (h .five) in
+    let b = leb-true (p .aid .len) mostAid (h .sixteen) in
     let n = h .wide in
-    rw (aid-length (p .len) (p .aid) (omega arith), h .five, h .sixteen)
+    rw (aid-length (p .aid .len) (p .aid .bytes) (omega arith), h .five, h .sixteen)
 
 module _ (c : Card) (aid : List ℕ) (s : sound c ≡ true) where
   abbrev t : ℕ
@@ -76,10 +77,10 @@ module _ (c : Card) (aid : List ℕ) (s : sound c ≡ true) where
 pub keyed-law : KeyedLaw
 keyed-law c aid s =
     let i = placeOf c aid in
-    on-target c aid (keyedWork c aid) (λ j. profileAt c j .life ≡ selectable) (Loaded c (λ j. withLife (profileAt c j) personalized)) s refl
-    (λ p. (not-false _ (p .1 .0), eqb-true _ _ (not-false _ (p .1 .1 .0))))
+    on-target c aid (innerWork c aid keyed) (λ j. profileAt c j .life ≡ selectable) (Loaded c (λ j. withLife (profileAt c j) personalized)) s refl refl
+    (λ p. (not-false _ (p .1 .1 .0), eqb-true _ _ (not-false _ (p .1 .1 .1 .1 .0))))
     (λ h m. (
-      (ap not (aid-ok c aid s selectable h m refl), (ap not (h .held-there), (rw m, tt))),
+      (ap not (aid-ok c aid s selectable h m refl), (refl, (ap not (h .held-there), (refl, (rw m, (refl, (refl, (refl, tt)))))))),
       loads c i (withLife (profileAt c i) personalized) (inside c aid s h) (sym (off c aid s selectable m refl)) (keyed-at c i (parts c s) m),
     ))
 
@@ -87,15 +88,15 @@ pub stored-law : StoredLaw
 stored-law c aid n s =
     let i = placeOf c aid in
     let p = profileOf c aid in
-    on-target c aid (storedWork c aid n) (MayStore c n) (Loaded c (λ j. withUsed (profileAt c j) (profileAt c j .used + n))) s refl
+    on-target c aid (innerWork c aid (stored n)) (MayStore c n) (Loaded c (λ j. withUsed (profileAt c j) (profileAt c j .used + n))) s refl refl
     (λ r. (
-      not-false _ (r .1 .0),
-      record { is-personalized = eqb-true _ _ (not-false _ (r .1 .1 .0)); fits = leb-true (p .used + n) (p .quota) (not-false _ (r .1 .1 .1 .0)) },
+      not-false _ (r .1 .1 .0),
+      record { is-personalized = eqb-true _ _ (not-false _ (r .1 .1 .1 .1 .0)); fits = leb-true (p .used + n) (p .quota) (not-false _ (r .1 .1 .1 .1 .1 .1 .1 .0)) },
     ))
     (λ h m.
     let e = m .is-personalized in
     let f = le-leb (p .used + n) (p .quota) (m .fits) in (
-      (ap not (aid-ok c aid s personalized h e refl), (ap not (h .held-there), (rw e, (ap not f, tt)))),
+      (ap not (aid-ok c aid s personalized h e refl), (refl, (ap not (h .held-there), (refl, (rw e, (refl, (refl, (ap not f, tt)))))))),
       loads c i (withUsed p (p .used + n)) (inside c aid s h) refl (stored-at c i (p .used + n) (parts c s) e f),
     ))
 
@@ -103,15 +104,15 @@ pub finished-law : FinishedLaw
 finished-law c aid policy s =
     let i = placeOf c aid in
     let p = profileOf c aid in
-    on-target c aid (finishedWork c aid policy) (MayFinish c policy) (Loaded c (λ j. withPolicy (withLife (profileAt c j) disabled) policy)) s refl
+    on-target c aid (innerWork c aid (finished policy)) (MayFinish c policy) (Loaded c (λ j. withPolicy (withLife (profileAt c j) disabled) policy)) s refl refl
     (λ r.
-    let a = not-false _ (r .1 .1 .0) in
+    let a = not-false _ (r .1 .1 .1 .1 .0) in
     let k = ltb-true 0 (p .used) (and-r (eqb (p .life) personalized) _ a) in (
-      not-false _ (r .1 .0),
+      not-false _ (r .1 .1 .0),
       record { legal = and-r (aidOk aid) _ (not-false _ (r .0)); is-personalized = eqb-true _ _ (and-l (eqb (p .life) personalized) _ a); used-over-0 = k },
     ))
     (λ h m.
     let e = m .is-personalized in (
-      (rw (aid-ok c aid s personalized h e refl, m .legal), (ap not (h .held-there), (rw (e, lt-ltb 0 (p .used) (m .used-over-0)), tt))),
+      (rw (aid-ok c aid s personalized h e refl, m .legal), (refl, (ap not (h .held-there), (refl, (rw (e, lt-ltb 0 (p .used) (m .used-over-0)), (refl, (refl, (refl, tt)))))))),
       loads c i (finish p policy) (inside c aid s h) (sym (off c aid s personalized e refl)) (finished-at c i policy (parts c s) e (m .legal)),
     ))

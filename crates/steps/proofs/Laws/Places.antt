@@ -13,7 +13,7 @@ use Rattle.isdp.specs.Aids.{aidOf}
 use Rattle.isdp.specs.LifeCycle.{disabled, enabled, isEnabled, withLife}
 use Rattle.isdp.specs.Place.{vacant, held, isFor, clash}
 use Rattle.isdp.specs.declared.Isdp.{Isdp}
-use Rattle.isdp.proofs.Alike.{same-true, same-self}
+use Rattle.byte_string.proofs.Alike.{same-true, same-self}
 use Rattle.isdp.proofs.Bools.{and-l, and-r, or-l, or-r}
 use Rattle.places.specs.Places.{at, seek, anyOf, distinct, countOf, enableAt}
 use Rattle.places.proofs.Lives.{enable-at, enable-other, enable-lives, lives-at}
@@ -64,7 +64,7 @@ seek-is aid (p ∷ ps) (suc t) d h f =
 
 pub place-is : (c : Card) (aid : List ℕ) (t : ℕ) → Sound c → Holds c aid t → placeOf c aid ≡ t
 place-is c aid t s h =
-    seek-is aid (c .places) t (s .apart) (held-within (c .places) t (h .held-there)) (for-whole aid (profileAt c t) (h .held-there) (h .named))
+    seek-is aid (c .places) t (s .placed .apart) (held-within (c .places) t (h .held-there)) (for-whole aid (profileAt c t) (h .held-there) (h .named))
 
 -- an AID that is held is held at the place that the search finds
 pub holds : (c : Card) (aid : List ℕ) → held (profileOf c aid) ≡ true → Holds c aid (placeOf c aid)
@@ -93,4 +93,4 @@ module _ (l : List Isdp) (e t : ℕ) (one : countOf isEnabled l ≡ 1) (v : at l
   trade-case i false q = enable-other l t i (eqb-false i t q) ∙ off-case i (isEnabled (at l i)) (eqb i e) refl refl
 
 pub trade-places : (c : Card) (e t : ℕ) → Sound c → profileAt c e .life ≡ enabled → t < length (c .places) → (i : ℕ) → at (enableAt (c .places) t) i ≡ traded c e t i
-trade-places c e t s v h i = trade-case (c .places) e t (s .one) v h i (eqb i t) refl
+trade-places c e t s v h i = trade-case (c .places) e t (s .roles .one) v h i (eqb i t) refl

@@ -47,12 +47,12 @@ one-bytes c t life mark h = row-is c life mark t ∙ rw h
 
 pub status-of-all-law : StatusOfAllLaw
 status-of-all-law c life mark s =
-    subst (Still c (statusBelow c life mark (length (c .places)))) (sym (step-taken c (askedWork c (statusOfAll life mark)) s (refl, (refl, (refl, (refl, (refl, (refl, (refl, tt)))))))))
+    subst (Still c (statusBelow c life mark (length (c .places)))) (sym (step-taken c (askedWork c (statusOfAll life mark)) s refl (refl, (refl, (refl, (refl, (refl, (refl, (refl, tt)))))))))
     (rw (all-bytes c life mark) (still c (statusBelow c life mark (length (c .places))) s))
 
 pub status-of-one-law : StatusOfOneLaw
 status-of-one-law c aid life mark s =
-    on-target c aid (askedWork c (on aid (status life mark))) (λ t. Unit {0}) (λ t. Still c (statusAt c life mark t)) s refl
+    on-target c aid (askedWork c (on aid (status life mark))) (λ t. Unit {0}) (λ t. Still c (statusAt c life mark t)) s refl refl
     (λ p. (not-false _ (p .1 .0), tt))
     (λ h m. (
       (refl, (ap not (h .held-there), (refl, (refl, (refl, (refl, (refl, tt))))))),
@@ -62,5 +62,5 @@ status-of-one-law c aid life mark s =
 pub get-data-law : GetDataLaw
 unfolding dataResponse
 get-data-law c s =
-    subst (Still c _) (sym (step-taken c (askedWork c getData) s (refl, (refl, (refl, (refl, (refl, (refl, (refl, tt)))))))))
+    subst (Still c _) (sym (step-taken c (askedWork c getData) s refl (refl, (refl, (refl, (refl, (refl, (refl, (refl, tt)))))))))
     (still c (dataResponse c) s)

@@ -7,7 +7,7 @@ use mathlib.Core.Bool.{true, cond}
 use lib.ListN.{length}
 use lib.Dec.{eqb}
 use Rattle.status.specs.declared.Status.the-variants.{Done}
-use Rattle.isdp.specs.Aids.{aidOf, nameOf}
+use Rattle.isdp.specs.Aids.{aidOf}
 use Rattle.isdp.specs.LifeCycle.{disabled, enabled, withLife}
 use Rattle.isdp.specs.Place.{held}
 use Rattle.isdp.specs.declared.Isdp.{Isdp}
@@ -127,6 +127,6 @@ entered c e t phase kind ticks =
       phase = phase;
       place = traded c e t;
       response = [];
-      notification = record { kind = kind; number = nextOf (c .last); eid = c .eid; aid = nameOf (profileAt c t) };
+      notification = record { kind = kind; number = nextOf (c .last); eid = c .eid; aid = profileAt c t .aid };
       ticks = ticks;
     }

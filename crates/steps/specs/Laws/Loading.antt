@@ -4,15 +4,15 @@ use Prim.Native.Nat.{ℕ, _+_, _≤_}
 use mathlib.Core.Path.{_≡_}
 use mathlib.Core.List.{List, []}
 use mathlib.Core.Bool.{true}
-use Rattle.isdp.specs.LifeCycle.{selectable, personalized, disabled, withLife, withUsed}
+use Rattle.isdp.specs.LifeCycle.{selectable, personalized, disabled, withLife, withUsed, withPolicy}
 use Rattle.isdp.specs.Policy.{policyOk}
 use Rattle.isdp.specs.declared.Isdp.{Isdp}
 use Rattle.card.specs.Sound.{sound}
-use Rattle.card.specs.Policies.{withPolicy}
 use Rattle.card.specs.Ticks.{ticksByPhase}
 use Rattle.card.specs.Answers.{Outcome, outcome}
 use Rattle.card.specs.declared.Card.{Card}
-use Rattle.calls.specs.Calls.{keyedWork, storedWork, finishedWork}
+use Rattle.steps.specs.Asked.{Act.keyed, Act.stored, Act.finished}
+use Rattle.steps.specs.Steps.{innerWork}
 use Rattle.steps.specs.Laws.Answer.{profileAt, Holds, Answers, OnPlace, onlyAt, replaced}
 
 -- the profile becomes so; no response, and the clock runs on
@@ -41,11 +41,11 @@ FinishedAnswers c aid policy =
     OnPlace (Holds c aid) (MayFinish c policy) (Loaded c (λ t. withPolicy (withLife (profileAt c t) disabled) policy))
 
 abbrev pub KeyedLaw : Type 0
-KeyedLaw = (c : Card) (aid : List ℕ) → sound c ≡ true → KeyedAnswers c aid (outcome c (keyedWork c aid))
+KeyedLaw = (c : Card) (aid : List ℕ) → sound c ≡ true → KeyedAnswers c aid (outcome c (innerWork c aid keyed))
 
 abbrev pub StoredLaw : Type 0
-StoredLaw = (c : Card) (aid : List ℕ) (n : ℕ) → sound c ≡ true → StoredAnswers c aid n (outcome c (storedWork c aid n))
+StoredLaw = (c : Card) (aid : List ℕ) (n : ℕ) → sound c ≡ true → StoredAnswers c aid n (outcome c (innerWork c aid (stored n)))
 
 abbrev pub FinishedLaw : Type 0
 FinishedLaw =
-    (c : Card) (aid : List ℕ) (policy : ℕ) → sound c ≡ true → FinishedAnswers c aid policy (outcome c (finishedWork c aid policy))
+    (c : Card) (aid : List ℕ) (policy : ℕ) → sound c ≡ true → FinishedAnswers c aid policy (outcome c (innerWork c aid (finished policy)))
