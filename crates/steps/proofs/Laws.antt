@@ -18,6 +18,7 @@ pub mod FallBack
 pub mod Confirmation
 pub mod Reports
 pub mod Clock
+pub mod Met
 
 pub call-laws : CallLaws
 call-laws =

@@ -16,6 +16,7 @@ pub mod FallBack
 pub mod Confirmation
 pub mod Clock
 pub mod Reports
+pub mod Met
 
 pub record CallLaws : Type 0 where
   pub create : CreateLaw
