@@ -10,12 +10,13 @@ use lib.Seq.{getD-set-other}
 use lib.Dec.{eqb}
 use borrow.Author.Tests.{eqb-true, le-leb, not-true}
 use Rattle.isdp.specs.Sizes.{mostAid}
-use Rattle.isdp.specs.Aids.{aidOk}
+use Rattle.byte_string.specs.Bytes.{sameBytes}
+use Rattle.isdp.specs.Aids.{aidOf, aidOk}
 use Rattle.isdp.specs.LifeCycle.{selectable}
 use Rattle.isdp.specs.Place.{vacant, made, held, isFor, clash, zeros, lifeOk, emptyOk, heldOk, placeOk}
 use Rattle.isdp.specs.declared.Isdp.{Isdp}
 use Rattle.isdp.proofs.Bools.{and-l, and-r, or-l, or-r}
-use Rattle.isdp.proofs.Alike.{clash-sym}
+use Rattle.byte_string.proofs.Alike.{same-sym}
 use Rattle.isdp.proofs.Placed.{made-held, made-aid, made-ok}
 use Rattle.places.specs.Places.{at, seek, isFree, quotas, anyOf}
 use Rattle.places.proofs.Seeks.{seek-at, seek-below}
@@ -43,6 +44,10 @@ unfolding anyOf
 any-less t u f [] e = refl
 any-less t u f (p ∷ ps) e = rw (f p (or-l (u p) _ e), any-less t u f ps (or-r (u p) _ e))
 
+and-swap : (a b x : Bool) → a ≡ true → (b && x) ≡ false → (b && (a && x)) ≡ false
+and-swap true b x h e = e
+and-swap false b x h e = absurd (false≢true h)
+
 module _ (aid : List ℕ) (quota : ℕ) (ok : aidOk aid ≡ true) where
   abbrev new : Isdp
   new = made aid selectable quota 0
@@ -52,7 +57,9 @@ module _ (aid : List ℕ) (quota : ℕ) (ok : aidOk aid ≡ true) where
   new-first q e = rw (made-held aid selectable quota 0 ok, made-aid aid selectable quota 0 ok) e
 
   new-second : (p : Isdp) → isFor aid p ≡ false → clash p new ≡ false
-  new-second p e = clash-sym p new ∙ new-first p e
+  unfolding clash isFor
+  new-second p e =
+      rw (made-aid aid selectable quota 0 ok, same-sym (aidOf p) aid) (and-swap (held new) (held p) (sameBytes (aidOf p) aid) (made-held aid selectable quota 0 ok) e)
 
 -- a place not held is empty
 empty-case : (w h s x z : Bool) → h ≡ false → (w && cond h x (s && z)) ≡ true → s ≡ true

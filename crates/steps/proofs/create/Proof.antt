@@ -34,7 +34,7 @@ abbrev asking : tie.After-free-place → tie.Else1
 asking c = c .before .before .before .before
 
 free : (c : tie.After-free-place) → let s = start (asking c) in held (profileOf (s .args .card) (s .args .aid .now)) ≡ false
-free c = absent _ _ (start (asking c) .good .0) (c .before .before .before .place-of .ensures) (c .before .enum-told .given .1)
+free c = let s = start (asking c) in absent (s .args .card) (s .args .aid .now) (s .good .0) (c .before .before .before .place-of .ensures) (c .before .enum-told .given .1)
 
 returns-3 : tie.Need-returns-3
 unfolding wordOf

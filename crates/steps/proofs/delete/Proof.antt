@@ -37,7 +37,7 @@ unfolding wordOf
 returns-3 c =
     let m = c .before .before in
     let k = m .before in
-    rw (quiet (asking k), target k .there, target k .place, sym (m .may-be-deleted .ensures), not-true _ (c .before .if2 .taken)) (c .refused3 .ensures)
+    rw (quiet (asking k), target k .there, target k .place, sym (m .may-be-deleted .ensures) ∙ not-true _ (c .before .if2 .taken)) (c .refused3 .ensures)
 
 returns-4 : tie.Need-returns-4
 unfolding wordOf
@@ -45,7 +45,7 @@ returns-4 c =
     let p = c .before .before .before in
     let m = p .before .before in
     let k = m .before in
-    rw (quiet (asking k), target k .there, target k .place, sym (m .may-be-deleted .ensures), not-false _ (p .before .if2 .left), sym (p .profile .ensures), sym (c .before .before .forbids-deletion .ensures), c .before .if3 .taken) (c .refused4 .ensures)
+    rw (quiet (asking k), target k .there, target k .place, sym (m .may-be-deleted .ensures) ∙ not-false _ (p .before .if2 .left), sym (p .profile .ensures), sym (c .before .before .forbids-deletion .ensures) ∙ c .before .if3 .taken) (c .refused4 .ensures)
 
 returns-5 : tie.Need-returns-5
 unfolding wordOf
@@ -55,7 +55,7 @@ returns-5 c =
     let p = f .before in
     let m = p .before .before in
     let k = m .before in
-    rw (quiet (asking k), target k .there, target k .place, sym (m .may-be-deleted .ensures), not-false _ (p .before .if2 .left), sym (p .profile .ensures), sym (f .forbids-deletion .ensures), a .before .if3 .left, c .answer .ensures, c .before .step-since .ensures, a .cleared .ensures)
+    rw (quiet (asking k), target k .there, target k .place, sym (m .may-be-deleted .ensures) ∙ not-false _ (p .before .if2 .left), sym (p .profile .ensures), sym (f .forbids-deletion .ensures) ∙ a .before .if3 .left, c .answer .ensures, c .before .step-since .ensures, a .cleared .ensures)
 
 pub delete-spec : {M : Type 1} → statement M
 delete-spec =

@@ -1,11 +1,11 @@
 -- `steps::disable`: the rows of the change, the target, its state (it is not the fall-back) and its policy, each passed or stopped at.
 use mathlib.Core.Path.{_≡_, sym, _∙_}
-use mathlib.Core.Bool.{not, _&&_}
+use Prim.Native.Nat.{ℕ}
+use mathlib.Core.Bool.{Bool, true, false, not, _&&_}
 use lib.Dec.{eqb}
 use borrow.Author.Tests.{not-true, not-false}
 use Rattle.status.specs.Rows.{wordOf}
-use Rattle.isdp.specs.LifeCycle.{enabled}
-use Rattle.isdp.specs.Policy.{forbidsDisabling}
+use Rattle.isdp.specs.LifeCycle.{isEnabled}
 use Rattle.card.specs.Cards.{isQuiet, profileOf}
 use Rattle.steps.proofs.Targets.{Target, absent, found, read}
 use borrow.Author.Needs.{needs}
@@ -27,6 +27,9 @@ target c = found _ _ (start (asking c) .good .0) (c .before .before .before .pla
 profile : (c : tie.After-profile) → profileOf (start (asking (c .before)) .args .card) (start (asking (c .before)) .args .aid .now) ≡ c .profile .result
 profile c = read (target (c .before)) (c .profile .ensures)
 
+abbrev leaves : tie.After-profile → Bool
+leaves c = isEnabled (c .profile .result) && not (eqb (c .before .before .t .given .0 .0) (start (asking (c .before)) .args .card .fallback))
+
 returns : tie.Need-returns
 unfolding wordOf
 returns c = rw (sym (c .before .before .is-quiet .ensures) ∙ not-true _ (c .before .if1 .taken)) (c .refused .ensures)
@@ -43,26 +46,31 @@ unfolding wordOf
 returns-3 c =
     let p = c .before .before .before .before in
     let k = p .before in
-    rw (quiet (asking k), target k .there, profile p, target k .place, not-true _ (c .before .if2 .taken)) (c .refused3 .ensures)
+    let n : leaves p ≡ false = not-true _ (c .before .if2 .taken) in
+    rw (quiet (asking k), target k .there, profile p, target k .place, n) (c .refused3 .ensures)
+
+abbrev reading : tie.After-forbids-disabling → tie.After-profile
+reading c = c .before .before .before .before
+
+state : (c : tie.After-forbids-disabling) → leaves (reading c) ≡ true
+state c = not-false _ (c .before .if2 .left)
 
 returns-4 : tie.Need-returns-4
 unfolding wordOf
 returns-4 c =
     let f = c .before .before in
-    let e = f .before in
-    let p = e .before .before .before in
+    let p = reading f in
     let k = p .before in
-    rw (quiet (asking k), target k .there, profile p, target k .place, not-false _ (e .if2 .left), sym (f .forbids-disabling .ensures), c .before .if3 .taken) (c .refused4 .ensures)
+    rw (quiet (asking k), target k .there, profile p, target k .place, state f, sym (f .forbids-disabling .ensures) ∙ c .before .if3 .taken) (c .refused4 .ensures)
 
 returns-5 : tie.Need-returns-5
 unfolding wordOf
 returns-5 c =
     let a = c .before .before .before in
     let f = a .before .before in
-    let e = f .before in
-    let p = e .before .before .before in
+    let p = reading f in
     let k = p .before in
-    rw (quiet (asking k), target k .there, profile p, target k .place, not-false _ (e .if2 .left), sym (f .forbids-disabling .ensures), a .before .if3 .left, c .answer .ensures, c .before .step-since .ensures, a .opened .ensures)
+    rw (quiet (asking k), target k .there, profile p, target k .place, state f, sym (f .forbids-disabling .ensures) ∙ a .before .if3 .left, c .answer .ensures, c .before .step-since .ensures, a .opened .ensures)
 
 pub disable-spec : {M : Type 1} → statement M
 disable-spec =

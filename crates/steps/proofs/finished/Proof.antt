@@ -1,10 +1,13 @@
 -- `steps::finished`: the rows of the values, the target and its state, each passed or stopped at.
 use mathlib.Core.Path.{_≡_, sym, _∙_}
-use mathlib.Core.Bool.{true, _&&_}
+use mathlib.Core.Bool.{Bool, true, false, _&&_}
+use lib.Dec.{ltb, eqb}
 use borrow.Author.Tests.{not-true, not-false}
 use Rattle.status.specs.Rows.{wordOf}
 use Rattle.isdp.specs.Aids.{aidOk}
 use Rattle.isdp.specs.Policy.{policyOk}
+use Rattle.isdp.specs.LifeCycle.{personalized}
+use Rattle.isdp.specs.declared.Isdp.{Isdp}
 use Rattle.card.specs.Cards.{profileOf}
 use Rattle.steps.proofs.Targets.{Target, absent, found, read}
 use borrow.Author.Needs.{needs}
@@ -13,6 +16,9 @@ use Rattle.steps.proofs.finished.Tie as tie
 
 abbrev start : tie.Else1 → tie.Start
 start c = c .before .before .before .before
+
+abbrev finishable : Isdp → Bool
+finishable p = eqb (p .life) personalized && ltb 0 (p .used)
 
 right : (c : tie.Else1) → (aidOk (start c .args .aid .now) && policyOk (start c .args .policy)) ≡ true
 right c = rw (← (c .before .policy-ok .ensures), ← (c .before .before .aid-ok .ensures)) (not-false _ (c .if1 .left))
@@ -28,7 +34,10 @@ profile c = read (target (c .before)) (c .profile .ensures)
 
 returns : tie.Need-returns
 unfolding wordOf
-returns c = rw (sym (c .before .before .policy-ok .ensures), sym (c .before .before .before .aid-ok .ensures), not-true _ (c .before .if1 .taken)) (c .refused .ensures)
+returns c =
+    let s = c .before .before .before .before .before in
+    let w : (aidOk (s .args .aid .now) && policyOk (s .args .policy)) ≡ false = rw (← (c .before .before .policy-ok .ensures), ← (c .before .before .before .aid-ok .ensures)) (not-true _ (c .before .if1 .taken)) in
+    rw w (c .refused .ensures)
 
 returns-2 : tie.Need-returns-2
 unfolding wordOf
@@ -42,7 +51,8 @@ unfolding wordOf
 returns-3 c =
     let p = c .before .before .before .before in
     let k = p .before in
-    rw (right (asking k), target k .there, profile p, not-true _ (c .before .if2 .taken)) (c .refused3 .ensures)
+    let n : finishable (p .profile .result) ≡ false = not-true _ (c .before .if2 .taken) in
+    rw (right (asking k), target k .there, profile p, n) (c .refused3 .ensures)
 
 returns-4 : tie.Need-returns-4
 unfolding wordOf
@@ -51,7 +61,8 @@ returns-4 c =
     let e = a .before .before in
     let p = e .before .before .before in
     let k = p .before in
-    rw (right (asking k), target k .there, profile p, not-false _ (e .if2 .left), c .answer .ensures, c .before .step-since .ensures, a .rewritten .ensures, a .before .finish .ensures, target k .place)
+    let y : finishable (p .profile .result) ≡ true = not-false _ (e .if2 .left) in
+    rw (right (asking k), target k .there, profile p, y, c .answer .ensures, c .before .step-since .ensures, a .rewritten .ensures, a .before .finish .ensures, target k .place)
 
 pub finished-spec : {M : Type 1} → statement M
 finished-spec =

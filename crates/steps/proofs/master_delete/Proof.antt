@@ -37,7 +37,7 @@ unfolding wordOf
 returns-3 c =
     let m = c .before .before in
     let k = m .before in
-    rw (quiet (asking k), target k .there, target k .place, sym (m .may-be-deleted .ensures), not-true _ (c .before .if2 .taken)) (c .refused3 .ensures)
+    rw (quiet (asking k), target k .there, target k .place, sym (m .may-be-deleted .ensures) ∙ not-true _ (c .before .if2 .taken)) (c .refused3 .ensures)
 
 returns-4 : tie.Need-returns-4
 unfolding wordOf
@@ -45,7 +45,7 @@ returns-4 c =
     let e = c .before .before in
     let m = e .before in
     let k = m .before in
-    rw (quiet (asking k), target k .there, target k .place, sym (m .may-be-deleted .ensures), not-false _ (e .if2 .left), ne-eqb _ 1 (c .before .if3 .taken)) (c .refused4 .ensures)
+    rw (quiet (asking k), target k .there, target k .place, sym (m .may-be-deleted .ensures) ∙ not-false _ (e .if2 .left), ne-eqb _ 1 (c .before .if3 .taken)) (c .refused4 .ensures)
 
 returns-5 : tie.Need-returns-5
 unfolding wordOf
@@ -54,7 +54,7 @@ returns-5 c =
     let e = a .before .before in
     let m = e .before in
     let k = m .before in
-    rw (quiet (asking k), target k .there, target k .place, sym (m .may-be-deleted .ensures), not-false _ (e .if2 .left), eq-eqb _ 1 (a .before .if3 .left), c .answer .ensures, c .before .step-since .ensures, a .cleared .ensures)
+    rw (quiet (asking k), target k .there, target k .place, sym (m .may-be-deleted .ensures) ∙ not-false _ (e .if2 .left), eq-eqb _ 1 (a .before .if3 .left), c .answer .ensures, c .before .step-since .ensures, a .cleared .ensures)
 
 pub master-delete-spec : {M : Type 1} → statement M
 master-delete-spec =

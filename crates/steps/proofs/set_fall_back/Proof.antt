@@ -1,8 +1,9 @@
 -- `steps::set_fall_back`: the rows of the change, the target and its state, each passed or stopped at.
 use mathlib.Core.Path.{_≡_, sym, _∙_}
-use mathlib.Core.Bool.{true}
+use mathlib.Core.Bool.{true, false}
 use borrow.Author.Tests.{not-true, not-false}
 use Rattle.status.specs.Rows.{wordOf}
+use Rattle.isdp.specs.LifeCycle.{isFinished}
 use Rattle.card.specs.Cards.{isQuiet, profileOf}
 use Rattle.steps.proofs.Targets.{Target, absent, found, read}
 use borrow.Author.Needs.{needs}
@@ -40,7 +41,8 @@ unfolding wordOf
 returns-3 c =
     let p = c .before .before .before .before in
     let k = p .before in
-    rw (quiet (asking k), target k .there, profile p, not-true _ (c .before .if2 .taken)) (c .refused3 .ensures)
+    let n : isFinished (p .profile .result .life) ≡ false = not-true _ (c .before .if2 .taken) in
+    rw (quiet (asking k), target k .there, profile p, n) (c .refused3 .ensures)
 
 returns-4 : tie.Need-returns-4
 unfolding wordOf
@@ -48,7 +50,8 @@ returns-4 c =
     let a = c .before .before .before in
     let p = a .before .before .before .before in
     let k = p .before in
-    rw (quiet (asking k), target k .there, profile p, not-false _ (a .before .if2 .left), c .answer .ensures, c .before .step-since .ensures, a .with-fallback .ensures, target k .place)
+    let y : isFinished (p .profile .result .life) ≡ true = not-false _ (a .before .if2 .left) in
+    rw (quiet (asking k), target k .there, profile p, y, c .answer .ensures, c .before .step-since .ensures, a .with-fallback .ensures, target k .place)
 
 pub set-fall-back-spec : {M : Type 1} → statement M
 set-fall-back-spec =

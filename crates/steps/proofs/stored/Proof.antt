@@ -57,7 +57,7 @@ returns-4 c =
     let h = c .before .before in
     let p = reading h in
     let k = p .before in
-    rw (named (asking k), target k .there, profile p, eq-eqb _ personalized (h .before .if2 .left), sym (h .has-room .ensures), not-true _ (c .before .if3 .taken)) (c .refused4 .ensures)
+    rw (named (asking k), target k .there, profile p, eq-eqb _ personalized (h .before .if2 .left), sym (h .has-room .ensures) ∙ not-true _ (c .before .if3 .taken)) (c .refused4 .ensures)
 
 add-used : tie.Need-add-used
 add-used c =
@@ -76,7 +76,7 @@ returns-5 c =
     let h = e .before in
     let p = reading h in
     let k = p .before in
-    rw (named (asking k), target k .there, profile p, eq-eqb _ personalized (h .before .if2 .left), sym (h .has-room .ensures), not-false _ (e .if3 .left), c .answer .ensures, c .before .step-since .ensures, a .rewritten .ensures, a .before .with-used .ensures, target k .place)
+    rw (named (asking k), target k .there, profile p, eq-eqb _ personalized (h .before .if2 .left), sym (h .has-room .ensures) ∙ not-false _ (e .if3 .left), c .answer .ensures, c .before .step-since .ensures, a .rewritten .ensures, a .before .with-used .ensures, target k .place)
 
 pub stored-spec : {M : Type 1} → statement M
 stored-spec =
