@@ -1,6 +1,6 @@
 -- Where a call is taken its answer is its step's, and each kind of step that stands in the laws has the answer that they tell: a place set
 -- anew, another phase, a profile enabled over another, nothing. Assumes nothing.
-use mathlib.Core.Path.{_≡_, refl, sym, ap, subst}
+use mathlib.Core.Path.{_≡_, refl, sym, ap, subst, _∙_}
 use Prim.Native.Nat.{ℕ, _+_, _<_}
 use native.Mathlib.Omega.{arith}
 use mathlib.Core.List.{List, [], _∷_}
@@ -17,6 +17,7 @@ use Rattle.isdp.specs.Sizes.{lastNumber}
 use Rattle.isdp.specs.Aids.{noAid}
 use Rattle.isdp.specs.LifeCycle.{enabled, isEnabled}
 use Rattle.isdp.specs.Place.{held}
+use Rattle.isdp.specs.declared.Aid.{Aid}
 use Rattle.isdp.specs.declared.Isdp.{Isdp}
 use Rattle.places.specs.Places.{at, seek, enableAt}
 use Rattle.places.proofs.Lives.{enable-lives, lives-at, lives-length, enable-at, enable-one}
@@ -143,7 +144,9 @@ module _ (c : Card) (t : ℕ) (h : t < length (c .places)) where
 
   notice : (p : Phase) → noticeSince (c .last) (moved c t p) ≡ record { kind = kindOf p; number = nextOf (c .last); eid = c .eid; aid = profileAt c t .aid }
   unfolding noticeSince
-  notice p = rw (new-number (c .last), found, named)
+  notice p =
+      rw (new-number (c .last))
+      (ap (λ (a : Aid). record { kind = kindOf p; number = nextOf (c .last); eid = c .eid; aid = a }) (ap (λ (i : ℕ). at (enableAt (c .places) t) i .aid) found ∙ named))
 
   pub enters : (e : ℕ) (p : Phase) (ticks : ℕ) → Sound c → Enabled c e → ticksToCome (moved c t p) ≡ ticks → Answers c (entered c e t p (kindOf p) ticks) (accepted Done (stepTo c (moved c t p) noAid) [])
   unfolding accepted

@@ -1,5 +1,5 @@
 -- Each by computing.
-use mathlib.Core.Path.{_≡_, refl}
+use mathlib.Core.Path.{refl}
 use Rattle.status.specs.Rows.{wordOf}
 use Rattle.byte_string.specs.Bytes.{sameBytes}
 use Rattle.isdp.specs.Aids.{padded}
