@@ -73,19 +73,19 @@ responseOf c getData = dataResponse c
 responseOf c tick = []
 responseOf c lost = []
 
--- "Otherwise 90 00"
-abbrev pub success : Status
-success = Done
+-- "Otherwise 90 00": the word of success
+abbrev pub successOf : Card → Asked → Status
+successOf c a = Done
 
 abbrev pub askedWork : Card → Asked → Work
-askedWork c a = record { rows = cardRows c a; success = success; step = stepOf c a; response = responseOf c a }
+askedWork c a = record { rows = cardRows c a; success = successOf c a; step = stepOf c a; response = responseOf c a }
 
 -- the work of an inner call: the row of its values stands before the card's rows
 abbrev pub innerWork : Card → List ℕ → Act → Work
 innerWork c aid act =
     record {
       rows = row (innerWrong aid act) DataWrong ∷ cardRows c (on aid act);
-      success = success;
+      success = successOf c (on aid act);
       step = actStep c aid act;
       response = actResponse c aid act;
     }
