@@ -5,7 +5,8 @@ use Prim.Native.Nat.{ℕ}
 use mathlib.Core.Bool.{Bool, true, false, not, cond, false≢true}
 use Rattle.status.specs.StatusWords.{isDone}
 use Rattle.status.specs.Rows.{wordOf}
-use Rattle.status.proofs.Tables.{Passed}
+use Rattle.steps.specs.Steps.{success}
+use Rattle.steps.proofs.Rows.{Passed}
 use Rattle.status.specs.declared.Status.the-variants.{StateWrong, NotHeld, Done}
 use Rattle.isdp.proofs.Bools.{and-l, and-r}
 use Rattle.places.proofs.Seeks.{enabled-at}
@@ -30,11 +31,11 @@ use Rattle.demands.proofs.Words.{word-is}
 use Rattle.demands.proofs.Written.{written-word}
 
 -- a confirmation that is accepted is of an open change
-confirm-open : (c : Card) (a : Asked) → isConfirmation a ≡ true → Passed (cardRows c a) → isQuiet (c .phase) ≡ false
+confirm-open : (c : Card) (a : Asked) → isConfirmation a ≡ true → Passed c a → isQuiet (c .phase) ≡ false
 confirm-open c unread e p = absurd (false≢true e)
 confirm-open c (create aid quota) e p = absurd (false≢true e)
 confirm-open c (on aid act) e p = absurd (false≢true e)
-confirm-open c (confirm number) e p = p .0
+confirm-open c (confirm number) e p = p .change
 confirm-open c (statusOfAll life fallback) e p = absurd (false≢true e)
 confirm-open c getData e p = absurd (false≢true e)
 confirm-open c tick e p = absurd (false≢true e)
@@ -53,7 +54,7 @@ two-rows true false f = refl
 two-rows false true f = refl
 two-rows false false f = refl
 
-confirm-word : (c : Card) (number : ℕ) → isDone (wordOf (cardRows c (confirm number))) ≡ outstanding (c .phase) number
+confirm-word : (c : Card) (number : ℕ) → isDone (wordOf success (cardRows c (confirm number))) ≡ outstanding (c .phase) number
 unfolding wordOf
 confirm-word c number = two-rows (isQuiet (c .phase)) (outstanding (c .phase) number) (none-quiet (c .phase) number)
 
@@ -64,7 +65,7 @@ confirmation-closes c call e =
     let s = taken-sound c call t in
     let d = step c call .card in
     let x = confirm-does c call s a t in
-    let on = x .enabled (enabledPlace c) ∙ enabled-at (c .places) (parts c s .one) in
+    let on = x .enabled (enabledPlace c) ∙ enabled-at (c .places) (parts c s .roles .one) in
     record {
       was-open = confirm-open c (asked c call) a (card-passed c call t);
       quiet = x .quiet;

@@ -8,13 +8,14 @@ use mathlib.Core.Bool.{true}
 use Rattle.status.specs.StatusWords.{isDone}
 use Rattle.manager.specs.Calls.{Call}
 use Rattle.status.specs.Rows.{wordOf}
-use Rattle.isdp.specs.Aids.{sameBytes, padded}
+use Rattle.byte_string.specs.Bytes.{sameBytes}
+use Rattle.isdp.specs.Aids.{bytesOf, padded}
 use Rattle.isdp.specs.Place.{isFor, clash, zeros, placeOk}
 use Rattle.places.specs.Places.{seek, quotas, allOf, anyOf, countOf, distinct, allOff, enableAt}
 use Rattle.card.specs.Sound.{phaseOk, sound}
 use Rattle.card.specs.Clock.{tickOf, lostOf, confirmOf}
 use Rattle.card.specs.Steps.{tickStep, lostStep, confirmStep}
-use Rattle.card.specs.Notifications.{noticeOf}
+use Rattle.card.specs.Notifications.{noticeSince}
 use Rattle.card.specs.Answers.{accepted}
 use Rattle.card.specs.Fresh.{freshOutcome}
 use Rattle.choice.specs.Choice.{pick, atMost, isBelow, isSame}
@@ -30,22 +31,23 @@ use Rattle.card.specs.Notifications.{silent, codeOf}
 use Rattle.card.specs.declared.Notification.{Notification}
 use Rattle.card.specs.declared.Kind.{Kind}
 use Rattle.card.specs.declared.Kind.the-variants.{Silent}
+use Rattle.card.specs.Noticed.{JustOpened, silently, told}
 use Rattle.card.specs.declared.Phase.{Phase}
+use Rattle.card.specs.declared.Phase.the-variants.{Quiet, Trial, Back, Fallen}
 use Rattle.manager.specs.Calls.{Call.Tick, Call.Lost}
-use Rattle.demands.specs.Change.{enabledAid, isTick}
+use Rattle.demands.specs.Change.{enabledBytes, isTick}
 use Rattle.demands.specs.Inputs.{freshOf}
 use Rattle.demands.specs.Examples.{aid, inputs, enable, confirm, load, ticks}
 use Rattle.demands.specs.Engines.{Engine, reached, remembered, cardAfter, answerAfter}
-use Rattle.demands.specs.Notified as statement
-use Rattle.demands.specs.Notified.{Entered, Notified, nothing, tells, MeetsNotified}
+use Rattle.demands.specs.Notified.{Notified, MeetsNotified}
 use Rattle.demands.specs.SilentEngines.{isLost, silentOn, SilenceCaught}
 use Rattle.demands.proofs.Engines.{reached-sound}
 use Rattle.demands.proofs.Notified.{every-call}
 
 -- an engine that is silent at a call where the enabled profile changes from 02 to F
 record Silence (e : Engine) (past : List Call) (call : Call) : Type 0 where
-  before : enabledAid (cardAfter e inputs past) ≡ aid 2
-  after : enabledAid (answerAfter e inputs past call .card) ≡ aid 1
+  before : enabledBytes (cardAfter e inputs past) ≡ aid 2
+  after : enabledBytes (answerAfter e inputs past call .card) ≡ aid 1
   silence : answerAfter e inputs past call .notification ≡ silent
 
 record Runs : Type 0 where
@@ -54,7 +56,7 @@ record Runs : Type 0 where
   tick : Silence (silentOn isTick) (load 2 0 ++ enable 2 ∷ ticks 9) Tick
 
 runs : Runs
-unfolding reached remembered step wordOf sameBytes padded isFor clash zeros placeOk seek quotas allOf anyOf countOf distinct allOff enableAt phaseOk sound tickOf lostOf confirmOf tickStep lostStep confirmStep noticeOf accepted freshOutcome pick atMost isBelow isSame tagAt lengthAt afterLength afterTag headAt expectOf expectAt aloneAt dgiAt confirmationAt namedBy storeDataAt protocolsWithin protocolsAt numberAt grantOf memoryAt parametersAt prefixedOf prefixedAt namesAt rightsAt installOf lengthWrong classRight classWrong instructionWrong parametersRight parametersWrong shapeRight shapeWrong fieldOf dataWrong
+unfolding reached remembered step wordOf sameBytes padded isFor clash zeros placeOk seek quotas allOf anyOf countOf distinct allOff enableAt phaseOk sound tickOf lostOf confirmOf tickStep lostStep confirmStep noticeSince accepted freshOutcome pick atMost isBelow isSame tagAt lengthAt afterLength afterTag headAt expectOf expectAt aloneAt dgiAt confirmationAt namedBy storeDataAt protocolsWithin protocolsAt numberAt grantOf memoryAt parametersAt prefixedOf prefixedAt namesAt rightsAt installOf lengthWrong classRight classWrong instructionWrong parametersRight parametersWrong shapeRight shapeWrong fieldOf dataWrong
 runs =
     record {
       made = refl;
@@ -62,18 +64,19 @@ runs =
       tick = record { before = refl; after = refl; silence = refl };
     }
 
--- a phase has a kind
-entered-loud : (n : ℕ) (p : Phase) (k : Kind) → Entered n p k → codeOf k ≡ codeOf Silent → ⊥
-entered-loud n p k (statement.trial previous) e = absurd (omega arith)
-entered-loud n p k statement.back e = absurd (omega arith)
-entered-loud n p k statement.fallen e = absurd (omega arith)
+-- a notification of a phase just opened has a kind
+opened-loud : (p : Phase) (n : Notification) → JustOpened p n → codeOf (n .kind) ≡ codeOf Silent → ⊥
+opened-loud Quiet n o e = absurd o
+opened-loud (Trial previous left number) n o e = let k = ap codeOf (o .its-kind) in absurd (omega arith)
+opened-loud (Back left number) n o e = let k = ap codeOf (o .its-kind) in absurd (omega arith)
+opened-loud (Fallen left number) n o e = let k = ap codeOf (o .its-kind) in absurd (omega arith)
 
 hears : (e : Engine) (past : List Call) (call : Call) → Silence e past call → Notified (cardAfter e inputs past) (answerAfter e inputs past call) → ⊥
-hears e past call s (nothing n a l) =
-    let q : aid 1 ≡ aid 2 = sym (s .after) ∙ a ∙ s .before in
+hears e past call s (silently x) =
+    let q : aid 1 ≡ aid 2 = sym (s .after) ∙ ap bytesOf (x .same-profile) ∙ s .before in
     let z : _≡_ {A = ℕ} 1 2 = cc in absurd (omega arith)
-hears e past call s (tells kind p l n) =
-    entered-loud _ _ kind p (ap (λ (x : Notification). codeOf (x .kind)) (sym n ∙ s .silence))
+hears e past call s (told x) =
+    opened-loud _ _ (x .phase) (ap (λ (n : Notification). codeOf (n .kind)) (s .silence))
 
 caught : (e : Engine) (past : List Call) (call : Call) → Silence e past call → MeetsNotified e → ⊥
 caught e past call s m = hears e past call s (m inputs (runs .made) past call)

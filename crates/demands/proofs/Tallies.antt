@@ -14,6 +14,7 @@ use Rattle.byte_string.specs.Bytes.{sameBytes}
 use Rattle.isdp.specs.Aids.{aidOk, padded, aidOf}
 use Rattle.isdp.specs.Place.{vacant, made, held, isFor, clash, placeOk}
 use Rattle.isdp.specs.declared.Isdp.{Isdp}
+use Rattle.isdp.proofs.Placed.{made-held, made-aid}
 use Rattle.isdp.proofs.Bools.{and-l, and-r, both, or-l, or-r}
 use Rattle.byte_string.proofs.Alike.{same-true, same-self}
 use Rattle.isdp.proofs.Alike.{clash-none}
@@ -50,29 +51,19 @@ pub lives-tally : {l m : List Isdp} (ms : List Made) → Lives l m → Tally ms 
 lives-tally ms r t w = t w ∙ sym (lives-sum w r)
 
 -- nor does anything else of a place but its AID and quota
-alike-sum : (w : Weight) (x : Isdp) (l : List Isdp) (i : ℕ) → x .aid ≡ at l i .aid → x .len ≡ at l i .len → x .quota ≡ at l i .quota → sumHeld w (set l i x) ≡ sumHeld w l
+alike-sum : (w : Weight) (x : Isdp) (l : List Isdp) (i : ℕ) → x .aid ≡ at l i .aid → x .quota ≡ at l i .quota → sumHeld w (set l i x) ≡ sumHeld w l
 unfolding sumHeld
-alike-sum w x [] i e f g = refl
-alike-sum w x (p ∷ ps) zero e f g = rw (e, f, g)
-alike-sum w x (p ∷ ps) (suc i) e f g = rw (alike-sum w x ps i e f g)
+alike-sum w x [] i e g = refl
+alike-sum w x (p ∷ ps) zero e g = rw (e, g)
+alike-sum w x (p ∷ ps) (suc i) e g = rw (alike-sum w x ps i e g)
 
-pub alike-tally : (ms : List Made) (x : Isdp) (l : List Isdp) (i : ℕ) → x .aid ≡ at l i .aid → x .len ≡ at l i .len → x .quota ≡ at l i .quota → Tally ms l → Tally ms (set l i x)
-alike-tally ms x l i e f g t w = t w ∙ sym (alike-sum w x l i e f g)
+pub alike-tally : (ms : List Made) (x : Isdp) (l : List Isdp) (i : ℕ) → x .aid ≡ at l i .aid → x .quota ≡ at l i .quota → Tally ms l → Tally ms (set l i x)
+alike-tally ms x l i e g t w = t w ∙ sym (alike-sum w x l i e g)
 
 -- a profile made anew
 module _ (aid : List ℕ) (life quota used : ℕ) (ok : aidOk aid ≡ true) where
-  sixteen : length aid ≤ mostAid
-  sixteen = leb-true (length aid) mostAid (and-r (leb leastAid (length aid)) _ ok)
-
-  pub made-held : held (made aid life quota used) ≡ true
-  made-held = rw (ne-eqb (length aid) 0 (λ z. let h = leb-true leastAid (length aid) (and-l _ _ ok) in omega arith))
-
-  pub made-aid : aidOf (made aid life quota used) ≡ aid
-  unfolding padded
-  made-aid = rw (take-all mostAid aid sixteen) (take-append-seam aid _)
-
   pub made-weight : (w : Weight) → weight w (made aid life quota used) ≡ w aid quota
-  made-weight w = rw (made-held, made-aid)
+  made-weight w = rw (made-held aid life quota used ok, made-aid aid life quota used ok)
 
 sum-set : (w : Weight) (x : Isdp) (l : List Isdp) (t : ℕ) → t < length l → held (at l t) ≡ false → sumHeld w (set l t x) ≡ weight w x + sumHeld w l
 unfolding sumHeld

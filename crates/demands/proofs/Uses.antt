@@ -6,7 +6,6 @@ use mathlib.Core.List.{List, [], _∷_}
 use mathlib.Core.Bool.{Bool, true, false, cond}
 use lib.ListN.{set}
 use lib.Dec.{ltb}
-use Rattle.isdp.specs.Aids.{nameOf}
 use Rattle.isdp.specs.LifeCycle.{enabled, isEnabled, withLife, withUsed}
 use Rattle.isdp.specs.Place.{held, isFor}
 use Rattle.isdp.specs.declared.Isdp.{Isdp}
@@ -14,7 +13,7 @@ use Rattle.places.specs.Places.{at, seek, isFree, quotas, countOf, allOff, enab
 use Rattle.card.specs.Cards.{isQuiet, placeOf, enabledPlace, freePlace, freeIn, onFallback, withPlaces}
 use Rattle.card.specs.Clock.{moved, dropped, tickIn, tickOf, lostOf}
 use Rattle.card.specs.Ticks.{stepsIn, ticksToCome}
-use Rattle.card.specs.Notifications.{issued, noticeOf}
+use Rattle.card.specs.Notifications.{issued, noticeSince}
 use Rattle.card.specs.declared.Card.{Card}
 use Rattle.card.specs.declared.Phase.{Phase}
 use Rattle.card.specs.declared.Phase.the-variants.{Quiet, Trial, Back, Fallen}
@@ -160,7 +159,7 @@ module _ (i u : ℕ) where
   ticks-reuse c = steps-reuse 300 c
 
   -- the notification
-  named-reuse : (c : Card) (j : ℕ) → nameOf (at (useAt (c .places) i u) j) ≡ nameOf (at (c .places) j)
+  named-reuse : (c : Card) (j : ℕ) → at (useAt (c .places) i u) j .aid ≡ at (c .places) j .aid
   named-reuse c j = rw (use-at (c .places) i u j)
 
   pub issued-reuse : (c : Card) → issued (reuseAt i u c) ≡ issued c
@@ -192,6 +191,6 @@ module _ (i u : ℕ) where
   unfolding dataResponse
   data-reuse c = rw (use-count held (λ p v. refl) (c .places) i u, room-reuse c)
 
-pub notice-reuse : (i u v : ℕ) (c d : Card) → noticeOf (reuseAt i u c) (reuseAt i v d) ≡ noticeOf c d
-unfolding noticeOf
+pub notice-reuse : (i u v : ℕ) (c d : Card) → noticeSince (reuseAt i u c) (reuseAt i v d) ≡ noticeSince (c .last) d
+unfolding noticeSince
 notice-reuse i u v c d = rw (issued-reuse i v d)

@@ -11,14 +11,14 @@ use borrow.Author.Tests.{ltb-false}
 use Rattle.status.specs.StatusWords.{isDone}
 use Rattle.status.specs.Rows.{Row, row, wordOf}
 use Rattle.status.specs.declared.Status.{Status}
-use Rattle.status.specs.declared.Status.the-variants.{Unsound, LengthWrong, ClassWrong, InstructionWrong, ParametersWrong, DataWrong}
-use Rattle.status.proofs.Tables.{passed}
+use Rattle.status.specs.declared.Status.the-variants.{Unsound, LengthWrong, ClassWrong, InstructionWrong, ParametersWrong, DataWrong, Done}
+use Rattle.status.proofs.Tables.{passed, succeeds}
 use Rattle.card.specs.Sound.{sound}
 use Rattle.card.specs.Answers.{Outcome, outcome, soundRow, settle, accepted, refused}
 use Rattle.card.specs.declared.Card.{Card}
 use Rattle.card.proofs.Outcomes.{decided}
 use Rattle.tlv.specs.Encoding.{window, Bytes}
-use Rattle.tlv.specs.declared.Part.{Part}
+use Rattle.byte_string.specs.declared.Part.{Part}
 use Rattle.tlv.proofs.Windows.{window-length}
 use Rattle.fields.specs.Grammar.{partBytes}
 use Rattle.command.specs.Grammar.{Wanted, Encodes, wantedOf, readAs}
@@ -36,8 +36,9 @@ use Rattle.command.proofs.ReadBack.{command-back}
 use Rattle.command.proofs.Written.{command-written}
 use Rattle.steps.specs.Asked.{Asked, Asked.on, Act.status}
 use Rattle.steps.specs.Conditions.{cardRows}
-use Rattle.steps.specs.Steps.{stepOf, responseOf, askedWork}
-use Rattle.manager.specs.Calls.{Call.Command, partOf, requestAsks, asked}
+use Rattle.steps.specs.Steps.{stepOf, responseOf, askedWork, success}
+use Rattle.byte_string.specs.Bytes.{partOf}
+use Rattle.manager.specs.Calls.{Call.Command, requestAsks, asked}
 use Rattle.manager.specs.Table.{leastBuffer, rowsAfter, table}
 use Rattle.manager.specs.Manager.{step}
 use Rattle.manager.proofs.Readings.{not-read, asks-read, word-read}
@@ -84,12 +85,12 @@ read-some : (s : List ℕ) (x : Reading) (w : Wanted) → readAs s x ≡ some w 
 read-some s (reading.Read r) w q = (r, (refl, cc))
 read-some s (reading.Refused word) w q = let z : _≡_ {A = ℕ} 0 1 = cc in absurd (omega arith)
 
-after-sound : (c : Card) (rows more : List Row) → wordOf rows ≡ wordOf more → wordOf (soundRow c ∷ rows) ≡ wordOf (soundRow c ∷ more)
+after-sound : (c : Card) (rows more : List Row) → wordOf success rows ≡ wordOf success more → wordOf success (soundRow c ∷ rows) ≡ wordOf success (soundRow c ∷ more)
 unfolding wordOf
 after-sound c rows more e = ap (cond (not (sound c)) Unsound) e
 
 -- the row 6F 00 is passed
-pub past-sound : (c : Card) (rows : List Row) → sound c ≡ true → wordOf (soundRow c ∷ rows) ≡ wordOf rows
+pub past-sound : (c : Card) (rows : List Row) → sound c ≡ true → wordOf success (soundRow c ∷ rows) ≡ wordOf success rows
 unfolding wordOf
 past-sound c rows e = rw e
 
@@ -102,22 +103,24 @@ written-answered c verdict s room w h encoded =
     ∙ asks-same verdict s (c .capacity) (r .0) (read-inside s (c .capacity) (r .0) (r .1 .0))
     ∙ ap (wantedAsks verdict) (r .1 .1) in
     let word = after-sound c (rowsAfter c (Command verdict s room)) (cardRows c (asked c (Command verdict s room))) (word-read c verdict s room h (r .0) (r .1 .0)) in
-    ap (λ (x : Status). settle c x (accepted (stepOf c (asked c (Command verdict s room))) (responseOf c (asked c (Command verdict s room))))) word
+    ap (λ (x : Status). settle c x (stepOf c (asked c (Command verdict s room))) (responseOf c (asked c (Command verdict s room)))) word
     ∙ ap (λ (x : Asked). outcome c (askedWork c x)) a
 
 -- on a sound card its word is that of the card's rows, and where none of them refuses it takes its step
-module _ (c : Card) (verdict : ℕ) (s : List ℕ) (room : ℕ) (w : Wanted) (e : sound c ≡ true) (h : leastBuffer ≤ room) (encoded : Encodes (c .capacity) w s) where
+module _ (c : Card) (verdict : ℕ) (s : List ℕ) (room : ℕ) (wanted : Wanted) (e : sound c ≡ true) (h : leastBuffer ≤ room) (encoded : Encodes (c .capacity) wanted s) where
   abbrev asks : Asked
-  asks = wantedAsks verdict w
+  asks = wantedAsks verdict wanted
 
-  pub written-word : step c (Command verdict s room) .status ≡ wordOf (cardRows c asks)
+  pub written-word : step c (Command verdict s room) .status ≡ wordOf success (cardRows c asks)
   written-word =
-      ap (λ (o : Outcome). o .status) (written-answered c verdict s room w h encoded)
-      ∙ decided c (wordOf (soundRow c ∷ cardRows c asks)) (stepOf c asks) (responseOf c asks)
+      ap (λ (o : Outcome). o .status) (written-answered c verdict s room wanted h encoded)
+      ∙ decided c (wordOf success (soundRow c ∷ cardRows c asks)) (stepOf c asks) (responseOf c asks)
       ∙ past-sound c (cardRows c asks) e
 
-  pub written-taken : isDone (wordOf (cardRows c asks)) ≡ true → step c (Command verdict s room) ≡ accepted (stepOf c asks) (responseOf c asks)
-  written-taken d = written-answered c verdict s room w h encoded ∙ ap (λ (b : Bool). cond b (accepted (stepOf c asks) (responseOf c asks)) (refused c (wordOf (soundRow c ∷ cardRows c asks)))) (ap isDone (past-sound c (cardRows c asks) e) ∙ d)
+  pub written-taken : isDone (wordOf success (cardRows c asks)) ≡ true → step c (Command verdict s room) ≡ accepted success (stepOf c asks) (responseOf c asks)
+  written-taken d =
+      let w : wordOf success (soundRow c ∷ cardRows c asks) ≡ Done = past-sound c (cardRows c asks) e ∙ succeeds success (cardRows c asks) refl d in
+      written-answered c verdict s room wanted h encoded ∙ ap (λ (x : Status). settle c x (stepOf c asks) (responseOf c asks)) w
 
 -- one that was read was written
 read-written : (s : List ℕ) (capacity : ℕ) (r : Request) → Bytes s → reading.Read r ≡ readOf s capacity → Encodes capacity (wantedOf s r) s
@@ -125,7 +128,7 @@ read-written s capacity r b q = command-written s capacity (wantedOf s r) b (ap 
 
 pub accepted-written : statement.AcceptedWritten
 accepted-written c verdict s room b e =
-    let p = passed (table c (Command verdict s room)) refl (done-as c (Command verdict s room) true e) .1 in
+    let p = passed success (table c (Command verdict s room)) refl (done-as c (Command verdict s room) true e) .1 in
     let m = p .1 in
     let r = done-read s (c .capacity) (passes-done s (c .capacity) record {
       lengthRight = m .0;
@@ -138,8 +141,8 @@ accepted-written c verdict s room b e =
     (wantedOf s (r .0), (ltb-false room leastBuffer (p .0), read-written s (c .capacity) (r .0) b (r .1)))
 
 -- the words of the rows of reading
-reading-word : (a b c d e f : Bool) → isDone (wordOf (row a LengthWrong ∷ row b ClassWrong ∷ row c InstructionWrong ∷ row d ParametersWrong ∷ row e LengthWrong ∷ row f DataWrong ∷ [])) ≡ false
-    → ofReading (wordOf (row a LengthWrong ∷ row b ClassWrong ∷ row c InstructionWrong ∷ row d ParametersWrong ∷ row e LengthWrong ∷ row f DataWrong ∷ [])) ≡ true
+reading-word : (a b c d e f : Bool) → isDone (wordOf success (row a LengthWrong ∷ row b ClassWrong ∷ row c InstructionWrong ∷ row d ParametersWrong ∷ row e LengthWrong ∷ row f DataWrong ∷ [])) ≡ false
+    → ofReading (wordOf success (row a LengthWrong ∷ row b ClassWrong ∷ row c InstructionWrong ∷ row d ParametersWrong ∷ row e LengthWrong ∷ row f DataWrong ∷ [])) ≡ true
 unfolding wordOf
 reading-word true b c d e f h = refl
 reading-word false true c d e f h = refl

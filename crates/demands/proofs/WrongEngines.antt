@@ -14,7 +14,7 @@ use Rattle.card.specs.Cards.{isQuiet}
 use Rattle.card.specs.declared.Card.{Card}
 use Rattle.card.proofs.Counts.{steps-are, steps-unique}
 use Rattle.card.proofs.Freshness.{fresh-sound}
-use Rattle.steps.specs.Steps.{responseOf}
+use Rattle.steps.specs.Steps.{responseOf, success}
 use Rattle.manager.specs.Calls.{Call, Call.Keyed, asked}
 use Rattle.manager.specs.Table.{table}
 use Rattle.manager.proofs.Kept.{step-sound, run-sound}
@@ -26,7 +26,7 @@ use Rattle.places.specs.Places.{seek, quotas, allOf, anyOf, countOf, distinct, 
 use Rattle.card.specs.Sound.{phaseOk, sound}
 use Rattle.card.specs.Clock.{tickOf, lostOf, confirmOf}
 use Rattle.card.specs.Steps.{stepTo, tickStep, lostStep, confirmStep}
-use Rattle.card.specs.Notifications.{noticeOf}
+use Rattle.card.specs.Notifications.{noticeSince}
 use Rattle.card.specs.Ticks.{stepsIn, ticksToCome}
 use Rattle.card.specs.Answers.{Outcome, refused, accepted}
 use Rattle.card.specs.Fresh.{freshOutcome}
@@ -87,7 +87,7 @@ record Runs : Type 0 where
   late-quiet : isQuiet (cardAfter lateConfirmationTaken inputs (load 2 0 ++ enable 2 ∷ (ticks 10 ++ confirm 1 ∷ [])) .phase) ≡ true
 
 runs : Runs
-unfolding reached remembered ticksAmong staysOpen step run wordOf sameBytes padded isFor clash zeros placeOk seek quotas allOf anyOf countOf distinct allOff enableAt phaseOk sound tickOf lostOf confirmOf tickStep lostStep confirmStep noticeOf stepsIn ticksToCome refused accepted freshOutcome pick atMost isBelow isSame tagAt lengthAt afterLength afterTag headAt expectOf expectAt aloneAt dgiAt confirmationAt namedBy storeDataAt verificationAt deletionAt noted listedWithin listedAt tagsAt listingAt protocolsWithin protocolsAt numberAt grantOf memoryAt parametersAt prefixedOf prefixedAt namesAt rightsAt installOf lengthWrong classRight classWrong instructionWrong parametersRight parametersWrong shapeRight shapeWrong fieldOf dataWrong statusBody statusRow rowOf rowsFrom statusResponse oneStatus dataResponse deletedResponse
+unfolding reached remembered ticksAmong staysOpen step run wordOf sameBytes padded isFor clash zeros placeOk seek quotas allOf anyOf countOf distinct allOff enableAt phaseOk sound tickOf lostOf confirmOf tickStep lostStep confirmStep noticeSince stepsIn ticksToCome refused accepted freshOutcome pick atMost isBelow isSame tagAt lengthAt afterLength afterTag headAt expectOf expectAt aloneAt dgiAt confirmationAt namedBy storeDataAt verificationAt deletionAt noted listedWithin listedAt tagsAt listingAt protocolsWithin protocolsAt numberAt grantOf memoryAt parametersAt prefixedOf prefixedAt namesAt rightsAt installOf lengthWrong classRight classWrong instructionWrong parametersRight parametersWrong shapeRight shapeWrong fieldOf dataWrong statusBody statusRow rowOf rowsFrom statusResponse oneStatus dataResponse deletedResponse
 runs =
     record {
       made = refl;
@@ -158,14 +158,14 @@ fixed-answer-examples o =
     }
 
 -- GET STATUS leaves every card as it was
-left : (c : Card) (b : Bool) (w : Status) (r : List ℕ) → cond b (accepted (stepTo c c noAid) r) (refused c w) .card ≡ c
+left : (c : Card) (b : Bool) (w : Status) (r : List ℕ) → cond b (accepted success (stepTo c c noAid) r) (refused c w) .card ≡ c
 unfolding accepted refused
 left c true w r = refl
 left c false w r = refl
 
 listed-card : (c : Card) → step c getStatus .card ≡ c
 unfolding step fieldOf pick isSame listingAt tagsAt aloneAt expectAt expectOf headAt afterTag afterLength tagAt lengthAt atMost isBelow
-listed-card c = left c (isDone (wordOf (table c getStatus))) (wordOf (table c getStatus)) (responseOf c (asked c getStatus))
+listed-card c = left c (isDone (wordOf success (table c getStatus))) (wordOf success (table c getStatus)) (responseOf c (asked c getStatus))
 
 -- a creation does not
 grown : quotas (freshOf inputs .card .places) ≡ quotas (step (freshOf inputs .card) (create 2 50) .card .places) → ⊥

@@ -14,7 +14,7 @@ use Rattle.command.specs.Grammar.{Encodes, storeData}
 use Rattle.manager.specs.Calls.{Call, Call.Command}
 use Rattle.manager.specs.Table.{leastBuffer}
 use Rattle.manager.specs.Manager.{step}
-use Rattle.demands.specs.Change.{enabledAid, taken, confirms}
+use Rattle.demands.specs.Change.{enabledBytes, taken, confirms}
 
 -- it is accepted exactly where its number is the outstanding one; where no change is open there is none
 abbrev pub ConfirmationTaken : Type 0
@@ -29,7 +29,7 @@ ConfirmationTaken =
 pub record Closed (c d : Card) : Type 0 where
   pub was-open : isQuiet (c .phase) ≡ false
   pub quiet : d .phase ≡ Quiet
-  pub enabled : enabledAid d ≡ enabledAid c
+  pub enabled : enabledBytes d ≡ enabledBytes c
   pub last : d .last ≡ c .last
 
 abbrev pub ConfirmationCloses : Type 0

@@ -10,7 +10,7 @@ use Rattle.card.specs.Notifications.{silent}
 use Rattle.card.specs.Answers.{Outcome}
 use Rattle.card.specs.Fresh.{zeroCard, freshOutcome}
 use Rattle.card.specs.declared.Card.{Card}
-use Rattle.text.specs.Put.{put}
+use Rattle.byte_string.specs.Put.{put}
 use Rattle.manager.specs.Calls.{Call}
 use Rattle.manager.specs.Manager.{step}
 
