@@ -7,7 +7,7 @@ use mathlib.Core.List.{List, [], _∷_}
 use mathlib.Core.Bool.{Bool, true, false, not, cond}
 use lib.ListN.{length, set, length-set}
 use lib.Dec.{eqb}
-use borrow.Author.Tests.{eqb-true, eq-eqb, ne-eqb, not-false}
+use borrow.Author.Tests.{eqb-true, eq-eqb, ne-eqb}
 use Rattle.status.specs.StatusWords.{isDone}
 use Rattle.status.specs.Rows.{wordOf}
 use Rattle.status.specs.declared.Status.{Status}
@@ -22,7 +22,7 @@ use Rattle.isdp.specs.declared.Isdp.{Isdp}
 use Rattle.places.specs.Places.{at, seek, enableAt}
 use Rattle.places.proofs.Lives.{enable-lives, lives-at, lives-length, enable-at, enable-one}
 use Rattle.places.proofs.Seeks.{enabled-at}
-use Rattle.card.specs.Cards.{isQuiet, placeOf, profileOf, withPlaces, withPhase}
+use Rattle.card.specs.Cards.{placeOf, profileOf, withPlaces, withPhase}
 use Rattle.card.specs.Clock.{nextOf, moved}
 use Rattle.card.specs.Sound.{sound}
 use Rattle.card.specs.Steps.{stepTo}
@@ -36,7 +36,6 @@ use Rattle.card.proofs.Counts.{counted}
 use Rattle.card.proofs.Outcomes.{took}
 use Rattle.card.proofs.Sounds.{Sound, parts}
 use Rattle.steps.specs.Laws.Answer.{profileAt, Holds, Enabled, Answers, Still, OnPlace, onlyAt, replaced, rephased, entered}
-use Rattle.steps.proofs.Kept.{quiet-is}
 use Rattle.steps.proofs.Opens.{only}
 use Rattle.steps.proofs.Laws.Places.{place-is, holds, set-places, trade-places}
 
@@ -75,9 +74,6 @@ on-target c aid w May Answered s p d f g =
 pub no-notice : (c d : Card) → d .last ≡ c .last → noticeSince (c .last) d ≡ silent
 unfolding noticeSince
 no-notice c d e = rw (eq-eqb (d .last) (c .last) e)
-
-pub quietly : (p : Phase) → not (isQuiet p) ≡ false → p ≡ Quiet
-quietly p e = quiet-is p (not-false _ e)
 
 -- in Quiet nothing is to come
 pub none-to-come : (c : Card) → c .phase ≡ Quiet → ticksToCome c ≡ 0

@@ -26,8 +26,9 @@ use Rattle.steps.specs.Asked.{Act.enable, Act.disable, Asked.on}
 use Rattle.steps.specs.Steps.{askedWork}
 use Rattle.steps.specs.Laws.Answer.{profileAt, Holds, Enabled, OnPlace}
 use Rattle.steps.specs.Laws.Change.{TrialEntered, MayEnable, EnableLaw, MayDisable, DisableLaw}
+use Rattle.steps.proofs.Kept.{quietly}
 use Rattle.steps.proofs.Opens.{only, opens, enabled-life, fallback-life}
-use Rattle.steps.proofs.Laws.Answer.{on-target, quietly, enters}
+use Rattle.steps.proofs.Laws.Answer.{on-target, enters}
 
 -- the enabled place is one
 pub enabled-is : (c : Card) (e : ℕ) → Sound c → Enabled c e → enabledPlace c ≡ e

@@ -28,7 +28,7 @@ use Rattle.card.proofs.Sounds.{Phased, Sound, parts, nonzero}
 use Rattle.responses.specs.Responses.{deletedResponse}
 use Rattle.steps.specs.Asked.{Asked.confirm}
 use Rattle.steps.specs.Conditions.{cardRows}
-use Rattle.steps.specs.Steps.{success, askedWork}
+use Rattle.steps.specs.Steps.{askedWork}
 use Rattle.steps.specs.Laws.Answer.{profileAt, element, Answers, Exactly, rephased}
 use Rattle.steps.specs.Laws.Confirmation.{closedWithout, trialConfirmed, ConfirmedIn, ConfirmationLaw}
 use Rattle.steps.proofs.Laws.Places.{set-places}
@@ -86,13 +86,13 @@ module _ (c : Card) (number : ℕ) (s : sound c ≡ true) where
             subst Answered (sym (r ∙ by-phase p e)) a;
       }
 
-  quiet-word : c .phase ≡ Quiet → wordOf success (soundRow c ∷ cardRows c (confirm number)) ≡ StateWrong
+  quiet-word : c .phase ≡ Quiet → wordOf Done (soundRow c ∷ cardRows c (confirm number)) ≡ StateWrong
   unfolding wordOf
   quiet-word e = rw (s, e)
 
   in-phase : (p : Phase) → c .phase ≡ p → Phased p c → ConfirmedIn p c number (outcome c (askedWork c (confirm number)))
   unfolding deletedResponse
-  in-phase Quiet e h = decided c (wordOf success (soundRow c ∷ cardRows c (confirm number))) (confirmStep c) (deletedResponse (confirmStep c .deleted)) ∙ quiet-word e
+  in-phase Quiet e h = decided c (wordOf Done (soundRow c ∷ cardRows c (confirm number))) (confirmStep c) (deletedResponse (confirmStep c .deleted)) ∙ quiet-word e
   in-phase (Trial previous left n) e h =
       exactly (Trial previous left n) n (Answers c (trialConfirmed c previous)) e refl refl (trial-case c (parts c s) previous (dropped c previous) (h .1))
   in-phase (Back left n) e h = exactly (Back left n) n (Answers c (rephased c Quiet 0)) e refl refl (closes c (parts c s))

@@ -25,8 +25,9 @@ use Rattle.steps.specs.Conditions.{cardRows}
 use Rattle.steps.specs.Steps.{askedWork}
 use Rattle.steps.specs.Laws.Answer.{Holds, Answers, onlyAt, replaced}
 use Rattle.steps.specs.Laws.Create.{LowestFree, MayCreate, CreateLaw}
+use Rattle.steps.proofs.Kept.{quietly}
 use Rattle.steps.proofs.Laws.Places.{place-is, holds}
-use Rattle.steps.proofs.Laws.Answer.{work-passed, step-taken, quietly, none-to-come, rewrites}
+use Rattle.steps.proofs.Laws.Answer.{work-passed, step-taken, none-to-come, rewrites}
 
 -- a search passes over no place that passes its test
 lower-case : (t : Isdp → Bool) (p : Isdp) (ps : List Isdp) (i : ℕ) (b : Bool) → t p ≡ b → i < cond b 0 (suc (seek t ps)) → ((j : ℕ) → j < seek t ps → t (at ps j) ≡ false) → t (at (p ∷ ps) i) ≡ false

@@ -19,8 +19,9 @@ use Rattle.steps.specs.Asked.{Act.delete, Act.masterDelete, Asked.on}
 use Rattle.steps.specs.Steps.{askedWork}
 use Rattle.steps.specs.Laws.Answer.{Holds}
 use Rattle.steps.specs.Laws.Deletion.{MayDelete, MayMasterDelete, Deleted, DeleteLaw, MasterDeleteLaw}
+use Rattle.steps.proofs.Kept.{quietly}
 use Rattle.steps.proofs.Laws.Places.{held-within}
-use Rattle.steps.proofs.Laws.Answer.{on-target, quietly, none-to-come, rewrites}
+use Rattle.steps.proofs.Laws.Answer.{on-target, none-to-come, rewrites}
 
 module _ (c : Card) (aid : List ℕ) where
   abbrev t : ℕ

@@ -20,8 +20,9 @@ use Rattle.steps.specs.Conditions.{cardRows}
 use Rattle.steps.specs.Steps.{askedWork}
 use Rattle.steps.specs.Laws.Answer.{Holds, Answers, Still}
 use Rattle.steps.specs.Laws.FallBack.{MayBeFallBack, fallsBackTo, SetFallBackLaw}
+use Rattle.steps.proofs.Kept.{quietly}
 use Rattle.steps.proofs.Laws.Places.{place-is}
-use Rattle.steps.proofs.Laws.Answer.{on-target, step-taken, quietly, no-notice, none-to-come, still}
+use Rattle.steps.proofs.Laws.Answer.{on-target, step-taken, no-notice, none-to-come, still}
 
 falls-back : (c : Card) (t : ℕ) → c .phase ≡ Quiet → Answers c (fallsBackTo c t) (accepted Done (stepTo c (withFallback c t) noAid) [])
 unfolding accepted
