@@ -3,16 +3,15 @@
 use mathlib.Core.Path.{_≡_, refl, ap, sym, _∙_}
 use Prim.Native.Nat.{ℕ, _≤_}
 use mathlib.Core.List.{List, _++_}
-use mathlib.Core.Bool.{Bool, true, false, cond}
+use mathlib.Core.Bool.{false}
 use borrow.Author.Tests.{le-ltb}
 use Rattle.status.specs.StatusWords.{isDone}
-use Rattle.status.specs.Rows.{Row, wordOf}
+use Rattle.status.specs.Rows.{wordOf}
 use Rattle.status.specs.declared.Status.{Status}
 use Rattle.card.specs.Ticks.{ticksByPhase}
 use Rattle.card.specs.Answers.{refusedAt, known}
 use Rattle.card.specs.declared.Card.{Card}
 use Rattle.command.specs.Reading.{readingRows, readOf}
-use Rattle.command.specs.Requests.{fieldOf}
 use Rattle.command.specs.declared.request.Request.{Request}
 use Rattle.command.specs.declared.request.Field.the-variants as field
 use Rattle.command.specs.declared.Reading.the-variants as reading

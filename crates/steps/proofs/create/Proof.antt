@@ -1,6 +1,6 @@
 -- `steps::create`: the rows of the change, of an AID already held, of a free place and of the room left, each passed or stopped at.
 use mathlib.Core.Path.{_≡_, sym, _∙_}
-use Prim.Native.Nat.{ℕ, _<_}
+use Prim.Native.Nat.{_<_}
 use mathlib.Core.Bool.{true, false}
 use borrow.Author.Tests.{lt-ltb, le-ltb, le-leb, lt-leb, not-true, not-false}
 use Rattle.status.specs.Rows.{wordOf}

@@ -1,6 +1,5 @@
 -- `steps::disable`: the rows of the change, the target, its state (it is not the fall-back) and its policy, each passed or stopped at.
 use mathlib.Core.Path.{_≡_, sym, _∙_}
-use Prim.Native.Nat.{ℕ}
 use mathlib.Core.Bool.{Bool, true, false, not, _&&_}
 use lib.Dec.{eqb}
 use borrow.Author.Tests.{not-true, not-false}

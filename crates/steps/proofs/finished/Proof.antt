@@ -1,5 +1,5 @@
 -- `steps::finished`: the rows of the values, the target and its state, each passed or stopped at.
-use mathlib.Core.Path.{_≡_, sym, _∙_}
+use mathlib.Core.Path.{_≡_}
 use mathlib.Core.Bool.{Bool, true, false, _&&_}
 use lib.Dec.{ltb, eqb}
 use borrow.Author.Tests.{not-true, not-false}
