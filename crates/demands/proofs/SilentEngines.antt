@@ -41,7 +41,7 @@ use Rattle.demands.specs.Engines.{Engine, reached, remembered, cardAfter
 use Rattle.demands.specs.Notified.{Notified, MeetsNotified}
 use Rattle.demands.specs.SilentEngines.{isLost, silentOn, SilenceCaught}
 use Rattle.demands.proofs.Engines.{reached-sound}
-use Rattle.demands.proofs.Notified.{every-call}
+use Rattle.demands.proofs.Notified.{calls-notify}
 
 -- an engine that is silent at a call where the enabled profile changes from 02 to F
 record Silence (e : Engine) (past : List Call) (call : Call) : Type 0 where
@@ -83,7 +83,7 @@ caught e past call s m = hears e past call s (m inputs (runs .made) past call)
 pub silence-caught : SilenceCaught
 silence-caught =
     record {
-      manager-notifies = λ x a past call. every-call _ call (reached-sound x a past);
+      manager-notifies = λ x a past call. calls-notify _ call (reached-sound x a past);
       silent-lost = caught _ _ _ (runs .lost);
       silent-tick = caught _ _ _ (runs .tick);
     }
