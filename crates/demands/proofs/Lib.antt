@@ -5,6 +5,7 @@ pub mod Demand2
 pub mod Ticks
 pub mod OpeningAnswers
 pub mod Written
+pub mod CallLaws
 pub mod Confirmation
 pub mod Create
 pub mod Unique
