@@ -226,7 +226,7 @@ step-notice c getData = refl
 step-notice c tick = refl
 step-notice c lost = refl
 
-pub near-notice : (a : List ℕ) (i u : ℕ) (c x y : Card) → Near a i x y → noticeSince (reuseAt i u c) y ≡ noticeSince (c .last) x
+pub near-notice : (a : List ℕ) (i u : ℕ) (c x y : Card) → Near a i x y → noticeSince (c .last) y ≡ noticeSince (c .last) x
 unfolding noticeSince
 near-notice a i u c x y (same e) = rw e
 near-notice a i u c x y (apart v e b) = rw e (notice-reuse i u v c x)

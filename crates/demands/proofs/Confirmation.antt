@@ -5,7 +5,7 @@ use Prim.Native.Nat.{ℕ}
 use mathlib.Core.Bool.{Bool, true, false, not, cond, false≢true}
 use Rattle.status.specs.StatusWords.{isDone}
 use Rattle.status.specs.Rows.{wordOf}
-use Rattle.steps.specs.Steps.{success}
+use Rattle.steps.specs.Steps.{successOf}
 use Rattle.steps.proofs.Rows.{Passed}
 use Rattle.status.specs.declared.Status.the-variants.{StateWrong, NotHeld, Done}
 use Rattle.isdp.proofs.Bools.{and-l, and-r}
@@ -54,7 +54,7 @@ two-rows true false f = refl
 two-rows false true f = refl
 two-rows false false f = refl
 
-confirm-word : (c : Card) (number : ℕ) → isDone (wordOf success (cardRows c (confirm number))) ≡ outstanding (c .phase) number
+confirm-word : (c : Card) (number : ℕ) → isDone (wordOf (successOf c (confirm number)) (cardRows c (confirm number))) ≡ outstanding (c .phase) number
 unfolding wordOf
 confirm-word c number = two-rows (isQuiet (c .phase)) (outstanding (c .phase) number) (none-quiet (c .phase) number)
 

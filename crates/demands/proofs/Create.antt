@@ -25,7 +25,7 @@ use Rattle.card.proofs.Sounds.{parts}
 use Rattle.card.proofs.Outcomes.{accepted-card}
 use Rattle.steps.specs.Asked.{Asked.create}
 use Rattle.steps.specs.Conditions.{cardRows}
-use Rattle.steps.specs.Steps.{stepOf, responseOf, success}
+use Rattle.steps.specs.Steps.{stepOf, responseOf, successOf}
 use Rattle.manager.specs.Calls.{Call.Command}
 use Rattle.manager.specs.Manager.{step}
 use Rattle.demands.specs.Create.{SoundRequest, RoomDecides, Filled, CreateLive}
@@ -68,12 +68,12 @@ over-case q f false e = sym (lt-ltb f q (leb-false q f e))
 over : (q f : ℕ) → not (leb q f) ≡ ltb f q
 over q f = over-case q f (leb q f) refl
 
-rows-word : (c : Card) (aid : List ℕ) (quota : ℕ) → isQuiet (c .phase) ≡ true → held (profileOf c aid) ≡ false → ltb (freePlace c) mostPlaces ≡ anyOf isFree (c .places) → wordOf success (cardRows c (create aid quota)) ≡ cond (not (anyOf isFree (c .places)) || ltb (freeIn c) quota) NoRoom Done
+rows-word : (c : Card) (aid : List ℕ) (quota : ℕ) → isQuiet (c .phase) ≡ true → held (profileOf c aid) ≡ false → ltb (freePlace c) mostPlaces ≡ anyOf isFree (c .places) → wordOf (successOf c (create aid quota)) (cardRows c (create aid quota)) ≡ cond (not (anyOf isFree (c .places)) || ltb (freeIn c) quota) NoRoom Done
 unfolding wordOf
 rows-word c aid quota q n f = rw (q, n, f, over quota (freeIn c))
 
 module _ (c : Card) (verdict : ℕ) (s : List ℕ) (room : ℕ) (v : Created) (r : SoundRequest c s room v) where
-  card-word : wordOf success (cardRows c (create (v .aid) (v .quota))) ≡ cond (not (anyOf isFree (c .places)) || ltb (freeIn c) (v .quota)) NoRoom Done
+  card-word : wordOf (successOf c (create (v .aid) (v .quota))) (cardRows c (create (v .aid) (v .quota))) ≡ cond (not (anyOf isFree (c .places)) || ltb (freeIn c) (v .quota)) NoRoom Done
   card-word =
       let l = c .places in
       let n = parts c (r .card-sound) .sizes .full in
@@ -85,13 +85,13 @@ module _ (c : Card) (verdict : ℕ) (s : List ℕ) (room : ℕ) (v : Created) (r
   filled free fits =
       let a = create (v .aid) (v .quota) in
       let k = ltb-true (freePlace c) (length (c .places)) (found-any isFree (c .places) ∙ free) in
-      let d : isDone (wordOf success (cardRows c a)) ≡ true = ap isDone card-word ∙ rw (free, fits) in
+      let d : isDone (wordOf (successOf c a) (cardRows c a)) ≡ true = ap isDone card-word ∙ rw (free, fits) in
       record {
         place = freePlace c;
         there = k;
         free = seek-below isFree (c .places) k;
         lowest = lower isFree (c .places);
-        new = ap (λ (o : Outcome). o .card) (written-taken c verdict s room (written.create v) (r .card-sound) (r .buffer-long) (r .encoded) d) ∙ accepted-card success (stepOf c a) (responseOf c a);
+        new = ap (λ (o : Outcome). o .card) (written-taken c verdict s room (written.create v) (r .card-sound) (r .buffer-long) (r .encoded) d) ∙ accepted-card (successOf c a) (stepOf c a) (responseOf c a);
       }
 
 pub room-decides : RoomDecides

@@ -21,9 +21,8 @@ use Rattle.card.specs.Fresh.{freshOutcome}
 use Rattle.card.specs.declared.Card.{Card}
 use Rattle.card.proofs.Sounds.{parts, done-nonzero}
 use Rattle.card.proofs.Freshness.{fresh-sound}
-use Rattle.steps.specs.Steps.{success}
 use Rattle.manager.specs.Table.{table}
-use Rattle.manager.specs.Manager.{step, run, answers}
+use Rattle.manager.specs.Manager.{step, run, answers, work}
 use Rattle.manager.proofs.Runs.{run-parts, answers-parts}
 use Rattle.manager.proofs.Kept.{step-sound, run-sound}
 use Rattle.demands.specs.Demand2.{NoneHolds, First, FirstRow, OnlyFirstRow, Otherwise, OnlyOtherwise, Takes, FreshTaken, FreshRefused, RunAnswered, Makes, Standing, FromFresh, Demand2}
@@ -41,17 +40,17 @@ from-passed (r ∷ rs) h = (h .0, from-passed rs (h .1))
 
 pub first-row : FirstRow
 first-row c call w f =
-    word-is c call ∙ ap (wordOf success) (f .split) ∙ tables.first-row success (f .before) (f .this) (f .after) (to-passed (f .before) (f .none-before)) (f .holds) ∙ f .word
+    word-is c call ∙ ap (wordOf Done) (f .split) ∙ tables.first-row Done (f .before) (f .this) (f .after) (to-passed (f .before) (f .none-before)) (f .holds) ∙ f .word
 
 -- the first row that holds is found by going down the rows
-found-case : (r : Row) (rs : List Row) (b : Bool) → r .when ≡ b → isDone (cond b (r .word) (wordOf success rs)) ≡ false → (isDone (wordOf success rs) ≡ false → First rs (wordOf success rs)) → First (r ∷ rs) (cond b (r .word) (wordOf success rs))
+found-case : (r : Row) (rs : List Row) (b : Bool) → r .when ≡ b → isDone (cond b (r .word) (wordOf Done rs)) ≡ false → (isDone (wordOf Done rs) ≡ false → First rs (wordOf Done rs)) → First (r ∷ rs) (cond b (r .word) (wordOf Done rs))
 found-case r rs true q e f =
     record { before = []; this = r; after = rs; split = refl; none-before = tt; holds = q; word = refl }
 found-case r rs false q e f =
     let g = f e in
     record { before = r ∷ g .before; this = g .this; after = g .after; split = ap (λ (l : List Row). r ∷ l) (g .split); none-before = (q, g .none-before); holds = g .holds; word = g .word }
 
-found : (rows : List Row) → isDone (wordOf success rows) ≡ false → First rows (wordOf success rows)
+found : (rows : List Row) → isDone (wordOf Done rows) ≡ false → First rows (wordOf Done rows)
 unfolding wordOf
 found [] e = absurd (false≢true (sym e))
 found (r ∷ rs) e = found-case r rs (r .when) refl e (found rs)
@@ -60,10 +59,10 @@ pub only-first-row : OnlyFirstRow
 only-first-row c call e = rw (word-is c call) (found (table c call) (done-as c call false e))
 
 pub otherwise : Otherwise
-otherwise c call h = word-is c call ∙ tables.no-row success (table c call) (to-passed (table c call) h)
+otherwise c call h = word-is c call ∙ tables.no-row (work c call .success) (table c call) (to-passed (table c call) h)
 
 pub only-otherwise : OnlyOtherwise
-only-otherwise c call e = from-passed (table c call) (tables.passed success (table c call) refl (done-as c call true (ap isDone e)))
+only-otherwise c call e = from-passed (table c call) (tables.passed (work c call .success) (table c call) refl (done-as c call true (ap isDone e)))
 
 pub takes : Takes
 takes c call e = takes-step c call (ap isDone e)

@@ -4,21 +4,18 @@ use mathlib.Core.Path.{_≡_, refl, sym}
 use Prim.Native.Nat.{ℕ}
 use mathlib.Core.List.{List, [], _∷_, _++_}
 use mathlib.Core.Bool.{true}
-use Rattle.status.specs.declared.Status.the-variants.{Done}
 use Rattle.status.specs.StatusWords.{isDone}
-use Rattle.status.specs.Rows.{wordOf}
 use Rattle.card.specs.Sound.{sound}
 use Rattle.card.specs.Ticks.{ticksToCome, StepsTo}
 use Rattle.card.specs.declared.Card.{Card}
 use Rattle.card.proofs.Counts.{steps-are}
 use Rattle.card.proofs.Outcomes.{decide-ticks}
 use Rattle.card.proofs.Freshness.{fresh-sound}
-use Rattle.steps.specs.Steps.{stepOf, responseOf, success}
+use Rattle.steps.specs.Steps.{stepOf, responseOf}
 use Rattle.manager.specs.Calls.{Call, Call.Lost, asked}
-use Rattle.manager.specs.Table.{table}
 use Rattle.manager.specs.Manager.{step, run}
 use Rattle.manager.proofs.Kept.{took-sound, step-sound, run-sound}
-use Rattle.demands.specs.Change.{Change, LostChange}
+use Rattle.demands.specs.Change.{Change, LostChange, tableWord}
 use Rattle.demands.specs.Inputs.{Inputs, freshOf}
 use Rattle.demands.specs.Engines.{reached, cardAfter, Meets, manager}
 use Rattle.demands.proofs.Openings.{demand-3, lost-network}
@@ -48,7 +45,7 @@ lost-retold f r s e x = coe 0 1 (i. LostChange f (λ calls. e calls i)) x
 step-ticks : (c : Card) (call : Call) → sound c ≡ true → step c call .ticks ≡ ticksToCome (step c call .card)
 unfolding step
 step-ticks c call s =
-    let e = decide-ticks c (wordOf success (table c call)) (stepOf c (asked c call)) (responseOf c (asked c call)) (took-sound c call) in
+    let e = decide-ticks c (tableWord c call) (stepOf c (asked c call)) (responseOf c (asked c call)) (took-sound c call) in
     let k : sound (step c call .card) ≡ true = step-sound c call s in
     rw k at e
 

@@ -7,7 +7,6 @@ use mathlib.Core.Bool.{Bool, true, false, not, _&&_, false≢true}
 use lib.ListN.{set}
 use lib.Dec.{eqb}
 use borrow.Author.Tests.{eqb-true, not-false}
-use Rattle.status.specs.declared.Status.the-variants.{Done}
 use Rattle.status.specs.Rows.{row, wordOf}
 use Rattle.steps.proofs.Rows.{Passed}
 use Rattle.manager.proofs.Kept.{rows-accepted}
@@ -28,8 +27,7 @@ use Rattle.card.specs.declared.Phase.the-variants.{Quiet, Trial, Back, Fallen}
 use Rattle.card.proofs.Sounds.{Phased, parts, choose}
 use Rattle.card.proofs.Outcomes.{decide-card}
 use Rattle.steps.specs.Asked.{Act, Act.enable, Act.disable, Act.delete, Act.masterDelete, Act.setFallBack, Act.status, Act.keyed, Act.stored, Act.finished, Asked, Asked.unread, Asked.create, Asked.on, Asked.confirm, Asked.statusOfAll, Asked.getData, Asked.tick, Asked.lost}
-use Rattle.steps.specs.Conditions.{cardRows}
-use Rattle.steps.specs.Steps.{stepOf, responseOf, success}
+use Rattle.steps.specs.Steps.{stepOf, responseOf}
 use Rattle.command.specs.Requests.{fieldOf}
 use Rattle.command.specs.declared.request.Request.{Request}
 use Rattle.command.specs.declared.request.Request.the-variants as request
@@ -37,16 +35,16 @@ use Rattle.command.specs.declared.request.Field.{Field}
 use Rattle.command.specs.declared.request.Field.the-variants as field
 use Rattle.manager.specs.Calls.{Call, Call.Command, Call.Keyed, Call.Stored, Call.Finished, Call.Tick, Call.Lost, asked, requestAsks, fieldAsks}
 use Rattle.manager.specs.Table.{table}
-use Rattle.manager.specs.Manager.{step}
-use Rattle.demands.specs.Change.{taken, isTick, isConfirmation, Unmoved, Frame, OnlyOutstanding}
+use Rattle.manager.specs.Manager.{step, work}
+use Rattle.demands.specs.Change.{taken, isTick, isConfirmation, Unmoved, Frame, OnlyOutstanding, tableWord}
 
 -- an accepted call passed the card's rows, and the row of soundness
 pub card-passed : (c : Card) (call : Call) → taken c call ≡ true → Passed c (asked c call)
-card-passed c call e = rows-accepted c call e .card
+card-passed c call e = rows-accepted c call (work c call .success) e .card
 
 -- an accepted call was made on a sound card
 pub taken-sound : (c : Card) (call : Call) → taken c call ≡ true → sound c ≡ true
-taken-sound c call e = rows-accepted c call e .whole
+taken-sound c call e = rows-accepted c call (work c call .success) e .whole
 
 pub same : (c : Card) → Unmoved c c
 same c = record { phase = refl; enabled = λ i. refl; named = λ i. refl; fallback = refl; last = refl }
@@ -138,7 +136,7 @@ not-asked false b e h = refl
 pub frame : Frame
 unfolding step
 frame c call s o e =
-    decide-card (Unmoved c) c (wordOf success (table c call)) (stepOf c (asked c call)) (responseOf c (asked c call))
+    decide-card (Unmoved c) c (tableWord c call) (stepOf c (asked c call)) (responseOf c (asked c call))
     (λ d. asked-same c (asked c call) o (only-tick c call (or-l (isTick call) _ e)) (not-asked (isConfirmation (asked c call)) (taken c call) (or-r (isTick call) _ e) d) (card-passed c call d))
     (same c)
 

@@ -37,12 +37,10 @@ use Rattle.card.proofs.Outcomes.{took, accepted-card}
 use Rattle.card.proofs.Freshness.{fresh-sound}
 use Rattle.responses.specs.Responses.{deletedResponse}
 use Rattle.steps.specs.Asked.{Act, Act.enable, Act.disable, Act.delete, Act.masterDelete, Act.setFallBack, Act.status, Act.keyed, Act.stored, Act.finished, Asked, Asked.unread, Asked.create, Asked.on, Asked.confirm, Asked.statusOfAll, Asked.getData, Asked.tick, Asked.lost}
-use Rattle.steps.specs.Conditions.{cardRows}
-use Rattle.steps.specs.Steps.{stepOf, actStep, responseOf, success}
+use Rattle.steps.specs.Steps.{stepOf, actStep, responseOf, successOf}
 use Rattle.steps.proofs.Kept.{Legal}
 use Rattle.manager.specs.Calls.{Call, asked, askedOf}
-use Rattle.manager.specs.Table.{table}
-use Rattle.manager.specs.Manager.{step, run}
+use Rattle.manager.specs.Manager.{step, run, work}
 use Rattle.manager.proofs.Kept.{rows-accepted, legal, step-sound}
 use Rattle.demands.specs.Inputs.{Inputs, freshOf}
 use Rattle.demands.specs.Said.{said, Exchange, exchanges}
@@ -148,7 +146,7 @@ module _ (c : Card) (s : Sound c) (ms : List Made) (t : Tally ms (c .places)) wh
   asks-tally tick g p = lives-tally ms (tick-lives c) t
   asks-tally lost g p = lives-tally ms (lost-lives c) t
 
-accepted-response : (c : Card) (a : Asked) → accepted success (stepOf c a) (responseOf c a) .response ≡ responseOf c a
+accepted-response : (c : Card) (a : Asked) → accepted (successOf c a) (stepOf c a) (responseOf c a) .response ≡ responseOf c a
 unfolding accepted
 accepted-response c a = refl
 
@@ -158,9 +156,9 @@ exchanged c call = record { call = call; answer = said (step c call) }
 
 done-tally : (c : Card) (call : Call) (ms : List Made) (b : Bool) → isDone (step c call .status) ≡ b → sound c ≡ true → Tally ms (c .places) → Tally (cond b (afterAsked (askedOf (c .capacity) call) (step c call .response) ms) ms) (step c call .card .places)
 done-tally c call ms true e s t =
-    let p = rows-accepted c call (done-as c call true e) in
+    let p = rows-accepted c call (work c call .success) (done-as c call true e) in
     let x = asked c call in
-    rw (takes-step c call e, accepted-card success (stepOf c x) (responseOf c x), accepted-response c x)
+    rw (takes-step c call e, accepted-card (successOf c x) (stepOf c x) (responseOf c x), accepted-response c x)
     (asks-tally c (parts c s) ms t x (legal c call (p .values)) (p .card))
 done-tally c call ms false e s t =
     hands-back c call (λ d. Tally ms (d .places)) (λ f. absurd (false≢true (sym e ∙ f))) t
@@ -189,10 +187,10 @@ pub fresh-is : (x : Inputs) → isDone (freshOf x .status) ≡ true → (aidOk (
 unfolding freshOutcome
 fresh-is x h =
     let rows = row (not (freshOk (x .eid) (x .aid) (x .capacity) (x .quota) (x .used))) DataWrong ∷ [] in
-    let t = took zeroCard (wordOf success rows) (stepTo zeroCard (cardOf x) noAid) [] h in
-    let p = passed rows refl (t .0) in
+    let t = took zeroCard (wordOf Done rows) (stepTo zeroCard (cardOf x) noAid) [] h in
+    let p = passed Done rows refl (t .0) in
     let f = and-r (eqb (length (x .eid)) eidSize) _ (not-false _ (p .0)) in
-    (and-l (aidOk (x .aid)) _ f, rw (t .1) (accepted-card success (stepTo zeroCard (cardOf x) noAid) []))
+    (and-l (aidOk (x .aid)) _ f, rw (t .1) (accepted-card (wordOf Done rows) (stepTo zeroCard (cardOf x) noAid) []))
 
 pub free-is-counted : FreeIsCounted
 free-is-counted x calls h =

@@ -27,9 +27,10 @@ use Rattle.command.specs.declared.request.Request.the-variants as request
 use Rattle.command.specs.declared.request.Field.{Field}
 use Rattle.command.specs.declared.request.Field.the-variants as field
 use Rattle.command.specs.Requests.{fieldOf}
+use Rattle.demands.specs.Change.{tableWord}
 use Rattle.steps.specs.Asked.{Asked}
 use Rattle.steps.specs.Conditions.{cardRows}
-use Rattle.steps.specs.Steps.{stepOf, responseOf, success}
+use Rattle.steps.specs.Steps.{stepOf, responseOf}
 use Rattle.manager.specs.Calls.{Call, Call.Command, Call.Keyed, Call.Stored, Call.Finished, Call.Tick, Call.Lost, requestAsks, fieldAsks, asked}
 use Rattle.manager.specs.Table.{bufferShort, inCommand, valuesWrong, table}
 use Rattle.manager.specs.Manager.{step, run}
@@ -119,8 +120,8 @@ step-alike a i u c call e f b n =
     let notice : stepOf (reuseAt i u c) x .notification ≡ stepOf c x .notification = step-notice (reuseAt i u c) x ∙ near-notice a i u c (stepOf c x .card) (stepOf (reuseAt i u c) x .card) near ∙ sym (step-notice c x) in
     let rows : table (reuseAt i u c) call ≡ table c call = rows-alike call (not (sound (reuseAt i u c))) (not (sound c)) (valuesWrong (reuseAt i u c) call) (valuesWrong c call) (cardRows (reuseAt i u c) (asked (reuseAt i u c) call)) (cardRows c x) (rw (e, f)) (values-same i u c call) (ap (cardRows (reuseAt i u c)) (asked-same i u c call) ∙ rows-near a i u c b x k) in
     subst (Alike a i (step c call))
-    (sym (outcome-alike (reuseAt i u c) (wordOf success (table (reuseAt i u c) call)) (wordOf success (table c call)) (asked (reuseAt i u c) call) x (responseOf c x) (ap (wordOf success) rows) (asked-same i u c call) (response-near a i u c b x)))
-    (alike-case a i u c (wordOf success (table c call)) (stepOf c x) (stepOf (reuseAt i u c) x) (responseOf c x) (isDone (wordOf success (table c call))) e f b notice near)
+    (sym (outcome-alike (reuseAt i u c) (tableWord (reuseAt i u c) call) (tableWord c call) (asked (reuseAt i u c) call) x (responseOf c x) (ap (wordOf Done) rows) (asked-same i u c call) (response-near a i u c b x)))
+    (alike-case a i u c (tableWord c call) (stepOf c x) (stepOf (reuseAt i u c) x) (responseOf c x) (isDone (tableWord c call)) e f b notice near)
 
 -- a run
 exchange : (call : Call) (x y : Said) (xs ys : List Exchange) → x ≡ y → xs ≡ ys → _≡_ {A = List Exchange} (record { call = call; answer = x } ∷ xs) (record { call = call; answer = y } ∷ ys)

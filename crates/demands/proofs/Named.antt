@@ -6,7 +6,6 @@ use mathlib.Core.List.{List, [], _∷_, _++_}
 use mathlib.Core.Bool.{Bool, true, false, not, cond, _&&_, _||_, false≢true}
 use lib.Dec.{ltb}
 use Rattle.isdp.specs.Aids.{aidOf, bytesOf}
-use Rattle.isdp.specs.declared.Aid.{Aid}
 use Rattle.isdp.proofs.Bools.{and-l, and-r}
 use Rattle.isdp.specs.declared.Isdp.{Isdp}
 use Rattle.places.specs.Places.{at}

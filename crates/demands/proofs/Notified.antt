@@ -22,13 +22,10 @@ use Rattle.places.proofs.Seeks.{seek-below}
 use Rattle.places.proofs.Sets.{all-at}
 use Rattle.card.specs.Cards.{placeOf, profileOf, freePlace, enabledAid, withPlaces, withFallback}
 use Rattle.card.specs.Sound.{sound}
-use Rattle.card.specs.Noticed.{Silently, Entered, JustOpened, Told, Noticed, silently, told}
-use Rattle.card.specs.Notifications.{silent}
+use Rattle.card.specs.Noticed.{JustOpened, Noticed, silently, told}
 use Rattle.card.specs.Steps.{stepTo}
 use Rattle.card.specs.Answers.{Outcome, accepted}
 use Rattle.card.specs.declared.Card.{Card}
-use Rattle.card.specs.declared.Kind.{Kind}
-use Rattle.card.specs.declared.Kind.the-variants.{Changed, RolledBack, FallenBack}
 use Rattle.card.specs.declared.Notification.{Notification}
 use Rattle.card.specs.declared.Phase.{Phase}
 use Rattle.card.specs.declared.Phase.the-variants.{Quiet, Trial, Back, Fallen}
@@ -37,7 +34,6 @@ use Rattle.card.proofs.Sounds.{parts}
 use Rattle.card.proofs.Noticed.{found-kept, unmoved, steps-noticed}
 use Rattle.card.proofs.Freshness.{fresh-sound}
 use Rattle.steps.specs.Asked.{Act, Act.enable, Act.disable, Act.delete, Act.masterDelete, Act.setFallBack, Act.status, Act.keyed, Act.stored, Act.finished, Asked, Asked.unread, Asked.create, Asked.on, Asked.confirm, Asked.statusOfAll, Asked.getData, Asked.tick, Asked.lost}
-use Rattle.steps.specs.Conditions.{cardRows}
 use Rattle.steps.specs.Steps.{stepOf, responseOf}
 use Rattle.steps.proofs.Creates.{empty}
 use Rattle.manager.specs.Calls.{Call, asked}
@@ -46,7 +42,7 @@ use Rattle.manager.proofs.Kept.{step-sound}
 use Rattle.demands.specs.Inputs.{Inputs, freshOf}
 use Rattle.demands.specs.Said.{exchanges}
 use Rattle.demands.specs.Notified as statement
-use Rattle.demands.specs.Notified.{Notified, namedBy, nowKnown, lastNamed}
+use Rattle.demands.specs.Notified.{Notified, nowKnown, lastNamed}
 use Rattle.demands.proofs.Demand1.{refusals}
 use Rattle.demands.proofs.Frames.{card-passed}
 use Rattle.demands.proofs.Taken.{takes-step}

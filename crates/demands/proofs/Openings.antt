@@ -25,7 +25,6 @@ use Rattle.card.specs.Answers.{accepted}
 use Rattle.card.specs.declared.Card.{Card}
 use Rattle.card.proofs.Sounds.{parts, whole, nonzero}
 use Rattle.steps.specs.Asked.{Act.enable, Act.disable, Asked.on}
-use Rattle.steps.specs.Conditions.{cardRows}
 use Rattle.steps.proofs.Opens as steps
 use Rattle.manager.specs.Calls.{Call.Lost}
 use Rattle.manager.specs.Manager.{step, run}

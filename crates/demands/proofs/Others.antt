@@ -9,7 +9,6 @@ use lib.ListN.{length, set}
 use lib.Seq.{getD-set-other}
 use lib.Dec.{ltb, eqb}
 use borrow.Author.Tests.{eqb-true, eqb-false, eq-eqb}
-use Rattle.status.specs.declared.Status.the-variants.{Done}
 use Rattle.status.specs.StatusWords.{isDone}
 use Rattle.isdp.specs.LifeCycle.{withLife}
 use Rattle.isdp.specs.Place.{vacant, held}
@@ -27,9 +26,9 @@ use Rattle.card.specs.declared.Phase.the-variants.{Quiet, Trial, Back, Fallen}
 use Rattle.card.proofs.Sounds.{choose}
 use Rattle.card.proofs.Outcomes.{accepted-card}
 use Rattle.steps.specs.Asked.{Act, Act.enable, Act.disable, Act.delete, Act.masterDelete, Act.setFallBack, Act.status, Act.keyed, Act.stored, Act.finished, Asked, Asked.unread, Asked.create, Asked.on, Asked.confirm, Asked.statusOfAll, Asked.getData, Asked.tick, Asked.lost}
-use Rattle.steps.specs.Steps.{stepOf, actStep, responseOf, success}
+use Rattle.steps.specs.Steps.{stepOf, actStep, responseOf}
 use Rattle.manager.specs.Calls.{asked}
-use Rattle.manager.specs.Manager.{step}
+use Rattle.manager.specs.Manager.{step, work}
 use Rattle.demands.specs.Others.{AsItWas, targets, leaves, leavesIn, OthersUntouched, SaveTheDeletion}
 use Rattle.demands.proofs.Taken.{hands-back, takes-step}
 
@@ -164,4 +163,4 @@ pub save-the-deletion : SaveTheDeletion
 save-the-deletion c call j e =
     let d = and-l (isDone (step c call .status)) _ e in
     let r = and-r (isDone (step c call .status)) (leaves c (asked c call) j) e in
-    rw (takes-step c call d, accepted-card success (stepOf c (asked c call)) (responseOf c (asked c call))) (asks-gone c j (asked c call) r)
+    rw (takes-step c call d, accepted-card (work c call .success) (stepOf c (asked c call)) (responseOf c (asked c call))) (asks-gone c j (asked c call) r)

@@ -29,7 +29,6 @@ use Rattle.command.specs.Requests.{fieldOf, dataWrong}
 use Rattle.manager.specs.Manager.{step}
 use Rattle.card.specs.Notifications.{silent, codeOf}
 use Rattle.card.specs.declared.Notification.{Notification}
-use Rattle.card.specs.declared.Kind.{Kind}
 use Rattle.card.specs.declared.Kind.the-variants.{Silent}
 use Rattle.card.specs.Noticed.{JustOpened, silently, told}
 use Rattle.card.specs.declared.Phase.{Phase}
@@ -76,7 +75,7 @@ hears e past call s (silently x) =
     let q : aid 1 ≡ aid 2 = sym (s .after) ∙ ap bytesOf (x .same-profile) ∙ s .before in
     let z : _≡_ {A = ℕ} 1 2 = cc in absurd (omega arith)
 hears e past call s (told x) =
-    opened-loud _ _ (x .phase) (ap (λ (n : Notification). codeOf (n .kind)) (s .silence))
+    opened-loud (answerAfter e inputs past call .card .phase) (answerAfter e inputs past call .notification) (x .phase) (ap (λ (n : Notification). codeOf (n .kind)) (s .silence))
 
 caught : (e : Engine) (past : List Call) (call : Call) → Silence e past call → MeetsNotified e → ⊥
 caught e past call s m = hears e past call s (m inputs (runs .made) past call)

@@ -12,9 +12,10 @@ use Rattle.card.specs.declared.Phase.the-variants.{Quiet}
 use Rattle.card.proofs.Sounds.{parts, whole, rephased}
 use Rattle.card.proofs.Outcomes.{decide-card}
 use Rattle.command.specs.Framing.{lengthWrong, classWrong, instructionWrong, parametersWrong, shapeWrong}
+use Rattle.demands.specs.Change.{tableWord}
 use Rattle.steps.specs.Asked.{Act.status, Act.keyed, Act.stored, Act.finished, Asked, Asked.on, Asked.statusOfAll, Asked.getData, Asked.tick, Asked.lost}
 use Rattle.steps.specs.Conditions.{cardRows}
-use Rattle.steps.specs.Steps.{stepOf, responseOf, success}
+use Rattle.steps.specs.Steps.{stepOf, responseOf}
 use Rattle.manager.specs.Calls.{Call, Call.Command, Call.Keyed, Call.Stored, Call.Finished, Call.Tick, Call.Lost, asked}
 use Rattle.manager.specs.Table.{bufferShort, inCommand, valuesWrong, table}
 use Rattle.manager.specs.Manager.{step}
@@ -24,7 +25,7 @@ use Rattle.demands.proofs.Words.{word-is}
 pub holder-named : statement.HolderNamed
 unfolding step
 holder-named c call aid e h =
-    decide-card (λ d. d ≡ c) c (wordOf success (table c call)) (stepOf c (asked c call)) (responseOf c (asked c call))
+    decide-card (λ d. d ≡ c) c (tableWord c call) (stepOf c (asked c call)) (responseOf c (asked c call))
     (λ done. ap (λ (a : Asked). stepOf c a .card) e ∙ ap (withFallback c) h) refl
 
 -- the values of a call are the same on the same card in Quiet
@@ -56,11 +57,11 @@ status-same : (a : Asked) → ((c : Card) → cardRows c a ≡ cardRows (withPha
 status-same a f c call s e =
     let d = withPhase c Quiet in
     word-is c call
-    ∙ ap (λ (x : Asked). wordOf success (tableOf call (sound c) (valuesWrong c call) (cardRows c x))) e
-    ∙ ap (λ (b : Bool). wordOf success (tableOf call b (valuesWrong c call) (cardRows c a))) (s ∙ sym (quiet-sound c s))
-    ∙ ap (λ (b : Bool). wordOf success (tableOf call (sound d) b (cardRows c a))) (values-same c call)
-    ∙ ap (λ (rows : List Row). wordOf success (tableOf call (sound d) (valuesWrong d call) rows)) (f c)
-    ∙ ap (λ (x : Asked). wordOf success (tableOf call (sound d) (valuesWrong d call) (cardRows d x))) (sym e)
+    ∙ ap (λ (x : Asked). wordOf Done (tableOf call (sound c) (valuesWrong c call) (cardRows c x))) e
+    ∙ ap (λ (b : Bool). wordOf Done (tableOf call b (valuesWrong c call) (cardRows c a))) (s ∙ sym (quiet-sound c s))
+    ∙ ap (λ (b : Bool). wordOf Done (tableOf call (sound d) b (cardRows c a))) (values-same c call)
+    ∙ ap (λ (rows : List Row). wordOf Done (tableOf call (sound d) (valuesWrong d call) rows)) (f c)
+    ∙ ap (λ (x : Asked). wordOf Done (tableOf call (sound d) (valuesWrong d call) (cardRows d x))) (sym e)
     ∙ sym (word-is d call)
 
 pub allowed-while-open : statement.AllowedWhileOpen

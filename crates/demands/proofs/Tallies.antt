@@ -1,17 +1,15 @@
 -- The profiles counted and the profiles held are the same ones: every weight of AID and quota adds up to the same over both. So no order
 -- and no lookup is needed; a deletion is the weight that passes over one AID. By induction over the places. Assumes nothing.
 use mathlib.Core.Path.{_≡_, refl, sym, _∙_}
-use Prim.Native.Nat.{ℕ, zero, suc, _+_, _≤_, _<_}
+use Prim.Native.Nat.{ℕ, zero, suc, _+_, _<_}
 use native.Mathlib.Omega.{arith}
 use mathlib.Core.List.{List, [], _∷_}
 use mathlib.Core.Bool.{Bool, true, false, not, cond, _&&_, false≢true}
 use lib.ListN.{length, set}
-use lib.Seq.{take-all, take-append-seam}
-use lib.Dec.{leb, eqb}
-use borrow.Author.Tests.{not-true, eqb-true, ne-eqb, leb-true}
-use Rattle.isdp.specs.Sizes.{leastAid, mostAid}
+use lib.Dec.{eqb}
+use borrow.Author.Tests.{not-true, eqb-true}
 use Rattle.byte_string.specs.Bytes.{sameBytes}
-use Rattle.isdp.specs.Aids.{aidOk, padded, aidOf}
+use Rattle.isdp.specs.Aids.{aidOk, aidOf}
 use Rattle.isdp.specs.Place.{vacant, made, held, isFor, clash, placeOk}
 use Rattle.isdp.specs.declared.Isdp.{Isdp}
 use Rattle.isdp.proofs.Placed.{made-held, made-aid}

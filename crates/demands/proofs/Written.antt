@@ -1,26 +1,27 @@
 -- A written command is read back, so that the rows of reading pass and what is asked is what was written; an accepted command passed those
 -- rows, so that it was read, and what is read was so written. Assumes nothing.
 use mathlib.Core.Path.{_≡_, refl, sym, ap, _∙_}
-use Prim.Native.Nat.{ℕ, zero, suc, _+_, _≤_}
+use Prim.Native.Nat.{ℕ, _≤_}
 use native.Mathlib.Omega.{arith}
 use mathlib.Core.List.{List, [], _∷_}
 use mathlib.Core.Option.{some}
 use mathlib.Core.Bool.{Bool, true, false, not, cond, false≢true}
-use lib.ListN.{take, drop, length}
-use borrow.Author.Tests.{ltb-false}
+use lib.ListN.{length}
+use borrow.Author.Tests.{ltb-false, leb-true}
+use Rattle.isdp.specs.Sizes.{leastAid}
+use Rattle.isdp.proofs.Bools.{and-l}
+use Rattle.manager.proofs.Kept.{part-ok}
 use Rattle.status.specs.StatusWords.{isDone}
 use Rattle.status.specs.Rows.{Row, row, wordOf}
 use Rattle.status.specs.declared.Status.{Status}
 use Rattle.status.specs.declared.Status.the-variants.{Unsound, LengthWrong, ClassWrong, InstructionWrong, ParametersWrong, DataWrong, Done}
 use Rattle.status.proofs.Tables.{passed, succeeds}
 use Rattle.card.specs.Sound.{sound}
-use Rattle.card.specs.Answers.{Outcome, outcome, soundRow, settle, accepted, refused}
+use Rattle.card.specs.Answers.{Outcome, outcome, soundRow, settle, accepted}
 use Rattle.card.specs.declared.Card.{Card}
 use Rattle.card.proofs.Outcomes.{decided}
-use Rattle.tlv.specs.Encoding.{window, Bytes}
+use Rattle.tlv.specs.Encoding.{Bytes}
 use Rattle.byte_string.specs.declared.Part.{Part}
-use Rattle.tlv.proofs.Windows.{window-length}
-use Rattle.fields.specs.Grammar.{partBytes}
 use Rattle.command.specs.Grammar.{Wanted, Encodes, wantedOf, readAs}
 use Rattle.command.specs.Reading.{readOf}
 use Rattle.command.specs.Framing.{lengthWrong, classWrong, instructionWrong, parametersWrong, shapeWrong}
@@ -36,48 +37,36 @@ use Rattle.command.proofs.ReadBack.{command-back}
 use Rattle.command.proofs.Written.{command-written}
 use Rattle.steps.specs.Asked.{Asked, Asked.on, Act.status}
 use Rattle.steps.specs.Conditions.{cardRows}
-use Rattle.steps.specs.Steps.{stepOf, responseOf, askedWork, success}
+use Rattle.steps.specs.Steps.{stepOf, responseOf, askedWork, successOf}
 use Rattle.byte_string.specs.Bytes.{partOf}
 use Rattle.manager.specs.Calls.{Call.Command, requestAsks, asked}
 use Rattle.manager.specs.Table.{leastBuffer, rowsAfter, table}
-use Rattle.manager.specs.Manager.{step}
+use Rattle.manager.specs.Manager.{step, work}
 use Rattle.manager.proofs.Readings.{not-read, asks-read, word-read}
 use Rattle.demands.specs.Written as statement
 use Rattle.demands.specs.Written.{listedAsks, wantedAsks, ofReading}
 use Rattle.demands.proofs.Words.{word-is, done-as}
-
--- the bytes of a part, cut from either end
-cut-same : (a n : ℕ) (s : List ℕ) → drop a (take (a + n) s) ≡ take n (drop a s)
-cut-same zero n s = let e : zero + n ≡ n = omega arith in rw e
-cut-same (suc a) zero [] = let e : suc a + zero ≡ suc a = omega arith in rw e
-cut-same (suc a) (suc n) [] = let e : suc a + suc n ≡ suc (a + suc n) = omega arith in rw e
-cut-same (suc a) n (x ∷ xs) = let e : suc a + n ≡ suc (a + n) = omega arith in rw e (cut-same a n xs)
-
-part-same : (s : List ℕ) (part : Part) → partOf s part ≡ partBytes s part
-unfolding window
-part-same s part = sym (cut-same (part .start) (part .len) s)
 
 -- an AID is not empty
 listed-one : (who : List ℕ) (life shown : Bool) → 1 ≤ length who → on who (status life shown) ≡ listedAsks who life shown
 listed-one [] life shown h = absurd (omega arith)
 listed-one (first ∷ rest) life shown h = refl
 
-placed-length : (s : List ℕ) (part : Part) → Placed s part → 1 ≤ length (partBytes s part)
+placed-length : (s : List ℕ) (part : Part) → Placed s part → 1 ≤ length (partOf s part)
 placed-length s part p =
-    let l = window-length s (part .start) (part .start + part .len) (p .held) in
-    let m = p .least in omega arith
+    let h = leb-true leastAid (length (partOf s part)) (and-l _ _ (part-ok s part p)) in
+    omega arith
 
 asks-same : (verdict : ℕ) (s : List ℕ) (capacity : ℕ) (r : Request) → RequestIn s capacity r → requestAsks verdict s r ≡ wantedAsks verdict (wantedOf s r)
-asks-same verdict s capacity (request.Create part quota) p = rw (part-same s part)
-asks-same verdict s capacity (request.Enable part) p = rw (part-same s part)
-asks-same verdict s capacity (request.Disable part) p = rw (part-same s part)
-asks-same verdict s capacity (request.SetFallBack part) p = rw (part-same s part)
-asks-same verdict s capacity (request.Delete part) p = rw (part-same s part)
-asks-same verdict s capacity (request.MasterDelete part) p = rw (part-same s part)
+asks-same verdict s capacity (request.Create part quota) p = refl
+asks-same verdict s capacity (request.Enable part) p = refl
+asks-same verdict s capacity (request.Disable part) p = refl
+asks-same verdict s capacity (request.SetFallBack part) p = refl
+asks-same verdict s capacity (request.Delete part) p = refl
+asks-same verdict s capacity (request.MasterDelete part) p = refl
 asks-same verdict s capacity (request.Confirm number) p = refl
 asks-same verdict s capacity (request.GetStatusOfAll life shown) p = refl
-asks-same verdict s capacity (request.GetStatusOfOne part life shown) p =
-    rw (part-same s part) (listed-one (partBytes s part) life shown (placed-length s part p))
+asks-same verdict s capacity (request.GetStatusOfOne part life shown) p = listed-one (partOf s part) life shown (placed-length s part p)
 asks-same verdict s capacity request.GetData p = refl
 
 -- the request that was read
@@ -85,14 +74,14 @@ read-some : (s : List ℕ) (x : Reading) (w : Wanted) → readAs s x ≡ some w 
 read-some s (reading.Read r) w q = (r, (refl, cc))
 read-some s (reading.Refused word) w q = let z : _≡_ {A = ℕ} 0 1 = cc in absurd (omega arith)
 
-after-sound : (c : Card) (rows more : List Row) → wordOf success rows ≡ wordOf success more → wordOf success (soundRow c ∷ rows) ≡ wordOf success (soundRow c ∷ more)
+after-sound : (c : Card) (success : Status) (rows more : List Row) → wordOf success rows ≡ wordOf success more → wordOf success (soundRow c ∷ rows) ≡ wordOf success (soundRow c ∷ more)
 unfolding wordOf
-after-sound c rows more e = ap (cond (not (sound c)) Unsound) e
+after-sound c success rows more e = ap (cond (not (sound c)) Unsound) e
 
 -- the row 6F 00 is passed
-pub past-sound : (c : Card) (rows : List Row) → sound c ≡ true → wordOf success (soundRow c ∷ rows) ≡ wordOf success rows
+pub past-sound : (c : Card) (success : Status) (rows : List Row) → sound c ≡ true → wordOf success (soundRow c ∷ rows) ≡ wordOf success rows
 unfolding wordOf
-past-sound c rows e = rw e
+past-sound c success rows e = rw e
 
 pub written-answered : statement.WrittenAnswered
 unfolding step
@@ -102,7 +91,7 @@ written-answered c verdict s room w h encoded =
     asks-read c verdict s room h (r .0) (r .1 .0)
     ∙ asks-same verdict s (c .capacity) (r .0) (read-inside s (c .capacity) (r .0) (r .1 .0))
     ∙ ap (wantedAsks verdict) (r .1 .1) in
-    let word = after-sound c (rowsAfter c (Command verdict s room)) (cardRows c (asked c (Command verdict s room))) (word-read c verdict s room h (r .0) (r .1 .0)) in
+    let word = after-sound c (work c (Command verdict s room) .success) (rowsAfter c (Command verdict s room)) (cardRows c (asked c (Command verdict s room))) (word-read c verdict s room h (r .0) (r .1 .0)) in
     ap (λ (x : Status). settle c x (stepOf c (asked c (Command verdict s room))) (responseOf c (asked c (Command verdict s room)))) word
     ∙ ap (λ (x : Asked). outcome c (askedWork c x)) a
 
@@ -111,15 +100,15 @@ module _ (c : Card) (verdict : ℕ) (s : List ℕ) (room : ℕ) (wanted : Wanted
   abbrev asks : Asked
   asks = wantedAsks verdict wanted
 
-  pub written-word : step c (Command verdict s room) .status ≡ wordOf success (cardRows c asks)
+  pub written-word : step c (Command verdict s room) .status ≡ wordOf (successOf c asks) (cardRows c asks)
   written-word =
       ap (λ (o : Outcome). o .status) (written-answered c verdict s room wanted h encoded)
-      ∙ decided c (wordOf success (soundRow c ∷ cardRows c asks)) (stepOf c asks) (responseOf c asks)
-      ∙ past-sound c (cardRows c asks) e
+      ∙ decided c (wordOf (successOf c asks) (soundRow c ∷ cardRows c asks)) (stepOf c asks) (responseOf c asks)
+      ∙ past-sound c (successOf c asks) (cardRows c asks) e
 
-  pub written-taken : isDone (wordOf success (cardRows c asks)) ≡ true → step c (Command verdict s room) ≡ accepted success (stepOf c asks) (responseOf c asks)
+  pub written-taken : isDone (wordOf (successOf c asks) (cardRows c asks)) ≡ true → step c (Command verdict s room) ≡ accepted (successOf c asks) (stepOf c asks) (responseOf c asks)
   written-taken d =
-      let w : wordOf success (soundRow c ∷ cardRows c asks) ≡ Done = past-sound c (cardRows c asks) e ∙ succeeds success (cardRows c asks) refl d in
+      let w : wordOf (successOf c asks) (soundRow c ∷ cardRows c asks) ≡ successOf c asks = past-sound c (successOf c asks) (cardRows c asks) e ∙ succeeds (successOf c asks) (cardRows c asks) refl d in
       written-answered c verdict s room wanted h encoded ∙ ap (λ (x : Status). settle c x (stepOf c asks) (responseOf c asks)) w
 
 -- one that was read was written
@@ -128,7 +117,7 @@ read-written s capacity r b q = command-written s capacity (wantedOf s r) b (ap 
 
 pub accepted-written : statement.AcceptedWritten
 accepted-written c verdict s room b e =
-    let p = passed success (table c (Command verdict s room)) refl (done-as c (Command verdict s room) true e) .1 in
+    let p = passed (work c (Command verdict s room) .success) (table c (Command verdict s room)) refl (done-as c (Command verdict s room) true e) .1 in
     let m = p .1 in
     let r = done-read s (c .capacity) (passes-done s (c .capacity) record {
       lengthRight = m .0;
@@ -141,8 +130,8 @@ accepted-written c verdict s room b e =
     (wantedOf s (r .0), (ltb-false room leastBuffer (p .0), read-written s (c .capacity) (r .0) b (r .1)))
 
 -- the words of the rows of reading
-reading-word : (a b c d e f : Bool) → isDone (wordOf success (row a LengthWrong ∷ row b ClassWrong ∷ row c InstructionWrong ∷ row d ParametersWrong ∷ row e LengthWrong ∷ row f DataWrong ∷ [])) ≡ false
-    → ofReading (wordOf success (row a LengthWrong ∷ row b ClassWrong ∷ row c InstructionWrong ∷ row d ParametersWrong ∷ row e LengthWrong ∷ row f DataWrong ∷ [])) ≡ true
+reading-word : (a b c d e f : Bool) → isDone (wordOf Done (row a LengthWrong ∷ row b ClassWrong ∷ row c InstructionWrong ∷ row d ParametersWrong ∷ row e LengthWrong ∷ row f DataWrong ∷ [])) ≡ false
+    → ofReading (wordOf Done (row a LengthWrong ∷ row b ClassWrong ∷ row c InstructionWrong ∷ row d ParametersWrong ∷ row e LengthWrong ∷ row f DataWrong ∷ [])) ≡ true
 unfolding wordOf
 reading-word true b c d e f h = refl
 reading-word false true c d e f h = refl
@@ -157,7 +146,7 @@ module _ (c : Card) (verdict : ℕ) (s : List ℕ) (room : ℕ) (b : Bytes s) (e
   refused-case (reading.Read r) q = absurd (none (wantedOf s r) (read-written s (c .capacity) r b q))
   refused-case (reading.Refused word) q =
       let r = refused-word s (c .capacity) word q in
-      ap ofReading (word-is c (Command verdict s room) ∙ past-sound c (rowsAfter c (Command verdict s room)) e ∙ not-read c verdict s room h word q .0 ∙ r .0)
+      ap ofReading (word-is c (Command verdict s room) ∙ past-sound c (work c (Command verdict s room) .success) (rowsAfter c (Command verdict s room)) e ∙ not-read c verdict s room h word q .0 ∙ r .0)
       ∙ reading-word (lengthWrong s) (classWrong s) (instructionWrong s) (parametersWrong s) (shapeWrong s) (dataWrong s (c .capacity)) (ap isDone (sym (r .0)) ∙ r .1)
 
 pub unwritten-refused : statement.UnwrittenRefused

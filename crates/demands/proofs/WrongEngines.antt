@@ -14,9 +14,8 @@ use Rattle.card.specs.Cards.{isQuiet}
 use Rattle.card.specs.declared.Card.{Card}
 use Rattle.card.proofs.Counts.{steps-are, steps-unique}
 use Rattle.card.proofs.Freshness.{fresh-sound}
-use Rattle.steps.specs.Steps.{responseOf, success}
+use Rattle.steps.specs.Steps.{responseOf}
 use Rattle.manager.specs.Calls.{Call, Call.Keyed, asked}
-use Rattle.manager.specs.Table.{table}
 use Rattle.manager.proofs.Kept.{step-sound, run-sound}
 use Rattle.status.specs.Rows.{wordOf}
 use Rattle.byte_string.specs.Bytes.{sameBytes}
@@ -42,7 +41,7 @@ use Rattle.command.specs.Framing.{lengthWrong, classRight, classWrong, instruct
 use Rattle.command.specs.Requests.{fieldOf, dataWrong}
 use Rattle.responses.specs.Responses.{statusBody, statusRow, rowOf, rowsFrom, statusResponse, oneStatus, dataResponse, deletedResponse}
 use Rattle.manager.specs.Manager.{step, run}
-use Rattle.demands.specs.Change.{isTick, confirms, ticksAmong, staysOpen, Opens, Opens.enables}
+use Rattle.demands.specs.Change.{isTick, confirms, ticksAmong, staysOpen, Opens, Opens.enables, tableWord}
 use Rattle.demands.specs.Inputs.{freshOf}
 use Rattle.demands.specs.Examples.{aid, inputs, getStatus, setFallBack, enable, confirm, create, load, ticks}
 use Rattle.demands.specs.Engines.{Engine, reached, remembered, cardAfter, answerAfter, Answered, MeetsDemand3}
@@ -158,14 +157,14 @@ fixed-answer-examples o =
     }
 
 -- GET STATUS leaves every card as it was
-left : (c : Card) (b : Bool) (w : Status) (r : List ℕ) → cond b (accepted success (stepTo c c noAid) r) (refused c w) .card ≡ c
+left : (c : Card) (b : Bool) (w : Status) (r : List ℕ) → cond b (accepted w (stepTo c c noAid) r) (refused c w) .card ≡ c
 unfolding accepted refused
 left c true w r = refl
 left c false w r = refl
 
 listed-card : (c : Card) → step c getStatus .card ≡ c
 unfolding step fieldOf pick isSame listingAt tagsAt aloneAt expectAt expectOf headAt afterTag afterLength tagAt lengthAt atMost isBelow
-listed-card c = left c (isDone (wordOf success (table c getStatus))) (wordOf success (table c getStatus)) (responseOf c (asked c getStatus))
+listed-card c = left c (isDone (tableWord c getStatus)) (tableWord c getStatus) (responseOf c (asked c getStatus))
 
 -- a creation does not
 grown : quotas (freshOf inputs .card .places) ≡ quotas (step (freshOf inputs .card) (create 2 50) .card .places) → ⊥

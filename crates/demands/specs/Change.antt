@@ -5,7 +5,6 @@ use mathlib.Core.Path.{_≡_}
 use mathlib.Core.List.{List, [], _∷_, _++_}
 use mathlib.Core.Bool.{Bool, true, false, not, cond, _&&_, _||_}
 use lib.Dec.{ltb}
-use Rattle.status.specs.declared.Status.the-variants.{Done}
 use Rattle.status.specs.StatusWords.{isDone}
 use Rattle.status.specs.Rows.{wordOf}
 use Rattle.isdp.specs.Aids.{aidOf, bytesOf}
@@ -15,11 +14,11 @@ use Rattle.card.specs.Cards.{isQuiet, enabledAid, onFallback}
 use Rattle.card.specs.Sound.{sound}
 use Rattle.card.specs.Clock.{outstanding}
 use Rattle.card.specs.declared.Card.{Card}
-use Rattle.steps.specs.Steps.{success}
+use Rattle.status.specs.declared.Status.{Status}
 use Rattle.steps.specs.Asked.{Act.enable, Act.disable, Asked, Asked.unread, Asked.create, Asked.on, Asked.confirm, Asked.statusOfAll, Asked.getData, Asked.tick, Asked.lost}
 use Rattle.manager.specs.Calls.{Call, Call.Command, Call.Keyed, Call.Stored, Call.Finished, Call.Tick, Call.Lost, asked}
 use Rattle.manager.specs.Table.{table}
-use Rattle.manager.specs.Manager.{step, run}
+use Rattle.manager.specs.Manager.{step, run, work}
 
 -- the AID of the enabled profile and of the fall-back, as bytes
 abbrev pub enabledBytes : Card → List ℕ
@@ -28,9 +27,13 @@ enabledBytes c = bytesOf (enabledAid c)
 abbrev pub fallbackBytes : Card → List ℕ
 fallbackBytes c = aidOf (at (c .places) (c .fallback))
 
+-- the word of the table
+abbrev pub tableWord : Card → Call → Status
+tableWord c call = wordOf (work c call .success) (table c call)
+
 -- no row of the table refuses the call
 abbrev pub taken : Card → Call → Bool
-taken c call = isDone (wordOf success (table c call))
+taken c call = isDone (tableWord c call)
 
 abbrev pub isTick : Call → Bool
 isTick (Command verdict s room) = false

@@ -21,10 +21,10 @@ use Rattle.card.specs.Answers.{accepted}
 use Rattle.card.specs.Notifications.{silent}
 use Rattle.card.specs.Fresh.{zeroCard, freshCard, freshOk, freshOutcome}
 use Rattle.card.specs.declared.Card.{Card}
-use Rattle.steps.specs.Steps.{stepOf, responseOf, success}
+use Rattle.steps.specs.Steps.{stepOf, responseOf}
 use Rattle.manager.specs.Calls.{Call, asked}
 use Rattle.manager.specs.Table.{table}
-use Rattle.manager.specs.Manager.{step, run, answers}
+use Rattle.manager.specs.Manager.{step, run, answers, work}
 
 -- no row's condition holds
 abbrev pub NoneHolds : List Row → Type 0
@@ -60,7 +60,7 @@ abbrev pub Takes : Type 0
 Takes =
     (c : Card) (call : Call)
     → step c call .status ≡ Done
-    → step c call ≡ accepted success (stepOf c (asked c call)) (responseOf c (asked c call))
+    → step c call ≡ accepted (work c call .success) (stepOf c (asked c call)) (responseOf c (asked c call))
 
 -- fresh: its whole answer, where its inputs keep the sizes and where not
 abbrev pub FreshTaken : Type 0

@@ -15,7 +15,6 @@ use Rattle.card.specs.declared.Card.{Card}
 use Rattle.card.specs.declared.Kind.{Kind}
 use Rattle.card.specs.declared.Kind.the-variants.{Silent, Changed, RolledBack, FallenBack}
 use Rattle.card.specs.declared.Notification.{Notification}
-use Rattle.card.specs.declared.Step.{Step}
 use Rattle.manager.specs.Calls.{Call}
 use Rattle.manager.specs.Manager.{step, run}
 use Rattle.demands.specs.Inputs.{Inputs, freshOf}

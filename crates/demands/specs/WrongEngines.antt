@@ -22,10 +22,9 @@ use Rattle.card.specs.Answers.{Outcome, refused, accepted}
 use Rattle.card.specs.declared.Card.{Card}
 use Rattle.card.specs.declared.Phase.{Phase}
 use Rattle.card.specs.declared.Phase.the-variants.{Quiet, Trial, Back, Fallen}
-use Rattle.steps.specs.Steps.{success}
 use Rattle.steps.specs.Asked.{Act, Act.enable, Act.disable, Act.delete, Act.masterDelete, Act.setFallBack, Act.status, Act.keyed, Act.stored, Act.finished, Asked, Asked.unread, Asked.create, Asked.on, Asked.confirm, Asked.statusOfAll, Asked.getData, Asked.tick, Asked.lost}
 use Rattle.manager.specs.Calls.{Call, Call.Command, Call.Keyed, Call.Stored, Call.Finished, Call.Tick, Call.Lost, asked}
-use Rattle.manager.specs.Manager.{step}
+use Rattle.manager.specs.Manager.{step, work}
 use Rattle.demands.specs.Change.{taken, isTick}
 use Rattle.demands.specs.Inputs.{Inputs, freshOf}
 use Rattle.demands.specs.Examples as example
@@ -141,7 +140,7 @@ FirstThenOnly9000 =
 
 -- 90 00 and nothing done
 abbrev pub idle : Card → Call → Outcome
-idle c call = accepted success (stepTo c c noAid) []
+idle c call = accepted Done (stepTo c c noAid) []
 
 -- by demand 3 from the second change on: the first takes four commands (two creations, the enable and its confirmation), and it may work
 -- on any number more
@@ -218,7 +217,7 @@ abbrev pub secondEnableRestartsWait : Engine
 secondEnableRestartsWait =
     plain
     (λ c call.
-    cond (asksEnable (asked c call) && not (isQuiet (c .phase))) (accepted success (stepTo c (restarted (c .phase) c) noAid) [])
+    cond (asksEnable (asked c call) && not (isQuiet (c .phase))) (accepted Done (stepTo c (restarted (c .phase) c) noAid) [])
     (step c call))
 
 -- "A late confirmation of number 1 accepted as that of number 2."
@@ -233,7 +232,7 @@ isLate phase tick = false
 isLate phase lost = false
 
 abbrev pub lateConfirmationTaken : Engine
-lateConfirmationTaken = plain (λ c call. cond (isLate (c .phase) (asked c call)) (accepted success (confirmStep c) []) (step c call))
+lateConfirmationTaken = plain (λ c call. cond (isLate (c .phase) (asked c call)) (accepted Done (confirmStep c) []) (step c call))
 
 -- "These engines have to be caught": none of them meets the demands
 pub record Caught : Type 0 where
