@@ -9,19 +9,19 @@ use lib.Seq.{getD-set-same, getD-set-other}
 use lib.Dec.{eqb}
 use borrow.Author.Tests.{eqb-true, eqb-false, not-true}
 use Rattle.byte_string.specs.Bytes.{sameBytes}
+use Rattle.byte_string.proofs.Alike.{same-true, same-self}
 use Rattle.isdp.specs.Aids.{aidOf}
 use Rattle.isdp.specs.LifeCycle.{personalized, withLife, withUsed, finish}
 use Rattle.isdp.specs.Place.{vacant, held, isFor}
 use Rattle.isdp.specs.declared.Isdp.{Isdp}
 use Rattle.isdp.proofs.Bools.{and-r}
-use Rattle.byte_string.proofs.Alike.{same-true, same-self}
 use Rattle.places.specs.Places.{at}
 use Rattle.places.proofs.Seeks.{seek-below, bears}
 use Rattle.places.proofs.Lives.{Lives, enable-lives, lives-at}
 use Rattle.card.specs.Cards.{placeOf, profileOf, freePlace, withChange, withPhase, withPlaces}
 use Rattle.card.specs.Clock.{moved, dropped, confirmIn, confirmOf}
 use Rattle.card.specs.Ticks.{ticksToCome}
-use Rattle.card.specs.Notifications.{noticeOf}
+use Rattle.card.specs.Notifications.{noticeSince}
 use Rattle.card.specs.Steps.{tickStep, lostStep, confirmStep, goneIn}
 use Rattle.card.specs.declared.Card.{Card}
 use Rattle.card.specs.declared.Phase.{Phase}
@@ -204,7 +204,7 @@ module _ (a : List ℕ) (i u : ℕ) (c : Card) (b : isFor a (at (c .places) i) �
   response-near lost = refl
 
 -- every step notes its notification by the two cards
-act-notice : (c : Card) (aid : List ℕ) (x : Act) → actStep c aid x .notification ≡ noticeOf c (actStep c aid x .card)
+act-notice : (c : Card) (aid : List ℕ) (x : Act) → actStep c aid x .notification ≡ noticeSince (c .last) (actStep c aid x .card)
 act-notice c aid enable = refl
 act-notice c aid disable = refl
 act-notice c aid delete = refl
@@ -215,7 +215,7 @@ act-notice c aid keyed = refl
 act-notice c aid (stored n) = refl
 act-notice c aid (finished policy) = refl
 
-pub step-notice : (c : Card) (x : Asked) → stepOf c x .notification ≡ noticeOf c (stepOf c x .card)
+pub step-notice : (c : Card) (x : Asked) → stepOf c x .notification ≡ noticeSince (c .last) (stepOf c x .card)
 unfolding tickStep lostStep confirmStep
 step-notice c unread = refl
 step-notice c (create aid quota) = refl
@@ -226,8 +226,8 @@ step-notice c getData = refl
 step-notice c tick = refl
 step-notice c lost = refl
 
-pub near-notice : (a : List ℕ) (i u : ℕ) (c x y : Card) → Near a i x y → noticeOf (reuseAt i u c) y ≡ noticeOf c x
-unfolding noticeOf
+pub near-notice : (a : List ℕ) (i u : ℕ) (c x y : Card) → Near a i x y → noticeSince (c .last) y ≡ noticeSince (c .last) x
+unfolding noticeSince
 near-notice a i u c x y (same e) = rw e
 near-notice a i u c x y (apart v e b) = rw e (notice-reuse i u v c x)
 

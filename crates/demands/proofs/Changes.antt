@@ -73,9 +73,9 @@ module _ (g p f : ℕ) where
       (λ t. let m = ltb-true 1 l t in goes (back (l - 1) n refl (omega arith) v))
       (λ t. let m = ltb-false 1 l t in
       choose (Ticked g p f (suc k)) (onFallback c) _ _
-      (λ e. ends refl (rw b at e) (rw (eq-eqb p f (only (c .places) p (c .fallback) (s .one) v e ∙ b)) (omega arith)))
+      (λ e. ends refl (rw b at e) (rw (eq-eqb p f (only (c .places) p (c .fallback) (s .roles .one) v e ∙ b)) (omega arith)))
       (λ e. goes (fallen wait (nextOf (c .last)) (ne-eqb p f (λ q. false≢true (sym e ∙ ap (λ (i : ℕ). isEnabled (at (c .places) i)) (b ∙ sym q) ∙ v))) refl (omega arith)
-      (rw (← b) (eq-eqb _ _ (enable-at (c .places) (c .fallback) (within (c .places) (c .fallback) (done-nonzero _ (s .resort))))))))))
+      (rw (← b) (eq-eqb _ _ (enable-at (c .places) (c .fallback) (within (c .places) (c .fallback) (done-nonzero _ (s .roles .resort))))))))))
 
   from-fallen : (k : ℕ) (c : Card) (l n : ℕ) → eqb p f ≡ false → Sound c → c .phase ≡ Fallen l n → l + k ≡ 30 → Holds c f → Ticked g p f (suc k) (tickOf c)
   unfolding tickOf

@@ -8,6 +8,7 @@ use mathlib.Core.Bool.{Bool, true, false, not, cond, _||_, false≢true}
 use lib.ListN.{length}
 use lib.Dec.{ltb, leb}
 use borrow.Author.Tests.{leb-true, leb-false, ltb-true, ltb-false, lt-ltb, le-ltb}
+use Rattle.status.specs.StatusWords.{isDone}
 use Rattle.status.specs.Rows.{wordOf}
 use Rattle.status.specs.declared.Status.the-variants.{Done, NoRoom}
 use Rattle.isdp.specs.Sizes.{mostPlaces}
@@ -16,19 +17,19 @@ use Rattle.isdp.specs.declared.Isdp.{Isdp}
 use Rattle.places.specs.Places.{at, seek, isFree, anyOf}
 use Rattle.places.proofs.Seeks.{past, seek-below}
 use Rattle.card.specs.Cards.{isQuiet, profileOf, freePlace, freeIn}
+use Rattle.card.specs.Answers.{Outcome}
 use Rattle.card.specs.declared.Card.{Card}
 use Rattle.card.proofs.Sounds.{parts}
 use Rattle.card.proofs.Outcomes.{accepted-card}
-use Rattle.steps.specs.Asked.{Asked, Asked.create}
+use Rattle.install.specs.Grammar.{Created}
+use Rattle.command.specs.Grammar as written
+use Rattle.steps.specs.Asked.{Asked.create}
 use Rattle.steps.specs.Conditions.{cardRows}
-use Rattle.steps.specs.Steps.{stepOf, responseOf}
-use Rattle.manager.specs.Calls.{Call, asked}
-use Rattle.manager.specs.Table.{table}
+use Rattle.steps.specs.Steps.{stepOf, responseOf, successOf}
+use Rattle.manager.specs.Calls.{Call.Command}
 use Rattle.manager.specs.Manager.{step}
-use Rattle.demands.specs.Create.{SoundRequest, RoomDecides, LowestFilled, CreateLive}
-use Rattle.demands.proofs.Words.{word-is}
-use Rattle.demands.proofs.Demand2.{takes}
-use Rattle.demands.proofs.CreateWritten.{written-asks}
+use Rattle.demands.specs.Create.{SoundRequest, RoomDecides, Filled, CreateLive}
+use Rattle.demands.proofs.Written.{written-word, written-taken}
 
 next-case : (a b : ℕ) (t : Bool) → ltb a b ≡ t → ltb (suc a) (suc b) ≡ t
 next-case a b true e = let h = ltb-true a b e in lt-ltb (suc a) (suc b) (omega arith)
@@ -67,36 +68,34 @@ over-case q f false e = sym (lt-ltb f q (leb-false q f e))
 over : (q f : ℕ) → not (leb q f) ≡ ltb f q
 over q f = over-case q f (leb q f) refl
 
-rows-word : (c : Card) (aid : List ℕ) (quota : ℕ) → isQuiet (c .phase) ≡ true → held (profileOf c aid) ≡ false → ltb (freePlace c) mostPlaces ≡ anyOf isFree (c .places) → wordOf (cardRows c (create aid quota)) ≡ cond (not (anyOf isFree (c .places)) || ltb (freeIn c) quota) NoRoom Done
+rows-word : (c : Card) (aid : List ℕ) (quota : ℕ) → isQuiet (c .phase) ≡ true → held (profileOf c aid) ≡ false → ltb (freePlace c) mostPlaces ≡ anyOf isFree (c .places) → wordOf (successOf c (create aid quota)) (cardRows c (create aid quota)) ≡ cond (not (anyOf isFree (c .places)) || ltb (freeIn c) quota) NoRoom Done
 unfolding wordOf
 rows-word c aid quota q n f = rw (q, n, f, over quota (freeIn c))
 
--- the rows before the card's own are passed
-read-word : (c : Card) (call : Call) (aid : List ℕ) (quota : ℕ) → SoundRequest c call aid quota → wordOf (table c call) ≡ wordOf (cardRows c (asked c call))
-unfolding wordOf
-read-word c call aid quota r =
-    rw (r .card-sound, r .buffer-long, r .length-right, r .class-right, r .instruction-right, r .parameters-right, r .shape-right, r .values-right)
+module _ (c : Card) (verdict : ℕ) (s : List ℕ) (room : ℕ) (v : Created) (r : SoundRequest c s room v) where
+  card-word : wordOf (successOf c (create (v .aid) (v .quota))) (cardRows c (create (v .aid) (v .quota))) ≡ cond (not (anyOf isFree (c .places)) || ltb (freeIn c) (v .quota)) NoRoom Done
+  card-word =
+      let l = c .places in
+      let n = parts c (r .card-sound) .sizes .full in
+      let f : ltb (freePlace c) mostPlaces ≡ anyOf isFree l = ap (ltb (freePlace c)) (sym n) ∙ found-any isFree l in
+      let h = missed l (v .aid) (ltb (seek (isFor (v .aid)) l) (length l)) refl (found-any (isFor (v .aid)) l ∙ r .not-held) in
+      rows-word c (v .aid) (v .quota) (r .card-quiet) h f
+
+  filled : anyOf isFree (c .places) ≡ true → ltb (freeIn c) (v .quota) ≡ false → Filled c v (step c (Command verdict s room) .card)
+  filled free fits =
+      let a = create (v .aid) (v .quota) in
+      let k = ltb-true (freePlace c) (length (c .places)) (found-any isFree (c .places) ∙ free) in
+      let d : isDone (wordOf (successOf c a) (cardRows c a)) ≡ true = ap isDone card-word ∙ rw (free, fits) in
+      record {
+        place = freePlace c;
+        there = k;
+        free = seek-below isFree (c .places) k;
+        lowest = lower isFree (c .places);
+        new = ap (λ (o : Outcome). o .card) (written-taken c verdict s room (written.create v) (r .card-sound) (r .buffer-long) (r .encoded) d) ∙ accepted-card (successOf c a) (stepOf c a) (responseOf c a);
+      }
 
 pub room-decides : RoomDecides
-room-decides c call aid quota r =
-    let l = c .places in
-    let n = parts c (r .card-sound) .full in
-    let f : ltb (freePlace c) mostPlaces ≡ anyOf isFree l = ap (ltb (freePlace c)) (sym n) ∙ found-any isFree l in
-    let h = missed l aid (ltb (seek (isFor aid) l) (length l)) refl (found-any (isFor aid) l ∙ r .not-held) in
-    word-is c call ∙ read-word c call aid quota r ∙ ap (λ (a : Asked). wordOf (cardRows c a)) (r .asks) ∙ rows-word c aid quota (r .card-quiet) h f
-
-pub lowest-filled : LowestFilled
-lowest-filled c call aid quota r free room =
-    let l = c .places in
-    let d : step c call .status ≡ Done = room-decides c call aid quota r ∙ rw (free, room) in
-    let k = ltb-true (freePlace c) (length l) (found-any isFree l ∙ free) in
-    record {
-      place = freePlace c;
-      there = k;
-      free = seek-below isFree l k;
-      lowest = lower isFree l;
-      new = ap (λ o. o .card) (takes c call d) ∙ accepted-card (stepOf c (asked c call)) (responseOf c (asked c call)) ∙ ap (λ (a : Asked). stepOf c a .card) (r .asks);
-    }
+room-decides c verdict s room v r = written-word c verdict s room (written.create v) (r .card-sound) (r .buffer-long) (r .encoded) ∙ card-word c verdict s room v r
 
 pub create-live : CreateLive
-create-live = record { written-asks = written-asks; room-decides = room-decides; lowest-filled = lowest-filled }
+create-live = record { room-decides = room-decides; lowest-filled = filled }

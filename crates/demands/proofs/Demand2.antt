@@ -4,6 +4,7 @@ use mathlib.Core.Path.{_≡_, refl, sym, ap, _∙_}
 use mathlib.Core.List.{List, [], _∷_}
 use mathlib.Core.Bool.{Bool, true, false, cond, false≢true}
 use borrow.Author.Tests.{ne-eqb}
+use Rattle.status.specs.declared.Status.the-variants.{Done}
 use Rattle.status.specs.StatusWords.{isDone}
 use Rattle.status.specs.Rows.{Row, wordOf}
 use Rattle.status.proofs.Tables as tables
@@ -14,21 +15,19 @@ use Rattle.places.proofs.Lives.{within}
 use Rattle.places.proofs.Sets.{all-at}
 use Rattle.card.specs.Sound.{sound}
 use Rattle.card.specs.Ticks.{stepsIn, ticksToCome}
-use Rattle.card.specs.Notifications.{noticeOf}
+use Rattle.card.specs.Notifications.{noticeSince}
 use Rattle.card.specs.Answers.{refused, accepted}
 use Rattle.card.specs.Fresh.{freshOutcome}
 use Rattle.card.specs.declared.Card.{Card}
 use Rattle.card.proofs.Sounds.{parts, done-nonzero}
-use Rattle.card.proofs.Outcomes.{took}
 use Rattle.card.proofs.Freshness.{fresh-sound}
-use Rattle.steps.specs.Steps.{stepOf, responseOf}
-use Rattle.manager.specs.Calls.{asked}
 use Rattle.manager.specs.Table.{table}
-use Rattle.manager.specs.Manager.{step, run, answers}
+use Rattle.manager.specs.Manager.{step, run, answers, work}
 use Rattle.manager.proofs.Runs.{run-parts, answers-parts}
 use Rattle.manager.proofs.Kept.{step-sound, run-sound}
-use Rattle.demands.specs.Demand2.{NoneHolds, First, FirstRow, OnlyFirstRow, Otherwise, OnlyOtherwise, Takes, FreshTaken, FreshRefused, Answered, Makes, Standing, FromFresh, Demand2}
+use Rattle.demands.specs.Demand2.{NoneHolds, First, FirstRow, OnlyFirstRow, Otherwise, OnlyOtherwise, Takes, FreshTaken, FreshRefused, RunAnswered, Makes, Standing, FromFresh, Demand2}
 use Rattle.demands.proofs.Words.{word-is, done-as}
+use Rattle.demands.proofs.Taken.{takes-step}
 
 -- the two ways to say that no row holds
 to-passed : (rows : List Row) → NoneHolds rows → tables.Passed rows
@@ -41,17 +40,17 @@ from-passed (r ∷ rs) h = (h .0, from-passed rs (h .1))
 
 pub first-row : FirstRow
 first-row c call w f =
-    word-is c call ∙ ap wordOf (f .split) ∙ tables.first-row (f .before) (f .this) (f .after) (to-passed (f .before) (f .none-before)) (f .holds) ∙ f .word
+    word-is c call ∙ ap (wordOf Done) (f .split) ∙ tables.first-row Done (f .before) (f .this) (f .after) (to-passed (f .before) (f .none-before)) (f .holds) ∙ f .word
 
 -- the first row that holds is found by going down the rows
-found-case : (r : Row) (rs : List Row) (b : Bool) → r .when ≡ b → isDone (cond b (r .word) (wordOf rs)) ≡ false → (isDone (wordOf rs) ≡ false → First rs (wordOf rs)) → First (r ∷ rs) (cond b (r .word) (wordOf rs))
+found-case : (r : Row) (rs : List Row) (b : Bool) → r .when ≡ b → isDone (cond b (r .word) (wordOf Done rs)) ≡ false → (isDone (wordOf Done rs) ≡ false → First rs (wordOf Done rs)) → First (r ∷ rs) (cond b (r .word) (wordOf Done rs))
 found-case r rs true q e f =
     record { before = []; this = r; after = rs; split = refl; none-before = tt; holds = q; word = refl }
 found-case r rs false q e f =
     let g = f e in
     record { before = r ∷ g .before; this = g .this; after = g .after; split = ap (λ (l : List Row). r ∷ l) (g .split); none-before = (q, g .none-before); holds = g .holds; word = g .word }
 
-found : (rows : List Row) → isDone (wordOf rows) ≡ false → First rows (wordOf rows)
+found : (rows : List Row) → isDone (wordOf Done rows) ≡ false → First rows (wordOf Done rows)
 unfolding wordOf
 found [] e = absurd (false≢true (sym e))
 found (r ∷ rs) e = found-case r rs (r .when) refl e (found rs)
@@ -60,24 +59,23 @@ pub only-first-row : OnlyFirstRow
 only-first-row c call e = rw (word-is c call) (found (table c call) (done-as c call false e))
 
 pub otherwise : Otherwise
-otherwise c call h = word-is c call ∙ tables.no-row (table c call) (to-passed (table c call) h)
+otherwise c call h = word-is c call ∙ tables.no-row (work c call .success) (table c call) (to-passed (table c call) h)
 
 pub only-otherwise : OnlyOtherwise
-only-otherwise c call e = from-passed (table c call) (tables.passed (table c call) refl (done-as c call true (ap isDone e)))
+only-otherwise c call e = from-passed (table c call) (tables.passed (work c call .success) (table c call) refl (done-as c call true (ap isDone e)))
 
 pub takes : Takes
-unfolding step
-takes c call e = took c (wordOf (table c call)) (stepOf c (asked c call)) (responseOf c (asked c call)) (ap isDone e) .1
+takes c call e = takes-step c call (ap isDone e)
 
 pub fresh-taken : FreshTaken
-unfolding freshOutcome wordOf accepted ticksToCome stepsIn noticeOf
+unfolding freshOutcome wordOf accepted ticksToCome stepsIn noticeSince
 fresh-taken eid aid capacity quota used volatile e = rw e
 
 pub fresh-refused : FreshRefused
 unfolding freshOutcome wordOf refused sound
 fresh-refused eid aid capacity quota used volatile e = rw e
 
-pub answered : Answered
+pub answered : RunAnswered
 unfolding run answers
 answered c before call after = rw (run-parts c before (call ∷ [])) (answers-parts c before (call ∷ after))
 
@@ -88,14 +86,14 @@ makes eid aid capacity quota used volatile e = fresh-sound eid aid capacity quot
 pub standing : (c : Card) → sound c ≡ true → Standing c
 standing c s =
     let w = parts c s in
-    let n = done-nonzero (at (c .places) (c .fallback) .life) (w .resort) in
+    let n = done-nonzero (at (c .places) (c .fallback) .life) (w .roles .resort) in
     let k = within (c .places) (c .fallback) n in
     record {
       still-sound = s;
-      one-enabled = w .one;
+      one-enabled = w .roles .one;
       one-fallback = k;
-      fallback-held = placed (c .capacity) (at (c .places) (c .fallback)) (ne-eqb _ _ n) (all-at (placeOk (c .capacity)) (c .places) (c .fallback) k (w .each)) .there;
-      fallback-finished = w .resort;
+      fallback-held = placed (c .capacity) (at (c .places) (c .fallback)) (ne-eqb _ _ n) (all-at (placeOk (c .capacity)) (c .places) (c .fallback) k (w .placed .each)) .there;
+      fallback-finished = w .roles .resort;
     }
 
 pub from-fresh : FromFresh

@@ -5,7 +5,6 @@ use Prim.Native.Nat.{ℕ}
 use mathlib.Core.List.{List, [], _∷_, _++_}
 use mathlib.Core.Bool.{true}
 use Rattle.status.specs.StatusWords.{isDone}
-use Rattle.status.specs.Rows.{wordOf}
 use Rattle.card.specs.Sound.{sound}
 use Rattle.card.specs.Ticks.{ticksToCome, StepsTo}
 use Rattle.card.specs.declared.Card.{Card}
@@ -14,10 +13,9 @@ use Rattle.card.proofs.Outcomes.{decide-ticks}
 use Rattle.card.proofs.Freshness.{fresh-sound}
 use Rattle.steps.specs.Steps.{stepOf, responseOf}
 use Rattle.manager.specs.Calls.{Call, Call.Lost, asked}
-use Rattle.manager.specs.Table.{table}
 use Rattle.manager.specs.Manager.{step, run}
 use Rattle.manager.proofs.Kept.{took-sound, step-sound, run-sound}
-use Rattle.demands.specs.Change.{Change, LostChange}
+use Rattle.demands.specs.Change.{Change, LostChange, tableWord}
 use Rattle.demands.specs.Inputs.{Inputs, freshOf}
 use Rattle.demands.specs.Engines.{reached, cardAfter, Meets, manager}
 use Rattle.demands.proofs.Openings.{demand-3, lost-network}
@@ -32,7 +30,7 @@ unfolding reached
 reached-more [] call calls c = reached-run calls (step c call .card)
 reached-more (x ∷ past) call calls c = reached-more past call calls (step c x .card)
 
-reached-sound : (x : Inputs) → isDone (freshOf x .status) ≡ true → (past : List Call) → sound (cardAfter manager x past) ≡ true
+pub reached-sound : (x : Inputs) → isDone (freshOf x .status) ≡ true → (past : List Call) → sound (cardAfter manager x past) ≡ true
 reached-sound x a past =
     rw (reached-run past (freshOf x .card))
     (run-sound (freshOf x .card) past (fresh-sound (x .eid) (x .aid) (x .capacity) (x .quota) (x .used) (x .volatile) a))
@@ -47,7 +45,7 @@ lost-retold f r s e x = coe 0 1 (i. LostChange f (λ calls. e calls i)) x
 step-ticks : (c : Card) (call : Call) → sound c ≡ true → step c call .ticks ≡ ticksToCome (step c call .card)
 unfolding step
 step-ticks c call s =
-    let e = decide-ticks c (wordOf (table c call)) (stepOf c (asked c call)) (responseOf c (asked c call)) (took-sound c call) in
+    let e = decide-ticks c (tableWord c call) (stepOf c (asked c call)) (responseOf c (asked c call)) (took-sound c call) in
     let k : sound (step c call .card) ≡ true = step-sound c call s in
     rw k at e
 
@@ -59,10 +57,10 @@ manager-meets =
     record {
       fresh = λ x. refl;
       demand2 = λ x a past call. record { status = refl; response = refl; notification = refl; card = refl };
-      demand3 = λ x a past call wanted q o.
+      demand3 = λ x a past call wanted o.
           retold wanted _ _ _ (run (step (cardAfter manager x past) call .card)) (λ calls. cardAfter manager x (past ++ call ∷ calls))
           (λ calls. sym (reached-more past call calls (freshOf x .card)))
-          (demand-3 (cardAfter manager x past) call wanted (reached-sound x a past) q o);
+          (demand-3 (cardAfter manager x past) call wanted o);
       lost = λ x a past q b.
           lost-retold _ (run (step (cardAfter manager x past) Lost .card)) (λ calls. cardAfter manager x (past ++ Lost ∷ calls))
           (λ calls. sym (reached-more past Lost calls (freshOf x .card)))

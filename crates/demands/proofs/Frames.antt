@@ -8,8 +8,6 @@ use lib.ListN.{set}
 use lib.Dec.{eqb}
 use borrow.Author.Tests.{eqb-true, not-false}
 use Rattle.status.specs.Rows.{row, wordOf}
-use Rattle.status.proofs.Tables.{Passed, passed}
-use Rattle.isdp.specs.Aids.{nameOf}
 use Rattle.isdp.specs.LifeCycle.{selectable, personalized, isEnabled}
 use Rattle.isdp.specs.Place.{vacant}
 use Rattle.isdp.specs.declared.Isdp.{Isdp}
@@ -26,35 +24,40 @@ use Rattle.card.specs.declared.Phase.{Phase}
 use Rattle.card.specs.declared.Phase.the-variants.{Quiet, Trial, Back, Fallen}
 use Rattle.card.proofs.Sounds.{Phased, parts, choose}
 use Rattle.card.proofs.Outcomes.{decide-card}
-use Rattle.steps.specs.Asked.{Act, Act.enable, Act.disable, Act.delete, Act.masterDelete, Act.setFallBack, Act.status, Act.keyed, Act.stored, Act.finished, Asked, Asked.unread, Asked.create, Asked.on, Asked.confirm, Asked.statusOfAll, Asked.getData, Asked.tick, Asked.lost}
-use Rattle.steps.specs.Conditions.{cardRows}
-use Rattle.steps.specs.Steps.{stepOf, responseOf}
 use Rattle.command.specs.Requests.{fieldOf}
 use Rattle.command.specs.declared.request.Request.{Request}
 use Rattle.command.specs.declared.request.Request.the-variants as request
 use Rattle.command.specs.declared.request.Field.{Field}
 use Rattle.command.specs.declared.request.Field.the-variants as field
+use Rattle.steps.proofs.Rows.{Passed}
+use Rattle.steps.specs.Asked.{Act, Act.enable, Act.disable, Act.delete, Act.masterDelete, Act.setFallBack, Act.status, Act.keyed, Act.stored, Act.finished, Asked, Asked.unread, Asked.create, Asked.on, Asked.confirm, Asked.statusOfAll, Asked.getData, Asked.tick, Asked.lost}
+use Rattle.steps.specs.Steps.{stepOf, responseOf}
+use Rattle.manager.proofs.Kept.{rows-accepted}
 use Rattle.manager.specs.Calls.{Call, Call.Command, Call.Keyed, Call.Stored, Call.Finished, Call.Tick, Call.Lost, asked, requestAsks, fieldAsks}
 use Rattle.manager.specs.Table.{table}
-use Rattle.manager.specs.Manager.{step}
-use Rattle.demands.specs.Change.{taken, isTick, isConfirmation, Unmoved, Frame, OnlyOutstanding}
+use Rattle.manager.specs.Manager.{step, work}
+use Rattle.demands.specs.Change.{taken, isTick, isConfirmation, Unmoved, Frame, OnlyOutstanding, tableWord}
 
--- the rows that look at the card are the table's last seven
-pub card-passed : (c : Card) (call : Call) → taken c call ≡ true → Passed (cardRows c (asked c call))
-card-passed c call e = passed (table c call) refl e .1 .1 .1 .1 .1 .1 .1 .1
+-- an accepted call passed the card's rows, and the row of soundness
+pub card-passed : (c : Card) (call : Call) → taken c call ≡ true → Passed c (asked c call)
+card-passed c call e = rows-accepted c call (work c call .success) e .card
+
+-- an accepted call was made on a sound card
+pub taken-sound : (c : Card) (call : Call) → taken c call ≡ true → sound c ≡ true
+taken-sound c call e = rows-accepted c call (work c call .success) e .whole
 
 pub same : (c : Card) → Unmoved c c
 same c = record { phase = refl; enabled = λ i. refl; named = λ i. refl; fallback = refl; last = refl }
 
 -- a place rewritten that was not enabled and is not, with the AID that it had
-set-named : (x : Isdp) (l : List Isdp) (i : ℕ) → nameOf x ≡ nameOf (at l i) → (j : ℕ) → nameOf (at (set l i x) j) ≡ nameOf (at l j)
+set-named : (x : Isdp) (l : List Isdp) (i : ℕ) → x .aid ≡ at l i .aid → (j : ℕ) → at (set l i x) j .aid ≡ at l j .aid
 set-named x [] i e j = refl
 set-named x (p ∷ ps) zero e zero = e
 set-named x (p ∷ ps) zero e (suc j) = refl
 set-named x (p ∷ ps) (suc i) e zero = refl
 set-named x (p ∷ ps) (suc i) e (suc j) = set-named x ps i e j
 
-rewritten-same : (c : Card) (i : ℕ) (x : Isdp) → isEnabled x ≡ isEnabled (at (c .places) i) → nameOf x ≡ nameOf (at (c .places) i) → Unmoved c (withPlaces c (set (c .places) i x))
+rewritten-same : (c : Card) (i : ℕ) (x : Isdp) → isEnabled x ≡ isEnabled (at (c .places) i) → x .aid ≡ at (c .places) i .aid → Unmoved c (withPlaces c (set (c .places) i x))
 rewritten-same c i x e n =
     record { phase = refl; enabled = set-enabled x (c .places) i e; named = set-named x (c .places) i n; fallback = refl; last = refl }
 
@@ -75,24 +78,24 @@ isTicking getData = false
 isTicking tick = true
 isTicking lost = false
 
-act-same : (c : Card) (aid : List ℕ) (act : Act) → isQuiet (c .phase) ≡ false → Passed (cardRows c (on aid act)) → Unmoved c (stepOf c (on aid act) .card)
-act-same c aid enable o p = absurd (open-row c o (p .0))
-act-same c aid disable o p = absurd (open-row c o (p .0))
-act-same c aid delete o p = absurd (open-row c o (p .0))
-act-same c aid (masterDelete verdict) o p = absurd (open-row c o (p .0))
-act-same c aid setFallBack o p = absurd (open-row c o (p .0))
+act-same : (c : Card) (aid : List ℕ) (act : Act) → isQuiet (c .phase) ≡ false → Passed c (on aid act) → Unmoved c (stepOf c (on aid act) .card)
+act-same c aid enable o p = absurd (open-row c o (p .change))
+act-same c aid disable o p = absurd (open-row c o (p .change))
+act-same c aid delete o p = absurd (open-row c o (p .change))
+act-same c aid (masterDelete verdict) o p = absurd (open-row c o (p .change))
+act-same c aid setFallBack o p = absurd (open-row c o (p .change))
 act-same c aid (status life fallback) o p = same c
 act-same c aid keyed o p =
-    rewritten-same c (placeOf c aid) _ (rw (eqb-true (profileOf c aid .life) selectable (not-false _ (p .1 .1 .1 .0)))) refl
+    rewritten-same c (placeOf c aid) _ (rw (eqb-true (profileOf c aid .life) selectable (not-false _ (p .state)))) refl
 act-same c aid (stored n) o p =
     rewritten-same c (placeOf c aid) _ refl refl
 act-same c aid (finished policy) o p =
-    rewritten-same c (placeOf c aid) _ (rw (eqb-true (profileOf c aid .life) personalized (and-l (eqb (profileOf c aid .life) personalized) _ (not-false _ (p .1 .1 .1 .0))))) refl
+    rewritten-same c (placeOf c aid) _ (rw (eqb-true (profileOf c aid .life) personalized (and-l (eqb (profileOf c aid .life) personalized) _ (not-false _ (p .state))))) refl
 
-asked-same : (c : Card) (a : Asked) → isQuiet (c .phase) ≡ false → isTicking a ≡ false → isConfirmation a ≡ false → Passed (cardRows c a) → Unmoved c (stepOf c a .card)
+asked-same : (c : Card) (a : Asked) → isQuiet (c .phase) ≡ false → isTicking a ≡ false → isConfirmation a ≡ false → Passed c a → Unmoved c (stepOf c a .card)
 unfolding lostStep
 asked-same c unread o t k p = same c
-asked-same c (create aid quota) o t k p = absurd (open-row c o (p .0))
+asked-same c (create aid quota) o t k p = absurd (open-row c o (p .change))
 asked-same c (on aid act) o t k p = act-same c aid act o p
 asked-same c (confirm number) o t k p = absurd (false≢true (sym k))
 asked-same c (statusOfAll life fallback) o t k p = same c
@@ -133,7 +136,7 @@ not-asked false b e h = refl
 pub frame : Frame
 unfolding step
 frame c call s o e =
-    decide-card (Unmoved c) c (wordOf (table c call)) (stepOf c (asked c call)) (responseOf c (asked c call))
+    decide-card (Unmoved c) c (tableWord c call) (stepOf c (asked c call)) (responseOf c (asked c call))
     (λ d. asked-same c (asked c call) o (only-tick c call (or-l (isTick call) _ e)) (not-asked (isConfirmation (asked c call)) (taken c call) (or-r (isTick call) _ e) d) (card-passed c call d))
     (same c)
 
@@ -146,25 +149,26 @@ tick-step c s = rw s
 pub record Closed (c d : Card) : Type 0 where
   pub quiet : d .phase ≡ Quiet
   pub enabled : (i : ℕ) → isEnabled (at (d .places) i) ≡ isEnabled (at (c .places) i)
-  pub named : (i : ℕ) → isEnabled (at (d .places) i) ≡ true → nameOf (at (d .places) i) ≡ nameOf (at (c .places) i)
+  pub named : (i : ℕ) → isEnabled (at (d .places) i) ≡ true → at (d .places) i .aid ≡ at (c .places) i .aid
   pub fallback : d .fallback ≡ c .fallback
+  pub last : d .last ≡ c .last
 
 calm : (c : Card) → Closed c (withPhase c Quiet)
-calm c = record { quiet = refl; enabled = λ i. refl; named = λ i e. refl; fallback = refl }
+calm c = record { quiet = refl; enabled = λ i. refl; named = λ i e. refl; fallback = refl; last = refl }
 
--- the place that is emptied is not enabled
-clear-named : (l : List Isdp) (q i : ℕ) → isEnabled (at (set l q vacant) i) ≡ true → nameOf (at (set l q vacant) i) ≡ nameOf (at l i)
-clear-named [] q i e = refl
-clear-named (p ∷ ps) zero zero e = absurd (false≢true e)
-clear-named (p ∷ ps) zero (suc i) e = refl
-clear-named (p ∷ ps) (suc q) zero e = refl
-clear-named (p ∷ ps) (suc q) (suc i) e = clear-named ps q i e
+-- a place rewritten that is not enabled then: those that are keep their AIDs
+pub enabled-named : (x : Isdp) → isEnabled x ≡ false → (l : List Isdp) (q i : ℕ) → isEnabled (at (set l q x) i) ≡ true → at (set l q x) i .aid ≡ at l i .aid
+enabled-named x n [] q i e = refl
+enabled-named x n (p ∷ ps) zero zero e = absurd (false≢true (sym n ∙ e))
+enabled-named x n (p ∷ ps) zero (suc i) e = refl
+enabled-named x n (p ∷ ps) (suc q) zero e = refl
+enabled-named x n (p ∷ ps) (suc q) (suc i) e = enabled-named x n ps q i e
 
 confirm-closes : (c : Card) (p : Phase) → Phased p c → Closed c (confirmIn p c)
 confirm-closes c Quiet h = calm c
 confirm-closes c (Trial q l m) h =
     choose (Closed c) (dropped c q) _ _
-    (λ b. record { quiet = refl; enabled = set-enabled vacant (c .places) q (rw (h .1)); named = clear-named (c .places) q; fallback = refl })
+    (λ b. record { quiet = refl; enabled = set-enabled vacant (c .places) q (rw (h .1)); named = enabled-named vacant refl (c .places) q; fallback = refl; last = refl })
     (λ b. calm c)
 confirm-closes c (Back l m) h = calm c
 confirm-closes c (Fallen l m) h = calm c
@@ -191,8 +195,8 @@ confirm-does c call s a e =
     rw (taken-step c call e, confirm-card c (asked c call) a) (confirm-closes c (c .phase) (parts c s .phased))
 
 -- by the row "confirmation not of the outstanding number"
-asked-outstanding : (c : Card) (number : ℕ) → Passed (cardRows c (confirm number)) → outstanding (c .phase) number ≡ true
-asked-outstanding c number p = not-false _ (p .1 .0)
+asked-outstanding : (c : Card) (number : ℕ) → Passed c (confirm number) → outstanding (c .phase) number ≡ true
+asked-outstanding c number p = not-false _ (p .target)
 
 pub only-outstanding : OnlyOutstanding
 only-outstanding c call number a e = asked-outstanding c number (rw a at (card-passed c call e))

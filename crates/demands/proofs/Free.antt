@@ -9,10 +9,10 @@ use lib.Dec.{ltb, eqb}
 use borrow.Author.Tests.{ne-eqb, not-true, not-false, ltb-true}
 use Rattle.status.specs.StatusWords.{isDone}
 use Rattle.status.specs.Rows.{row, wordOf}
-use Rattle.status.specs.declared.Status.the-variants.{DataWrong}
-use Rattle.status.proofs.Tables.{Passed, passed}
+use Rattle.status.specs.declared.Status.the-variants.{DataWrong, Done}
+use Rattle.status.proofs.Tables.{passed}
 use Rattle.isdp.specs.Sizes.{mostPlaces, eidSize}
-use Rattle.isdp.specs.Aids.{aidOk, aidOf, noAid, nameOf}
+use Rattle.isdp.specs.Aids.{aidOk, aidOf, noAid}
 use Rattle.isdp.specs.LifeCycle.{selectable, disabled, enabled}
 use Rattle.isdp.specs.Place.{vacant, held, isFor, placeOk}
 use Rattle.isdp.specs.declared.Isdp.{Isdp}
@@ -35,19 +35,18 @@ use Rattle.card.proofs.Sounds.{Sound, Phased, parts, choose, nonzero}
 use Rattle.card.proofs.Outcomes.{took, accepted-card}
 use Rattle.card.proofs.Freshness.{fresh-sound}
 use Rattle.responses.specs.Responses.{deletedResponse}
+use Rattle.steps.proofs.Rows.{Passed}
 use Rattle.steps.specs.Asked.{Act, Act.enable, Act.disable, Act.delete, Act.masterDelete, Act.setFallBack, Act.status, Act.keyed, Act.stored, Act.finished, Asked, Asked.unread, Asked.create, Asked.on, Asked.confirm, Asked.statusOfAll, Asked.getData, Asked.tick, Asked.lost}
-use Rattle.steps.specs.Conditions.{cardRows}
-use Rattle.steps.specs.Steps.{stepOf, actStep, responseOf}
+use Rattle.steps.specs.Steps.{stepOf, actStep, responseOf, successOf}
 use Rattle.steps.proofs.Kept.{Legal}
-use Rattle.manager.specs.Calls.{Call, Call.Command, Call.Keyed, Call.Stored, Call.Finished, Call.Tick, Call.Lost, asked}
-use Rattle.manager.specs.Table.{table}
-use Rattle.manager.specs.Manager.{step, run}
-use Rattle.manager.proofs.Kept.{legal, step-sound}
+use Rattle.manager.specs.Calls.{Call, asked, askedOf}
+use Rattle.manager.specs.Manager.{step, run, work}
+use Rattle.manager.proofs.Kept.{rows-accepted, legal, step-sound}
 use Rattle.demands.specs.Inputs.{Inputs, freshOf}
 use Rattle.demands.specs.Said.{said, Exchange, exchanges}
-use Rattle.demands.specs.Free.{Made, without, afterConfirm, afterAct, afterAsked, askedOf, after, history, room, first, FreeIsCounted}
+use Rattle.demands.specs.Free.{Made, without, afterConfirm, afterAct, afterAsked, madeAfter, history, room, first, FreeIsCounted}
 use Rattle.demands.proofs.Words.{done-as}
-use Rattle.demands.proofs.Taken.{hands-back, taken}
+use Rattle.demands.proofs.Taken.{hands-back, takes-step}
 use Rattle.demands.proofs.Others.{held-within, tick-lives, lost-lives}
 use Rattle.demands.proofs.Tallies.{sumMade, sumHeld, Tally, lives-tally, alike-tally, made-weight, create-tally, delete-tally, tally-room, bears-own}
 
@@ -101,30 +100,30 @@ module _ (c : Card) (s : Sound c) (ms : List Made) (t : Tally ms (c .places)) wh
   act-tally : (aid : List ℕ) (a : Act) → not (held (profileOf c aid)) ≡ false → Tally (afterAct aid a ms) (actStep c aid a .card .places)
   act-tally aid enable h = lives-tally ms (enable-lives (c .places) (placeOf c aid)) t
   act-tally aid disable h = lives-tally ms (enable-lives (c .places) (c .fallback)) t
-  act-tally aid delete h = delete-tally ms (c .places) (placeOf c aid) aid (target-for aid h) (s .apart) t
-  act-tally aid (masterDelete verdict) h = delete-tally ms (c .places) (placeOf c aid) aid (target-for aid h) (s .apart) t
+  act-tally aid delete h = delete-tally ms (c .places) (placeOf c aid) aid (target-for aid h) (s .placed .apart) t
+  act-tally aid (masterDelete verdict) h = delete-tally ms (c .places) (placeOf c aid) aid (target-for aid h) (s .placed .apart) t
   act-tally aid setFallBack h = t
   act-tally aid (status life fallback) h = t
-  act-tally aid keyed h = alike-tally ms _ (c .places) (placeOf c aid) refl refl refl t
-  act-tally aid (stored n) h = alike-tally ms _ (c .places) (placeOf c aid) refl refl refl t
-  act-tally aid (finished policy) h = alike-tally ms _ (c .places) (placeOf c aid) refl refl refl t
+  act-tally aid keyed h = alike-tally ms _ (c .places) (placeOf c aid) refl refl t
+  act-tally aid (stored n) h = alike-tally ms _ (c .places) (placeOf c aid) refl refl t
+  act-tally aid (finished policy) h = alike-tally ms _ (c .places) (placeOf c aid) refl refl t
 
   -- the response to a confirmation names the profile that it deletes
-  gone-named : (p : Isdp) → held p ≡ true → afterConfirm (deletedResponse (nameOf p)) ms ≡ without (aidOf p) ms
+  gone-named : (p : Isdp) → held p ≡ true → afterConfirm (deletedResponse (p .aid)) ms ≡ without (aidOf p) ms
   unfolding deletedResponse
-  gone-named p h = rw (not-true (eqb (p .len) 0) h)
+  gone-named p h = rw (not-true (eqb (p .aid .len) 0) h)
 
   previous-held : (q : ℕ) → at (c .places) q .life ≡ disabled → held (at (c .places) q) ≡ true
   previous-held q h =
       let n = nonzero (at (c .places) q .life) 30 h in
       placed (c .capacity) (at (c .places) q) (ne-eqb _ _ n)
-      (all-at (placeOk (c .capacity)) (c .places) q (within (c .places) q n) (s .each)) .there
+      (all-at (placeOk (c .capacity)) (c .places) q (within (c .places) q n) (s .placed .each)) .there
 
-  trial-case : (q : ℕ) (b : Bool) → dropped c q ≡ b → at (c .places) q .life ≡ disabled → Tally (afterConfirm (deletedResponse (cond b (nameOf (at (c .places) q)) noAid)) ms) (cond b (withChange c (c .last) Quiet (set (c .places) q vacant)) (withPhase c Quiet) .places)
+  trial-case : (q : ℕ) (b : Bool) → dropped c q ≡ b → at (c .places) q .life ≡ disabled → Tally (afterConfirm (deletedResponse (cond b (at (c .places) q .aid) noAid)) ms) (cond b (withChange c (c .last) Quiet (set (c .places) q vacant)) (withPhase c Quiet) .places)
   trial-case q true e h =
       let k = previous-held q h in
       subst (λ l. Tally l (set (c .places) q vacant)) (sym (gone-named (at (c .places) q) k))
-      (delete-tally ms (c .places) q (aidOf (at (c .places) q)) (bears-own (at (c .places) q) k) (s .apart) t)
+      (delete-tally ms (c .places) q (aidOf (at (c .places) q)) (bears-own (at (c .places) q) k) (s .placed .apart) t)
   trial-case q false e h = unfold deletedResponse in t
 
   confirm-tally : (p : Phase) → Phased p c → Tally (afterConfirm (deletedResponse (goneIn p c)) ms) (confirmIn p c .places)
@@ -134,28 +133,20 @@ module _ (c : Card) (s : Sound c) (ms : List Made) (t : Tally ms (c .places)) wh
   confirm-tally (Back l n) h = t
   confirm-tally (Fallen l n) h = t
 
-  asks-tally : (a : Asked) → Legal c a → Passed (cardRows c a) → Tally (afterAsked a (responseOf c a) ms) (stepOf c a .card .places)
+  asks-tally : (a : Asked) → Legal c a → Passed c a → Tally (afterAsked a (responseOf c a) ms) (stepOf c a .card .places)
   unfolding tickStep lostStep confirmStep confirmOf
   asks-tally unread g p = t
   asks-tally (create aid quota) g p =
-      let k : freePlace c < length (c .places) = rw (s .full) (ltb-true _ _ (not-false _ (or-l (not (ltb (freePlace c) mostPlaces)) _ (p .1 .1 .1 .1 .1 .1 .0)))) in
+      let k : freePlace c < length (c .places) = rw (s .sizes .full) (ltb-true _ _ (not-false _ (or-l (not (ltb (freePlace c) mostPlaces)) _ (p .room)))) in
       create-tally ms (c .places) (freePlace c) aid selectable quota 0 (g .named) k (not-true _ (seek-below isFree (c .places) k)) t
-  asks-tally (on aid a) g p = act-tally aid a (p .1 .0)
+  asks-tally (on aid a) g p = act-tally aid a (p .target)
   asks-tally (confirm number) g p = confirm-tally (c .phase) (s .phased)
   asks-tally (statusOfAll life fallback) g p = t
   asks-tally getData g p = t
   asks-tally tick g p = lives-tally ms (tick-lives c) t
   asks-tally lost g p = lives-tally ms (lost-lives c) t
 
-asked-of : (c : Card) (call : Call) → askedOf (c .capacity) call ≡ asked c call
-asked-of c (Command verdict s room) = refl
-asked-of c (Keyed aid) = refl
-asked-of c (Stored aid n) = refl
-asked-of c (Finished aid policy) = refl
-asked-of c Tick = refl
-asked-of c Lost = refl
-
-accepted-response : (c : Card) (a : Asked) → accepted (stepOf c a) (responseOf c a) .response ≡ responseOf c a
+accepted-response : (c : Card) (a : Asked) → accepted (successOf c a) (stepOf c a) (responseOf c a) .response ≡ responseOf c a
 unfolding accepted
 accepted-response c a = refl
 
@@ -165,25 +156,24 @@ exchanged c call = record { call = call; answer = said (step c call) }
 
 done-tally : (c : Card) (call : Call) (ms : List Made) (b : Bool) → isDone (step c call .status) ≡ b → sound c ≡ true → Tally ms (c .places) → Tally (cond b (afterAsked (askedOf (c .capacity) call) (step c call .response) ms) ms) (step c call .card .places)
 done-tally c call ms true e s t =
-    let p = passed (table c call) refl (done-as c call true e) in
-    let v = p .1 .1 .1 .1 .1 .1 .1 in
+    let p = rows-accepted c call (work c call .success) (done-as c call true e) in
     let x = asked c call in
-    rw (asked-of c call, taken c call e, accepted-card (stepOf c x) (responseOf c x), accepted-response c x)
-    (asks-tally c (parts c s) ms t x (legal c call (v .0)) (v .1))
+    rw (takes-step c call e, accepted-card (successOf c x) (stepOf c x) (responseOf c x), accepted-response c x)
+    (asks-tally c (parts c s) ms t x (legal c call (p .values)) (p .card))
 done-tally c call ms false e s t =
     hands-back c call (λ d. Tally ms (d .places)) (λ f. absurd (false≢true (sym e ∙ f))) t
 
-pub step-tally : (c : Card) (call : Call) (ms : List Made) → sound c ≡ true → Tally ms (c .places) → Tally (after (c .capacity) (exchanged c call) ms) (step c call .card .places)
+pub step-tally : (c : Card) (call : Call) (ms : List Made) → sound c ≡ true → Tally ms (c .places) → Tally (madeAfter (c .capacity) (exchanged c call) ms) (step c call .card .places)
 step-tally c call ms s t = done-tally c call ms (isDone (step c call .status)) refl s t
 
 run-free : (calls : List Call) (c : Card) (capacity : ℕ) (ms : List Made) → c .capacity ≡ capacity → sound c ≡ true → Tally ms (c .places) → (freeIn (run c calls) ≡ capacity - room (history capacity ms (exchanges c calls))) × (room (history capacity ms (exchanges c calls)) ≤ capacity)
 unfolding run exchanges history
 run-free [] c capacity ms e s t =
-    let r = tally-room (c .capacity) ms (c .places) (parts c s .each) t in
-    (rw (r, e), rw (r, ← e) (parts c s .room))
+    let r = tally-room (c .capacity) ms (c .places) (parts c s .placed .each) t in
+    (rw (r, e), rw (r, ← e) (parts c s .placed .room))
 run-free (call ∷ calls) c capacity ms e s t =
-    run-free calls (step c call .card) capacity (after capacity (exchanged c call) ms) (capacity-kept c call ∙ e) (step-sound c call s)
-    (subst (λ k. Tally (after k (exchanged c call) ms) (step c call .card .places)) e (step-tally c call ms s t))
+    run-free calls (step c call .card) capacity (madeAfter capacity (exchanged c call) ms) (capacity-kept c call ∙ e) (step-sound c call s)
+    (subst (λ k. Tally (madeAfter k (exchanged c call) ms) (step c call .card .places)) e (step-tally c call ms s t))
 
 -- the card that fresh makes
 abbrev cardOf : Inputs → Card
@@ -193,14 +183,14 @@ fresh-tally : (x : Inputs) → aidOk (x .aid) ≡ true → Tally (first x) (card
 unfolding sumMade sumHeld
 fresh-tally x ok w = rw (made-weight (x .aid) enabled (x .quota) (x .used) ok w)
 
-fresh-is : (x : Inputs) → isDone (freshOf x .status) ≡ true → (aidOk (x .aid) ≡ true) × (freshOf x .card ≡ cardOf x)
+pub fresh-is : (x : Inputs) → isDone (freshOf x .status) ≡ true → (aidOk (x .aid) ≡ true) × (freshOf x .card ≡ cardOf x)
 unfolding freshOutcome
 fresh-is x h =
     let rows = row (not (freshOk (x .eid) (x .aid) (x .capacity) (x .quota) (x .used))) DataWrong ∷ [] in
-    let t = took zeroCard (wordOf rows) (stepTo zeroCard (cardOf x) noAid) [] h in
-    let p = passed rows refl (t .0) in
+    let t = took zeroCard (wordOf Done rows) (stepTo zeroCard (cardOf x) noAid) [] h in
+    let p = passed Done rows refl (t .0) in
     let f = and-r (eqb (length (x .eid)) eidSize) _ (not-false _ (p .0)) in
-    (and-l (aidOk (x .aid)) _ f, rw (t .1) (accepted-card (stepTo zeroCard (cardOf x) noAid) []))
+    (and-l (aidOk (x .aid)) _ f, rw (t .1) (accepted-card (wordOf Done rows) (stepTo zeroCard (cardOf x) noAid) []))
 
 pub free-is-counted : FreeIsCounted
 free-is-counted x calls h =

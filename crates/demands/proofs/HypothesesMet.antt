@@ -8,11 +8,11 @@ use mathlib.Core.Option.{some}
 use lib.ListN.{replicate}
 use lib.Dec.{ltb}
 use borrow.Author.Tests.{ltb-true}
+use Rattle.byte_string.specs.Bytes.{sameBytes}
 use Rattle.status.specs.StatusWords.{isDone}
 use Rattle.status.specs.Rows.{wordOf}
 use Rattle.status.specs.declared.Status.the-variants.{Done}
 use Rattle.isdp.specs.Sizes.{mostPlaces, eidSize}
-use Rattle.byte_string.specs.Bytes.{sameBytes}
 use Rattle.isdp.specs.Aids.{padded}
 use Rattle.isdp.specs.LifeCycle.{disabled, enabled}
 use Rattle.isdp.specs.Place.{vacant, made, isFor, clash, zeros, placeOk}
@@ -49,7 +49,6 @@ use Rattle.demands.specs.Demand2.{Demand2Met}
 use Rattle.demands.specs.Ticks.{TicksMet}
 use Rattle.demands.specs.Create.{SoundRequest, CreateMet}
 use Rattle.demands.specs.Confirmation.{ConfirmationMet}
-use Rattle.demands.proofs.CreateWritten.{written-asks}
 use Rattle.demands.proofs.Confirmation.{confirmation-taken}
 use Rattle.demands.proofs.Words.{word-is}
 use Rattle.demands.proofs.Create.{room-decides}
@@ -130,29 +129,26 @@ reads = (refl, refl)
 encoded-in : (capacity : ℕ) → readAs createBytes (readOf createBytes capacity) ≡ some (written.create asks) → Encodes capacity (written.create asks) createBytes
 encoded-in capacity e = command-written createBytes capacity (written.create asks) (bytes-of createBytes refl) e
 
-request-on : (capacity : ℕ) → sound (freshOf capacity) ≡ true → Encodes capacity (written.create asks) createBytes → SoundRequest (freshOf capacity) (Command 0 createBytes 256) (aidEnding 2) 50
+request-on : (capacity : ℕ) → sound (freshOf capacity) ≡ true → readAs createBytes (readOf createBytes capacity) ≡ some (written.create asks) → SoundRequest (freshOf capacity) createBytes 256 asks
 unfolding anyOf isFor sameBytes padded
-request-on capacity s e = written-asks (freshOf capacity) 0 createBytes 256 asks e (omega arith) s refl refl
+request-on capacity s e =
+    record { card-sound = s; card-quiet = refl; buffer-long = omega arith; encoded = encoded-in capacity e; not-held = refl }
 
 -- 900 bytes are free on the one card, none on the other
 pub create-met : CreateMet
 unfolding anyOf quotas
 create-met =
-    let e = encoded-in 1000 (reads .0) in
-    let f = encoded-in 100 (reads .1) in
-    let r = request-on 1000 (fresh-sounds .0) e in
-    let t = request-on 100 (fresh-sounds .1) f in
+    let r = request-on 1000 (fresh-sounds .0) (reads .0) in
+    let t = request-on 100 (fresh-sounds .1) (reads .1) in
     record {
       bytes = createBytes;
       asks-for = asks;
       card = freshOf 1000;
-      encoded = e;
       request = r;
-      taken = room-decides (freshOf 1000) (Command 0 createBytes 256) (aidEnding 2) 50 r;
+      taken = room-decides (freshOf 1000) 0 createBytes 256 asks r;
       small = freshOf 100;
-      encoded-small = f;
       request-small = t;
-      not-taken = room-decides (freshOf 100) (Command 0 createBytes 256) (aidEnding 2) 50 t;
+      not-taken = room-decides (freshOf 100) 0 createBytes 256 asks t;
     }
 
 -- F, the fall-back, and 02, one of them enabled

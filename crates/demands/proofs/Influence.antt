@@ -6,11 +6,11 @@ use mathlib.Core.List.{List, [], _∷_}
 use mathlib.Core.Bool.{Bool, true, false, not, cond, false≢true}
 use lib.ListN.{set}
 use borrow.Author.Tests.{not-true}
-use Rattle.isdp.specs.LifeCycle.{withUsed}
 use Rattle.status.specs.StatusWords.{isDone}
 use Rattle.status.specs.Rows.{Row, row, wordOf}
 use Rattle.status.specs.declared.Status.{Status}
-use Rattle.status.specs.declared.Status.the-variants.{Unsound, BufferShort, LengthWrong, ClassWrong, InstructionWrong, ParametersWrong, DataWrong}
+use Rattle.status.specs.declared.Status.the-variants.{Unsound, BufferShort, LengthWrong, ClassWrong, InstructionWrong, ParametersWrong, DataWrong, Done}
+use Rattle.isdp.specs.LifeCycle.{withUsed}
 use Rattle.isdp.specs.Place.{isFor, clash}
 use Rattle.isdp.specs.declared.Isdp.{Isdp}
 use Rattle.isdp.proofs.Bools.{and-l, and-r}
@@ -34,6 +34,7 @@ use Rattle.manager.specs.Calls.{Call, Call.Command, Call.Keyed, Call.Stored, Ca
 use Rattle.manager.specs.Table.{bufferShort, inCommand, valuesWrong, table}
 use Rattle.manager.specs.Manager.{step, run}
 use Rattle.manager.proofs.Kept.{step-sound, run-sound}
+use Rattle.demands.specs.Change.{tableWord}
 use Rattle.demands.specs.Said.{Said, said, Exchange, exchanges}
 use Rattle.demands.specs.Influence.{reuse, Differ, fills, noneFills, UsedBytesStayPrivate}
 use Rattle.demands.proofs.Uses.{useAt, reuseAt, use-same}
@@ -102,12 +103,12 @@ rows-alike call x y v w l m e f g = rw (e, f, g)
 abbrev Alike : List ℕ → ℕ → Outcome → Outcome → Type 0
 Alike a i o p = (said p ≡ said o) × Near a i (o .card) (p .card)
 
-alike-case : (a : List ℕ) (i u : ℕ) (c : Card) (w : Status) (s t : Step) (rsp : List ℕ) (b : Bool) → sound c ≡ true → sound (reuseAt i u c) ≡ true → isFor a (at (c .places) i) ≡ true → t .notification ≡ s .notification → Near a i (s .card) (t .card) → Alike a i (cond b (accepted s rsp) (refused c w)) (cond b (accepted t rsp) (refused (reuseAt i u c) w))
+alike-case : (a : List ℕ) (i u : ℕ) (c : Card) (w : Status) (s t : Step) (rsp : List ℕ) (b : Bool) → sound c ≡ true → sound (reuseAt i u c) ≡ true → isFor a (at (c .places) i) ≡ true → t .notification ≡ s .notification → Near a i (s .card) (t .card) → Alike a i (cond b (accepted w s rsp) (refused c w)) (cond b (accepted w t rsp) (refused (reuseAt i u c) w))
 unfolding accepted refused
 alike-case a i u c w s t rsp true e f b n r = (rw (n, near-ticks a i (s .card) (t .card) r), r)
 alike-case a i u c w s t rsp false e f b n r = (rw (e, f, near-ticks a i c (reuseAt i u c) (apart u refl b)), apart u refl b)
 
-outcome-alike : (d : Card) (w v : Status) (x y : Asked) (rsp : List ℕ) → w ≡ v → x ≡ y → responseOf d y ≡ rsp → settle d w (accepted (stepOf d x) (responseOf d x)) ≡ settle d v (accepted (stepOf d y) rsp)
+outcome-alike : (d : Card) (w v : Status) (x y : Asked) (rsp : List ℕ) → w ≡ v → x ≡ y → responseOf d y ≡ rsp → settle d w (stepOf d x) (responseOf d x) ≡ settle d v (stepOf d y) rsp
 outcome-alike d w v x y rsp e f g = rw (e, f, g)
 
 step-alike : (a : List ℕ) (i u : ℕ) (c : Card) (call : Call) → sound c ≡ true → sound (reuseAt i u c) ≡ true → isFor a (at (c .places) i) ≡ true → not (fills a call) ≡ true → Alike a i (step c call) (step (reuseAt i u c) call)
@@ -119,8 +120,8 @@ step-alike a i u c call e f b n =
     let notice : stepOf (reuseAt i u c) x .notification ≡ stepOf c x .notification = step-notice (reuseAt i u c) x ∙ near-notice a i u c (stepOf c x .card) (stepOf (reuseAt i u c) x .card) near ∙ sym (step-notice c x) in
     let rows : table (reuseAt i u c) call ≡ table c call = rows-alike call (not (sound (reuseAt i u c))) (not (sound c)) (valuesWrong (reuseAt i u c) call) (valuesWrong c call) (cardRows (reuseAt i u c) (asked (reuseAt i u c) call)) (cardRows c x) (rw (e, f)) (values-same i u c call) (ap (cardRows (reuseAt i u c)) (asked-same i u c call) ∙ rows-near a i u c b x k) in
     subst (Alike a i (step c call))
-    (sym (outcome-alike (reuseAt i u c) (wordOf (table (reuseAt i u c) call)) (wordOf (table c call)) (asked (reuseAt i u c) call) x (responseOf c x) (ap wordOf rows) (asked-same i u c call) (response-near a i u c b x)))
-    (alike-case a i u c (wordOf (table c call)) (stepOf c x) (stepOf (reuseAt i u c) x) (responseOf c x) (isDone (wordOf (table c call))) e f b notice near)
+    (sym (outcome-alike (reuseAt i u c) (tableWord (reuseAt i u c) call) (tableWord c call) (asked (reuseAt i u c) call) x (responseOf c x) (ap (wordOf Done) rows) (asked-same i u c call) (response-near a i u c b x)))
+    (alike-case a i u c (tableWord c call) (stepOf c x) (stepOf (reuseAt i u c) x) (responseOf c x) (isDone (tableWord c call)) e f b notice near)
 
 -- a run
 exchange : (call : Call) (x y : Said) (xs ys : List Exchange) → x ≡ y → xs ≡ ys → _≡_ {A = List Exchange} (record { call = call; answer = x } ∷ xs) (record { call = call; answer = y } ∷ ys)
@@ -156,7 +157,7 @@ found a (p ∷ ps) (suc i) d b =
 near-differ : (a : List ℕ) (i : ℕ) (c d : Card) → sound c ≡ true → Near a i c d → Differ a c d
 unfolding useAt
 near-differ a i c d s (same e) = (profileOf c a .used, e ∙ ap (withPlaces c) (sym (use-same (c .places) (placeOf c a))))
-near-differ a i c d s (apart u e b) = (u, e ∙ ap (λ (j : ℕ). withPlaces c (useAt (c .places) j u)) (sym (found a (c .places) i (parts c s .apart) b)))
+near-differ a i c d s (apart u e b) = (u, e ∙ ap (λ (j : ℕ). withPlaces c (useAt (c .places) j u)) (sym (found a (c .places) i (parts c s .placed .apart) b)))
 
 -- where the search finds none nothing is set
 missed-case : (t : Isdp → Bool) (x p : Isdp) (ps : List Isdp) (b : Bool) → t p ≡ b → t (at (p ∷ ps) (cond b 0 (suc (seek t ps)))) ≡ false → (t (at ps (seek t ps)) ≡ false → set ps (seek t ps) x ≡ ps) → set (p ∷ ps) (cond b 0 (suc (seek t ps))) x ≡ p ∷ ps

@@ -4,7 +4,8 @@ pub mod Demand1
 pub mod Demand2
 pub mod Ticks
 pub mod OpeningAnswers
-pub mod CreateWritten
+pub mod Written
+pub mod CallLaws
 pub mod Confirmation
 pub mod Create
 pub mod Unique
@@ -16,6 +17,7 @@ pub mod Named
 pub mod Openings
 pub mod Closes
 pub mod Examples
+pub mod StatusTable
 pub mod Witnesses
 pub mod Engines
 pub mod WrongEngines
@@ -27,3 +29,5 @@ pub mod Blind
 pub mod Influence
 pub mod Free
 pub mod InfluenceMet
+pub mod Notified
+pub mod SilentEngines

@@ -3,11 +3,11 @@
 use mathlib.Core.Path.{_≡_, refl, ap, _∙_}
 use Prim.Native.Nat.{ℕ}
 use mathlib.Core.List.{List, [], _∷_, _++_}
-use mathlib.Core.Bool.{Bool, true, false, not, cond, _&&_, false≢true}
+use mathlib.Core.Bool.{Bool, true, false, not, cond, _&&_, _||_, false≢true}
 use lib.Dec.{ltb}
-use Rattle.isdp.specs.Aids.{aidOf, nameOf}
-use Rattle.isdp.specs.declared.Aid.{Aid}
+use Rattle.isdp.specs.Aids.{aidOf, bytesOf}
 use Rattle.isdp.proofs.Bools.{and-l, and-r}
+use Rattle.isdp.specs.declared.Isdp.{Isdp}
 use Rattle.places.specs.Places.{at}
 use Rattle.places.proofs.Lives.{enable-lives, lives-at}
 use Rattle.places.proofs.Seeks.{enabled-at}
@@ -22,20 +22,20 @@ use Rattle.steps.proofs.Opens.{only}
 use Rattle.manager.specs.Calls.{Call, Call.Command, Call.Keyed, Call.Stored, Call.Finished, Call.Tick, Call.Lost, asked}
 use Rattle.manager.specs.Manager.{step, run}
 use Rattle.manager.proofs.Kept.{step-sound, run-sound}
-use Rattle.demands.specs.Change.{enabledAid, isTick, isConfirmation, confirms, ticksAmong, staysOpen, heir, Change, LostChange}
+use Rattle.demands.specs.Change.{enabledBytes, isTick, isConfirmation, confirms, ticksAmong, staysOpen, heir, Unmoved, Change, LostChange}
 use Rattle.demands.proofs.Frames.{frame, tick-step, confirm-does}
 use Rattle.demands.proofs.Changes.{Holds, closingTick, Course, LostCourse}
 
 -- every place of d bears the AID that it bears in c
 abbrev pub Named : Card → Card → Type 0
-Named c d = (i : ℕ) → nameOf (at (d .places) i) ≡ nameOf (at (c .places) i)
+Named c d = (i : ℕ) → at (d .places) i .aid ≡ at (c .places) i .aid
 
 tick-case : (c : Card) (q : Phase) → Named c (tickIn q c)
 tick-case c Quiet = λ i. refl
-tick-case c (Trial q l n) = choose (Named c) (ltb 1 l) _ _ (λ b i. refl) (λ b i. ap nameOf (lives-at (enable-lives (c .places) q) i))
+tick-case c (Trial q l n) = choose (Named c) (ltb 1 l) _ _ (λ b i. refl) (λ b i. ap (λ (p : Isdp). p .aid) (lives-at (enable-lives (c .places) q) i))
 tick-case c (Back l n) =
     choose (Named c) (ltb 1 l) _ _ (λ b i. refl)
-    (λ b. choose (Named c) (onFallback c) _ _ (λ e i. refl) (λ e i. ap nameOf (lives-at (enable-lives (c .places) (c .fallback)) i)))
+    (λ b. choose (Named c) (onFallback c) _ _ (λ e i. refl) (λ e i. ap (λ (p : Isdp). p .aid) (lives-at (enable-lives (c .places) (c .fallback)) i)))
 tick-case c (Fallen l n) = choose (Named c) (ltb 1 l) _ _ (λ b i. refl) (λ b i. refl)
 
 tick-named : (c : Card) → Named c (tickOf c)
@@ -85,18 +85,15 @@ still-open (call ∷ calls) c o e =
     still-open calls d (not-quiet (isQuiet (d .phase)) r e) (and-r (not (isQuiet (d .phase))) r e)
 
 -- at its close, of the enabled place
-close-case : (c : Card) (call : Call) (b : Bool) → confirms c call ≡ b → sound c ≡ true → isQuiet (c .phase) ≡ false → (i : ℕ) → Holds (step c call .card) i → nameOf (at (step c call .card .places) i) ≡ nameOf (at (c .places) i)
+close-case : (c : Card) (call : Call) (b : Bool) → confirms c call ≡ b → sound c ≡ true → isQuiet (c .phase) ≡ false → (i : ℕ) → Holds (step c call .card) i → at (step c call .card .places) i .aid ≡ at (c .places) i .aid
 close-case c call true e s o i h =
     confirm-does c call s (and-l (isConfirmation (asked c call)) _ e) (and-r (isConfirmation (asked c call)) _ e) .named i h
 close-case c call false e s o i h = step-named c call s o e i
 
 -- the AID that a place has, and the AID that is enabled
-abbrev bytesOf : Aid → List ℕ
-bytesOf a = aidOf (record { aid = a .bytes; len = a .len; life = 0; quota = 0; used = 0; policy = 0 })
-
-aid-enabled : (c d : Card) (i : ℕ) → sound d ≡ true → Holds d i → nameOf (at (d .places) i) ≡ nameOf (at (c .places) i) → enabledAid d ≡ aidOf (at (c .places) i)
+pub aid-enabled : (c d : Card) (i : ℕ) → sound d ≡ true → Holds d i → at (d .places) i .aid ≡ at (c .places) i .aid → enabledBytes d ≡ aidOf (at (c .places) i)
 aid-enabled c d i s h n =
-    ap (λ (j : ℕ). aidOf (at (d .places) j)) (only (d .places) (enabledPlace d) i (parts d s .one) (enabled-at (d .places) (parts d s .one)) h)
+    ap (λ (j : ℕ). aidOf (at (d .places) j)) (only (d .places) (enabledPlace d) i (parts d s .roles .one) (enabled-at (d .places) (parts d s .roles .one)) h)
     ∙ ap bytesOf n
 
 -- told of places, told of their AIDs
@@ -120,15 +117,22 @@ module _ (c d : Card) (s : sound d ≡ true) (o : isQuiet (d .phase) ≡ false) 
   abbrev t : ℕ → List ℕ
   t i = aidOf (at (c .places) i)
 
-  after-aid : (calls : List Call) (i : ℕ) → staysOpen (run d) calls ≡ true → Holds (run d calls) i → enabledAid (run d calls) ≡ t i
+  after-aid : (calls : List Call) (i : ℕ) → staysOpen (run d) calls ≡ true → Holds (run d calls) i → enabledBytes (run d calls) ≡ t i
   after-aid calls i e h =
       aid-enabled c (run d calls) i (run-sound d calls s) h (open-named calls d s o e i ∙ n i)
 
-  close-aid : (calls : List Call) (call : Call) (i : ℕ) → staysOpen (run d) calls ≡ true → Holds (step (run d calls) call .card) i → enabledAid (step (run d calls) call .card) ≡ t i
+  close-aid : (calls : List Call) (call : Call) (i : ℕ) → staysOpen (run d) calls ≡ true → Holds (step (run d calls) call .card) i → enabledBytes (step (run d calls) call .card) ≡ t i
   close-aid calls call i e h =
       let k = run-sound d calls s in
       aid-enabled c (step (run d calls) call .card) i (step-sound (run d calls) call k) h
       (close-case (run d calls) call (confirms (run d calls) call) refl k (still-open calls d o e) i h ∙ open-named calls d s o e i ∙ n i)
+
+  confirmed-quiet : (calls : List Call) (call : Call) → staysOpen (run d) calls ≡ true → confirms (run d calls) call ≡ true → isQuiet (run d (calls ++ call ∷ []) .phase) ≡ true
+  confirmed-quiet calls call e q =
+      rw (run-snoc calls call d, confirm-does (run d calls) call (run-sound d calls s) (and-l (isConfirmation (asked (run d calls) call)) _ q) (and-r (isConfirmation (asked (run d calls) call)) _ q) .quiet)
+
+  others-still : (calls : List Call) (call : Call) → staysOpen (run d) calls ≡ true → (isTick call || confirms (run d calls) call) ≡ false → Unmoved (run d calls) (run d (calls ++ call ∷ []))
+  others-still calls call e q = rw (run-snoc calls call d) (frame (run d calls) call (run-sound d calls s) (still-open calls d o e) q)
 
   pub change-named : (g p f : ℕ) → Course g p f d → Change (t g) (t p) (t f) (closingTick p f) (run d)
   unfolding run
@@ -139,8 +143,8 @@ module _ (c d : Card) (s : sound d ≡ true) (o : isQuiet (d .phase) ≡ false) 
         meanwhile = λ calls e. after-aid calls _ e (x .meanwhile calls e) ∙ holder-aid t g p f (ltb (ticksAmong calls) 10) (ltb (ticksAmong calls) 20);
         close = λ calls call e q. rw (run-snoc calls call d) (close-aid calls call _ e (x .close calls call e (rw (run-snoc calls call d) at q)) ∙ heir-aid t g p f (ticksAmong calls) (confirms (run d calls) call));
         due = λ calls e q. x .due calls e (rw (run-snoc calls Tick d) at q);
-        confirmed = λ calls call e q. rw (run-snoc calls call d, confirm-does (run d calls) call (run-sound d calls s) (and-l (isConfirmation (asked (run d calls) call)) _ q) (and-r (isConfirmation (asked (run d calls) call)) _ q) .quiet);
-        still = λ calls call e q. rw (run-snoc calls call d) (frame (run d calls) call (run-sound d calls s) (still-open calls d o e) q);
+        confirmed = confirmed-quiet;
+        still = others-still;
       }
 
   pub lost-named : (f : ℕ) → LostCourse f d → LostChange (t f) (run d)
@@ -152,4 +156,6 @@ module _ (c d : Card) (s : sound d ≡ true) (o : isQuiet (d .phase) ≡ false) 
         throughout = λ calls e. after-aid calls f e (x .throughout calls e);
         close = λ calls call e q. rw (run-snoc calls call d) (close-aid calls call f e (x .close calls call e (rw (run-snoc calls call d) at q)));
         due = λ calls e q. x .due calls e (rw (run-snoc calls Tick d) at q);
+        confirmed = confirmed-quiet;
+        still = others-still;
       }

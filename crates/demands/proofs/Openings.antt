@@ -6,13 +6,13 @@ use mathlib.Core.List.{List}
 use mathlib.Core.Bool.{Bool, true, false, false≢true}
 use lib.Dec.{eqb}
 use borrow.Author.Tests.{eqb-true, eq-eqb, ne-eqb, not-true, not-false}
-use Rattle.status.specs.Rows.{wordOf}
-use Rattle.status.proofs.Tables.{Passed}
-use Rattle.isdp.specs.Aids.{aidOf, nameOf}
-use Rattle.isdp.specs.Place.{held, isFor}
 use Rattle.byte_string.proofs.Alike.{same-true}
+use Rattle.status.specs.Rows.{wordOf}
+use Rattle.isdp.specs.Aids.{aidOf}
+use Rattle.isdp.specs.Place.{held, isFor}
 use Rattle.isdp.specs.LifeCycle.{disabled, isEnabled}
 use Rattle.isdp.proofs.Bools.{and-l, and-r}
+use Rattle.isdp.specs.declared.Isdp.{Isdp}
 use Rattle.places.specs.Places.{at}
 use Rattle.places.proofs.Lives.{enable-at, enable-lives, lives-at, within}
 use Rattle.places.proofs.Seeks.{enabled-at, seek-below}
@@ -23,14 +23,14 @@ use Rattle.card.specs.Steps.{lostStep}
 use Rattle.card.specs.Answers.{accepted}
 use Rattle.card.specs.declared.Card.{Card}
 use Rattle.card.proofs.Sounds.{parts, whole, nonzero}
+use Rattle.steps.proofs.Rows.{Passed}
 use Rattle.steps.specs.Asked.{Act.enable, Act.disable, Asked.on}
-use Rattle.steps.specs.Conditions.{cardRows}
 use Rattle.steps.proofs.Opens as steps
 use Rattle.manager.specs.Calls.{Call.Lost}
 use Rattle.manager.specs.Manager.{step, run}
 use Rattle.manager.proofs.Kept.{step-sound}
-use Rattle.demands.specs.Change.{enabledAid, fallbackAid, Opens.enables, Opens.disables, lastTick, Change, Demand3, LostNetwork}
-use Rattle.demands.proofs.Frames.{card-passed, taken-step}
+use Rattle.demands.specs.Change.{enabledBytes, fallbackBytes, Opens.enables, Opens.disables, lastTick, Change, Demand3, LostNetwork}
+use Rattle.demands.proofs.Frames.{card-passed, taken-sound, taken-step}
 use Rattle.demands.proofs.Changes.{closingTick, Opened, opened-course, lost-course}
 use Rattle.demands.proofs.Named.{Named, change-named, lost-named}
 
@@ -46,19 +46,19 @@ opens c t s d =
     }
 
 -- by the rows that enable and disable have passed
-enable-opens : (c : Card) (aid : List ℕ) → sound c ≡ true → Passed (cardRows c (on aid enable)) → Opened (placeOf c aid) (enabledPlace c) (c .fallback) (opened c (placeOf c aid))
-enable-opens c aid s p = opens c (placeOf c aid) s (eqb-true _ _ (not-false _ (p .1 .1 .1 .0)))
+enable-opens : (c : Card) (aid : List ℕ) → sound c ≡ true → Passed c (on aid enable) → Opened (placeOf c aid) (enabledPlace c) (c .fallback) (opened c (placeOf c aid))
+enable-opens c aid s p = opens c (placeOf c aid) s (eqb-true _ _ (not-false _ (p .state)))
 
-disable-opens : (c : Card) (aid : List ℕ) → sound c ≡ true → Passed (cardRows c (on aid disable)) → Opened (c .fallback) (enabledPlace c) (c .fallback) (opened c (c .fallback))
+disable-opens : (c : Card) (aid : List ℕ) → sound c ≡ true → Passed c (on aid disable) → Opened (c .fallback) (enabledPlace c) (c .fallback) (opened c (c .fallback))
 disable-opens c aid s p =
-    let h = not-false _ (p .1 .1 .1 .0) in
+    let h = not-false _ (p .state) in
     let v = and-l (isEnabled (profileOf c aid)) _ h in
     let n = not-true _ (and-r (isEnabled (profileOf c aid)) _ h) in
     opens c (c .fallback) s (steps.fallback-life c (placeOf c aid) (parts c s) v n)
 
 -- a place that is enabled keeps its AID
 opened-named : (c : Card) (t : ℕ) → Named c (opened c t)
-opened-named c t i = ap nameOf (lives-at (enable-lives (c .places) t) i)
+opened-named c t i = ap (λ (p : Isdp). p .aid) (lives-at (enable-lives (c .places) t) i)
 
 -- the place found for an AID bears it
 found-aid : (c : Card) (aid : List ℕ) → profileOf c aid .life ≡ disabled → aidOf (profileOf c aid) ≡ aid
@@ -70,24 +70,26 @@ found-aid c aid d =
 -- the change closes at the twentieth tick exactly where the fall-back was enabled
 tick-case : (c : Card) (b : Bool) → onFallback c ≡ b → sound c ≡ true → eqb (enabledPlace c) (c .fallback) ≡ b
 tick-case c true e s =
-    eq-eqb _ _ (steps.only (c .places) (enabledPlace c) (c .fallback) (parts c s .one) (enabled-at (c .places) (parts c s .one)) e)
+    eq-eqb _ _ (steps.only (c .places) (enabledPlace c) (c .fallback) (parts c s .roles .one) (enabled-at (c .places) (parts c s .roles .one)) e)
 tick-case c false e s =
-    ne-eqb _ _ (λ q. false≢true (sym e ∙ ap (λ (i : ℕ). isEnabled (at (c .places) i)) (sym q) ∙ enabled-at (c .places) (parts c s .one)))
+    ne-eqb _ _ (λ q. false≢true (sym e ∙ ap (λ (i : ℕ). isEnabled (at (c .places) i)) (sym q) ∙ enabled-at (c .places) (parts c s .roles .one)))
 
 last-tick : (c : Card) → sound c ≡ true → closingTick (enabledPlace c) (c .fallback) ≡ lastTick c
 last-tick c s = rw (tick-case c (onFallback c) refl s)
 
-change-of : (c : Card) (t : ℕ) → sound c ≡ true → Opened t (enabledPlace c) (c .fallback) (opened c t) → Change (aidOf (at (c .places) t)) (enabledAid c) (fallbackAid c) (lastTick c) (run (opened c t))
+change-of : (c : Card) (t : ℕ) → sound c ≡ true → Opened t (enabledPlace c) (c .fallback) (opened c t) → Change (aidOf (at (c .places) t)) (enabledBytes c) (fallbackBytes c) (lastTick c) (run (opened c t))
 change-of c t s o =
     rw (last-tick c s) at (change-named c (opened c t) (o .still) refl (opened-named c t) t (enabledPlace c) (c .fallback) (opened-course t (enabledPlace c) (c .fallback) (opened c t) o))
 
 pub demand-3 : Demand3
-demand-3 c call _ s q (enables aid a e) =
-    let p : Passed (cardRows c (on aid enable)) = rw a at (card-passed c call e) in
-    let f = found-aid c aid (eqb-true _ _ (not-false _ (p .1 .1 .1 .0))) in
+demand-3 c call _ (enables aid a e) =
+    let s = taken-sound c call e in
+    let p : Passed c (on aid enable) = rw a at (card-passed c call e) in
+    let f = found-aid c aid (eqb-true _ _ (not-false _ (p .state))) in
     rw (taken-step c call e, a) (rw f at (change-of c (placeOf c aid) s (enable-opens c aid s p)))
-demand-3 c call _ s q (disables aid a e) =
-    let p : Passed (cardRows c (on aid disable)) = rw a at (card-passed c call e) in
+demand-3 c call _ (disables aid a e) =
+    let s = taken-sound c call e in
+    let p : Passed c (on aid disable) = rw a at (card-passed c call e) in
     rw (taken-step c call e, a) (change-of c (c .fallback) s (disable-opens c aid s p))
 
 -- a lost network
@@ -100,5 +102,5 @@ lost-network c s q b =
     let e = lost-card c s q b in
     let k : sound (fallen c) ≡ true = rw e at (step-sound c Lost s) in
     rw e
-    (lost-named c (fallen c) k refl (λ i. ap nameOf (lives-at (enable-lives (c .places) (c .fallback)) i)) (c .fallback)
+    (lost-named c (fallen c) k refl (λ i. ap (λ (p : Isdp). p .aid) (lives-at (enable-lives (c .places) (c .fallback)) i)) (c .fallback)
     (lost-course (c .fallback) (nextOf (c .last)) (fallen c) k refl refl))

@@ -28,9 +28,9 @@ use Rattle.card.proofs.Outcomes.{accepted-card}
 use Rattle.steps.specs.Asked.{Act, Act.enable, Act.disable, Act.delete, Act.masterDelete, Act.setFallBack, Act.status, Act.keyed, Act.stored, Act.finished, Asked, Asked.unread, Asked.create, Asked.on, Asked.confirm, Asked.statusOfAll, Asked.getData, Asked.tick, Asked.lost}
 use Rattle.steps.specs.Steps.{stepOf, actStep, responseOf}
 use Rattle.manager.specs.Calls.{asked}
-use Rattle.manager.specs.Manager.{step}
+use Rattle.manager.specs.Manager.{step, work}
 use Rattle.demands.specs.Others.{AsItWas, targets, leaves, leavesIn, OthersUntouched, SaveTheDeletion}
-use Rattle.demands.proofs.Taken.{hands-back, taken}
+use Rattle.demands.proofs.Taken.{hands-back, takes-step}
 
 pub lives-same : (l : List Isdp) → Lives l l
 lives-same [] = ended
@@ -73,7 +73,7 @@ pub free-other : (l : List Isdp) (i : ℕ) → held (at l i) ≡ true → seek i
 free-other l i h = not-found isFree l i (held-within l i h) (rw h)
 
 same : (p : Isdp) → AsItWas p p
-same p = record { aid = refl; len = refl; quota = refl; used = refl; policy = refl }
+same p = record { aid = refl; quota = refl; used = refl; policy = refl }
 
 equal : (p q : Isdp) → q ≡ p → AsItWas p q
 equal p q e = rw e (same p)
@@ -83,7 +83,6 @@ lively {l} {m} j r =
     let e : at m j ≡ withLife (at l j) (at m j .life) = lives-at r j in
     record {
       aid = ap (λ (x : Isdp). x .aid) e;
-      len = ap (λ (x : Isdp). x .len) e;
       quota = ap (λ (x : Isdp). x .quota) e;
       used = ap (λ (x : Isdp). x .used) e;
       policy = ap (λ (x : Isdp). x .policy) e;
@@ -164,4 +163,4 @@ pub save-the-deletion : SaveTheDeletion
 save-the-deletion c call j e =
     let d = and-l (isDone (step c call .status)) _ e in
     let r = and-r (isDone (step c call .status)) (leaves c (asked c call) j) e in
-    rw (taken c call d, accepted-card (stepOf c (asked c call)) (responseOf c (asked c call))) (asks-gone c j (asked c call) r)
+    rw (takes-step c call d, accepted-card (work c call .success) (stepOf c (asked c call)) (responseOf c (asked c call))) (asks-gone c j (asked c call) r)

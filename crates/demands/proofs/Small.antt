@@ -1,32 +1,78 @@
--- The fall-back set to where it is leaves the record as it is, and a refusal hands it back; the row of an open change reads off what
--- is asked. Assumes nothing.
-use mathlib.Core.Path.{_≡_, refl, ap, _∙_}
-use Rattle.status.specs.Rows.{wordOf}
-use Rattle.card.specs.Cards.{withFallback}
+-- The fall-back set to where it is leaves the record as it is, and a refusal hands it back; of the table's rows only that of an open change
+-- looks at the phase, and the calls that are allowed do not meet it. Assumes nothing.
+use mathlib.Core.Path.{_≡_, refl, ap, sym, _∙_}
+use mathlib.Core.List.{List, _∷_}
+use mathlib.Core.Bool.{Bool, true, not}
+use Rattle.status.specs.Rows.{Row, row, wordOf}
+use Rattle.status.specs.declared.Status.the-variants.{Unsound, BufferShort, LengthWrong, ClassWrong, InstructionWrong, ParametersWrong, DataWrong, Done}
+use Rattle.card.specs.Cards.{withFallback, withPhase}
+use Rattle.card.specs.Sound.{sound}
+use Rattle.card.specs.declared.Card.{Card}
+use Rattle.card.specs.declared.Phase.the-variants.{Quiet}
+use Rattle.card.proofs.Sounds.{parts, whole, rephased}
 use Rattle.card.proofs.Outcomes.{decide-card}
-use Rattle.steps.specs.Asked.{Asked}
-use Rattle.steps.specs.Conditions.{changeWrong}
+use Rattle.command.specs.Framing.{lengthWrong, classWrong, instructionWrong, parametersWrong, shapeWrong}
+use Rattle.steps.specs.Asked.{Act.status, Act.keyed, Act.stored, Act.finished, Asked, Asked.on, Asked.statusOfAll, Asked.getData, Asked.tick, Asked.lost}
+use Rattle.steps.specs.Conditions.{cardRows}
 use Rattle.steps.specs.Steps.{stepOf, responseOf}
-use Rattle.manager.specs.Calls.{asked}
-use Rattle.manager.specs.Table.{table}
+use Rattle.manager.specs.Calls.{Call, Call.Command, Call.Keyed, Call.Stored, Call.Finished, Call.Tick, Call.Lost, asked}
+use Rattle.manager.specs.Table.{bufferShort, inCommand, valuesWrong, table}
 use Rattle.manager.specs.Manager.{step}
+use Rattle.demands.specs.Change.{tableWord}
 use Rattle.demands.specs.Small as statement
+use Rattle.demands.proofs.Words.{word-is}
 
 pub holder-named : statement.HolderNamed
 unfolding step
 holder-named c call aid e h =
-    decide-card (λ d. d ≡ c) c (wordOf (table c call)) (stepOf c (asked c call)) (responseOf c (asked c call))
+    decide-card (λ d. d ≡ c) c (tableWord c call) (stepOf c (asked c call)) (responseOf c (asked c call))
     (λ done. ap (λ (a : Asked). stepOf c a .card) e ∙ ap (withFallback c) h) refl
+
+-- the values of a call are the same on the same card in Quiet
+values-same : (c : Card) (call : Call) → valuesWrong c call ≡ valuesWrong (withPhase c Quiet) call
+values-same c (Command verdict s room) = refl
+values-same c (Keyed aid) = refl
+values-same c (Stored aid n) = refl
+values-same c (Finished aid policy) = refl
+values-same c Tick = refl
+values-same c Lost = refl
+
+quiet-sound : (c : Card) → sound c ≡ true → sound (withPhase c Quiet) ≡ true
+quiet-sound c s = whole _ (rephased c Quiet (parts c s) tt)
+
+-- the table of a call by what its rows look at: soundness, the values, the card
+abbrev tableOf : Call → Bool → Bool → List Row → List Row
+tableOf call isSound wrong rows =
+    row (not isSound) Unsound
+    ∷ row (bufferShort call) BufferShort
+    ∷ row (inCommand lengthWrong call) LengthWrong
+    ∷ row (inCommand classWrong call) ClassWrong
+    ∷ row (inCommand instructionWrong call) InstructionWrong
+    ∷ row (inCommand parametersWrong call) ParametersWrong
+    ∷ row (inCommand shapeWrong call) LengthWrong
+    ∷ row wrong DataWrong
+    ∷ rows
+
+status-same : (a : Asked) → ((c : Card) → cardRows c a ≡ cardRows (withPhase c Quiet) a) → statement.Allowed a
+status-same a f c call s e =
+    let d = withPhase c Quiet in
+    word-is c call
+    ∙ ap (λ (x : Asked). wordOf Done (tableOf call (sound c) (valuesWrong c call) (cardRows c x))) e
+    ∙ ap (λ (b : Bool). wordOf Done (tableOf call b (valuesWrong c call) (cardRows c a))) (s ∙ sym (quiet-sound c s))
+    ∙ ap (λ (b : Bool). wordOf Done (tableOf call (sound d) b (cardRows c a))) (values-same c call)
+    ∙ ap (λ (rows : List Row). wordOf Done (tableOf call (sound d) (valuesWrong d call) rows)) (f c)
+    ∙ ap (λ (x : Asked). wordOf Done (tableOf call (sound d) (valuesWrong d call) (cardRows d x))) (sym e)
+    ∙ sym (word-is d call)
 
 pub allowed-while-open : statement.AllowedWhileOpen
 allowed-while-open =
     record {
-      keyed-allowed = λ aid c call e. ap (changeWrong c) e;
-      stored-allowed = λ aid n c call e. ap (changeWrong c) e;
-      finished-allowed = λ aid policy c call e. ap (changeWrong c) e;
-      status-of-all-allowed = λ life fallback c call e. ap (changeWrong c) e;
-      status-of-one-allowed = λ aid life fallback c call e. ap (changeWrong c) e;
-      get-data-allowed = λ c call e. ap (changeWrong c) e;
-      tick-allowed = λ c call e. ap (changeWrong c) e;
-      lost-allowed = λ c call e. ap (changeWrong c) e;
+      keyed-allowed = λ aid. status-same (on aid keyed) (λ c. refl);
+      stored-allowed = λ aid n. status-same (on aid (stored n)) (λ c. refl);
+      finished-allowed = λ aid policy. status-same (on aid (finished policy)) (λ c. refl);
+      status-of-all-allowed = λ life fallback. status-same (statusOfAll life fallback) (λ c. refl);
+      status-of-one-allowed = λ aid life fallback. status-same (on aid (status life fallback)) (λ c. refl);
+      get-data-allowed = status-same getData (λ c. refl);
+      tick-allowed = status-same tick (λ c. refl);
+      lost-allowed = status-same lost (λ c. refl);
     }

@@ -1,21 +1,20 @@
 -- The profiles counted and the profiles held are the same ones: every weight of AID and quota adds up to the same over both. So no order
 -- and no lookup is needed; a deletion is the weight that passes over one AID. By induction over the places. Assumes nothing.
 use mathlib.Core.Path.{_≡_, refl, sym, _∙_}
-use Prim.Native.Nat.{ℕ, zero, suc, _+_, _≤_, _<_}
+use Prim.Native.Nat.{ℕ, zero, suc, _+_, _<_}
 use native.Mathlib.Omega.{arith}
 use mathlib.Core.List.{List, [], _∷_}
 use mathlib.Core.Bool.{Bool, true, false, not, cond, _&&_, false≢true}
 use lib.ListN.{length, set}
-use lib.Seq.{take-all, take-append-seam}
-use lib.Dec.{leb, eqb}
-use borrow.Author.Tests.{not-true, eqb-true, ne-eqb, leb-true}
-use Rattle.isdp.specs.Sizes.{leastAid, mostAid}
+use lib.Dec.{eqb}
+use borrow.Author.Tests.{not-true, eqb-true}
 use Rattle.byte_string.specs.Bytes.{sameBytes}
-use Rattle.isdp.specs.Aids.{aidOk, padded, aidOf}
+use Rattle.byte_string.proofs.Alike.{same-true, same-self}
+use Rattle.isdp.specs.Aids.{aidOk, aidOf}
 use Rattle.isdp.specs.Place.{vacant, made, held, isFor, clash, placeOk}
 use Rattle.isdp.specs.declared.Isdp.{Isdp}
+use Rattle.isdp.proofs.Placed.{made-held, made-aid}
 use Rattle.isdp.proofs.Bools.{and-l, and-r, both, or-l, or-r}
-use Rattle.byte_string.proofs.Alike.{same-true, same-self}
 use Rattle.isdp.proofs.Alike.{clash-none}
 use Rattle.places.specs.Places.{at, quotas, allOf, anyOf, distinct}
 use Rattle.places.proofs.Lives.{Lives, Lives.ended, Lives.place}
@@ -50,29 +49,19 @@ pub lives-tally : {l m : List Isdp} (ms : List Made) → Lives l m → Tally ms 
 lives-tally ms r t w = t w ∙ sym (lives-sum w r)
 
 -- nor does anything else of a place but its AID and quota
-alike-sum : (w : Weight) (x : Isdp) (l : List Isdp) (i : ℕ) → x .aid ≡ at l i .aid → x .len ≡ at l i .len → x .quota ≡ at l i .quota → sumHeld w (set l i x) ≡ sumHeld w l
+alike-sum : (w : Weight) (x : Isdp) (l : List Isdp) (i : ℕ) → x .aid ≡ at l i .aid → x .quota ≡ at l i .quota → sumHeld w (set l i x) ≡ sumHeld w l
 unfolding sumHeld
-alike-sum w x [] i e f g = refl
-alike-sum w x (p ∷ ps) zero e f g = rw (e, f, g)
-alike-sum w x (p ∷ ps) (suc i) e f g = rw (alike-sum w x ps i e f g)
+alike-sum w x [] i e g = refl
+alike-sum w x (p ∷ ps) zero e g = rw (e, g)
+alike-sum w x (p ∷ ps) (suc i) e g = rw (alike-sum w x ps i e g)
 
-pub alike-tally : (ms : List Made) (x : Isdp) (l : List Isdp) (i : ℕ) → x .aid ≡ at l i .aid → x .len ≡ at l i .len → x .quota ≡ at l i .quota → Tally ms l → Tally ms (set l i x)
-alike-tally ms x l i e f g t w = t w ∙ sym (alike-sum w x l i e f g)
+pub alike-tally : (ms : List Made) (x : Isdp) (l : List Isdp) (i : ℕ) → x .aid ≡ at l i .aid → x .quota ≡ at l i .quota → Tally ms l → Tally ms (set l i x)
+alike-tally ms x l i e g t w = t w ∙ sym (alike-sum w x l i e g)
 
 -- a profile made anew
 module _ (aid : List ℕ) (life quota used : ℕ) (ok : aidOk aid ≡ true) where
-  sixteen : length aid ≤ mostAid
-  sixteen = leb-true (length aid) mostAid (and-r (leb leastAid (length aid)) _ ok)
-
-  pub made-held : held (made aid life quota used) ≡ true
-  made-held = rw (ne-eqb (length aid) 0 (λ z. let h = leb-true leastAid (length aid) (and-l _ _ ok) in omega arith))
-
-  pub made-aid : aidOf (made aid life quota used) ≡ aid
-  unfolding padded
-  made-aid = rw (take-all mostAid aid sixteen) (take-append-seam aid _)
-
   pub made-weight : (w : Weight) → weight w (made aid life quota used) ≡ w aid quota
-  made-weight w = rw (made-held, made-aid)
+  made-weight w = rw (made-held aid life quota used ok, made-aid aid life quota used ok)
 
 sum-set : (w : Weight) (x : Isdp) (l : List Isdp) (t : ℕ) → t < length l → held (at l t) ≡ false → sumHeld w (set l t x) ≡ weight w x + sumHeld w l
 unfolding sumHeld

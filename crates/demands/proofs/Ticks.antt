@@ -5,7 +5,6 @@ use Prim.Native.Nat.{ℕ, _≤_}
 use native.Mathlib.Omega.{arith}
 use mathlib.Core.List.{List}
 use mathlib.Core.Bool.{Bool, true, false, cond}
-use Rattle.status.specs.Rows.{wordOf}
 use Rattle.card.specs.Sound.{sound}
 use Rattle.card.specs.Ticks.{ticksToCome, StepsTo}
 use Rattle.card.specs.Fresh.{freshOk, freshOutcome}
@@ -14,16 +13,16 @@ use Rattle.card.proofs.Counts.{at-most-30, counted, steps-are, steps-unique}
 use Rattle.card.proofs.Outcomes.{decide-ticks, stopped}
 use Rattle.steps.specs.Steps.{stepOf, responseOf}
 use Rattle.manager.specs.Calls.{Call, asked}
-use Rattle.manager.specs.Table.{table}
 use Rattle.manager.specs.Manager.{work, step}
 use Rattle.manager.proofs.Kept.{took-sound, step-sound}
+use Rattle.demands.specs.Change.{tableWord}
 use Rattle.demands.specs.Ticks as statement
 use Rattle.demands.proofs.Demand2.{fresh-taken, fresh-refused}
 
 figure : (c : Card) (call : Call) → step c call .ticks ≡ cond (sound (step c call .card)) (ticksToCome (step c call .card)) 0
 unfolding step
 figure c call =
-    decide-ticks c (wordOf (table c call)) (stepOf c (asked c call)) (responseOf c (asked c call)) (took-sound c call)
+    decide-ticks c (tableWord c call) (stepOf c (asked c call)) (responseOf c (asked c call)) (took-sound c call)
 
 sound-figure : (c : Card) (call : Call) → sound (step c call .card) ≡ true → step c call .ticks ≡ ticksToCome (step c call .card)
 sound-figure c call s = figure c call ∙ rw s

@@ -1,20 +1,20 @@
 -- Other used bytes at one place: what a list of places and a card show of them. Every other field, every search and the step of the
 -- clock go past them. By induction over the places. Assumes nothing.
-use mathlib.Core.Path.{_≡_, refl, ap}
+use mathlib.Core.Path.{_≡_, refl, ap, _∙_}
 use Prim.Native.Nat.{ℕ, zero, suc}
 use mathlib.Core.List.{List, [], _∷_}
 use mathlib.Core.Bool.{Bool, true, false, cond}
 use lib.ListN.{set}
 use lib.Dec.{ltb}
-use Rattle.isdp.specs.Aids.{nameOf}
+use Rattle.isdp.specs.declared.Aid.{Aid}
 use Rattle.isdp.specs.LifeCycle.{enabled, isEnabled, withLife, withUsed}
 use Rattle.isdp.specs.Place.{held, isFor}
 use Rattle.isdp.specs.declared.Isdp.{Isdp}
 use Rattle.places.specs.Places.{at, seek, isFree, quotas, countOf, allOff, enableAt}
-use Rattle.card.specs.Cards.{isQuiet, placeOf, enabledPlace, freePlace, freeIn, onFallback, withPlaces}
+use Rattle.card.specs.Cards.{isQuiet, placeOf, enabledPlace, freePlace, freeIn, onFallback, withPlaces, enabledAid}
 use Rattle.card.specs.Clock.{moved, dropped, tickIn, tickOf, lostOf}
 use Rattle.card.specs.Ticks.{stepsIn, ticksToCome}
-use Rattle.card.specs.Notifications.{issued, noticeOf}
+use Rattle.card.specs.Notifications.{issued, noticeSince, kindOf}
 use Rattle.card.specs.declared.Card.{Card}
 use Rattle.card.specs.declared.Phase.{Phase}
 use Rattle.card.specs.declared.Phase.the-variants.{Quiet, Trial, Back, Fallen}
@@ -160,11 +160,13 @@ module _ (i u : ℕ) where
   ticks-reuse c = steps-reuse 300 c
 
   -- the notification
-  named-reuse : (c : Card) (j : ℕ) → nameOf (at (useAt (c .places) i u) j) ≡ nameOf (at (c .places) j)
-  named-reuse c j = rw (use-at (c .places) i u j)
+  named-reuse : (c : Card) → enabledAid (reuseAt i u c) ≡ enabledAid c
+  named-reuse c =
+      ap (λ (j : ℕ). at (useAt (c .places) i u) j .aid) (enabled-reuse c)
+      ∙ ap (λ (p : Isdp). p .aid) (use-at (c .places) i u (enabledPlace c))
 
   pub issued-reuse : (c : Card) → issued (reuseAt i u c) ≡ issued c
-  issued-reuse c = rw (enabled-reuse c, named-reuse c (enabledPlace c))
+  issued-reuse c = ap (λ (a : Aid). record { kind = kindOf (c .phase); number = c .last; eid = c .eid; aid = a }) (named-reuse c)
 
   -- the responses
   row-reuse : (p : Isdp) (v mark : ℕ) (life fallback : Bool) → rowOf (withUsed p v) mark life fallback ≡ rowOf p mark life fallback
@@ -192,6 +194,6 @@ module _ (i u : ℕ) where
   unfolding dataResponse
   data-reuse c = rw (use-count held (λ p v. refl) (c .places) i u, room-reuse c)
 
-pub notice-reuse : (i u v : ℕ) (c d : Card) → noticeOf (reuseAt i u c) (reuseAt i v d) ≡ noticeOf c d
-unfolding noticeOf
+pub notice-reuse : (i u v : ℕ) (c d : Card) → noticeSince (c .last) (reuseAt i v d) ≡ noticeSince (c .last) d
+unfolding noticeSince
 notice-reuse i u v c d = rw (issued-reuse i v d)

@@ -1,14 +1,14 @@
 -- The runs of the witnesses, by computing. Assumes nothing.
 use mathlib.Core.Path.{refl}
-use Rattle.status.specs.Rows.{wordOf}
 use Rattle.byte_string.specs.Bytes.{sameBytes}
+use Rattle.status.specs.Rows.{wordOf}
 use Rattle.isdp.specs.Aids.{padded}
 use Rattle.isdp.specs.Place.{isFor, clash, zeros, placeOk}
 use Rattle.places.specs.Places.{seek, quotas, allOf, anyOf, countOf, distinct, allOff, enableAt}
 use Rattle.card.specs.Sound.{phaseOk, sound}
 use Rattle.card.specs.Clock.{tickOf, lostOf, confirmOf}
 use Rattle.card.specs.Steps.{tickStep, lostStep, confirmStep}
-use Rattle.card.specs.Notifications.{noticeOf}
+use Rattle.card.specs.Notifications.{noticeSince}
 use Rattle.card.specs.Ticks.{stepsIn, ticksToCome}
 use Rattle.card.specs.Answers.{refused, accepted}
 use Rattle.card.specs.Fresh.{freshOutcome}
@@ -29,7 +29,7 @@ use Rattle.demands.specs.Examples.{aid, fresh}
 use Rattle.demands.specs.Witnesses.{second, Witnesses}
 
 pub witnesses : Witnesses
-unfolding second ticksAmong staysOpen fresh step run wordOf sameBytes padded isFor clash zeros placeOk seek quotas allOf anyOf countOf distinct allOff enableAt phaseOk sound tickOf lostOf confirmOf tickStep lostStep confirmStep noticeOf stepsIn ticksToCome refused accepted freshOutcome pick atMost isBelow isSame tagAt lengthAt afterLength afterTag headAt expectOf expectAt aloneAt dgiAt confirmationAt namedBy storeDataAt verificationAt deletionAt noted listedWithin listedAt tagsAt listingAt protocolsWithin protocolsAt numberAt grantOf memoryAt parametersAt prefixedOf prefixedAt namesAt rightsAt installOf lengthWrong classRight classWrong instructionWrong parametersRight parametersWrong shapeRight shapeWrong fieldOf dataWrong statusBody statusRow rowOf rowsFrom statusResponse oneStatus dataResponse deletedResponse
+unfolding second ticksAmong staysOpen fresh step run wordOf sameBytes padded isFor clash zeros placeOk seek quotas allOf anyOf countOf distinct allOff enableAt phaseOk sound tickOf lostOf confirmOf tickStep lostStep confirmStep noticeSince stepsIn ticksToCome refused accepted freshOutcome pick atMost isBelow isSame tagAt lengthAt afterLength afterTag headAt expectOf expectAt aloneAt dgiAt confirmationAt namedBy storeDataAt verificationAt deletionAt noted listedWithin listedAt tagsAt listingAt protocolsWithin protocolsAt numberAt grantOf memoryAt parametersAt prefixedOf prefixedAt namesAt rightsAt installOf lengthWrong classRight classWrong instructionWrong parametersRight parametersWrong shapeRight shapeWrong fieldOf dataWrong statusBody statusRow rowOf rowsFrom statusResponse oneStatus dataResponse deletedResponse
 witnesses =
     record {
       still = refl;

@@ -4,27 +4,25 @@ use Prim.Native.Nat.{ℕ, zero, suc, _+_, _≤_}
 use native.Mathlib.Omega.{arith}
 use mathlib.Core.List.{List, [], _∷_, _++_}
 use mathlib.Core.Bool.{Bool, true, false, cond, _&&_, _||_, false≢true}
-use lib.ListN.{replicate}
+use lib.ListN.{length, replicate}
 use lib.Dec.{leb}
-use borrow.Author.Tests.{le-leb}
+use borrow.Author.Tests.{le-leb, lt-leb}
+use Rattle.byte_string.specs.Bytes.{sameBytes}
 use Rattle.status.specs.StatusWords.{isDone}
 use Rattle.status.specs.declared.Status.{Status}
 use Rattle.status.specs.declared.Status.the-variants.{NotHeld, Done}
+use Rattle.status.specs.Rows.{wordOf}
+use Rattle.isdp.specs.Aids.{padded, noAid}
+use Rattle.isdp.specs.Place.{isFor, clash, zeros, placeOk}
+use Rattle.places.specs.Places.{seek, quotas, allOf, anyOf, countOf, distinct, allOff, enableAt}
 use Rattle.card.specs.Cards.{isQuiet}
 use Rattle.card.specs.declared.Card.{Card}
 use Rattle.card.proofs.Counts.{steps-are, steps-unique}
 use Rattle.card.proofs.Freshness.{fresh-sound}
-use Rattle.manager.specs.Calls.{Call}
-use Rattle.manager.proofs.Kept.{step-sound, run-sound}
-use Rattle.status.specs.Rows.{wordOf}
-use Rattle.byte_string.specs.Bytes.{sameBytes}
-use Rattle.isdp.specs.Aids.{padded, noAid}
-use Rattle.isdp.specs.Place.{isFor, clash, zeros, placeOk}
-use Rattle.places.specs.Places.{seek, quotas, allOf, anyOf, countOf, distinct, allOff, enableAt}
 use Rattle.card.specs.Sound.{phaseOk, sound}
 use Rattle.card.specs.Clock.{tickOf, lostOf, confirmOf}
 use Rattle.card.specs.Steps.{stepTo, tickStep, lostStep, confirmStep}
-use Rattle.card.specs.Notifications.{noticeOf}
+use Rattle.card.specs.Notifications.{noticeSince}
 use Rattle.card.specs.Ticks.{stepsIn, ticksToCome}
 use Rattle.card.specs.Answers.{Outcome, refused, accepted}
 use Rattle.card.specs.Fresh.{freshOutcome}
@@ -39,21 +37,27 @@ use Rattle.install.specs.Install.{prefixedOf, prefixedAt, namesAt, rightsAt, in
 use Rattle.command.specs.Framing.{lengthWrong, classRight, classWrong, instructionWrong, parametersRight, parametersWrong, shapeRight, shapeWrong}
 use Rattle.command.specs.Requests.{fieldOf, dataWrong}
 use Rattle.responses.specs.Responses.{statusBody, statusRow, rowOf, rowsFrom, statusResponse, oneStatus, dataResponse, deletedResponse}
+use Rattle.steps.specs.Steps.{responseOf}
+use Rattle.manager.specs.Calls.{Call, Call.Keyed, asked}
+use Rattle.manager.proofs.Kept.{step-sound, run-sound}
 use Rattle.manager.specs.Manager.{step, run}
-use Rattle.demands.specs.Change.{isTick, confirms, ticksAmong, staysOpen, Opens, Opens.enables}
+use Rattle.demands.specs.Change.{isTick, confirms, ticksAmong, staysOpen, Opens, Opens.enables, tableWord}
 use Rattle.demands.specs.Inputs.{freshOf}
 use Rattle.demands.specs.Examples.{aid, inputs, getStatus, setFallBack, enable, confirm, create, load, ticks}
-use Rattle.demands.specs.Engines.{Engine, reached, remembered, cardAfter, answerAfter, Answered, MeetsDemand2, MeetsDemand3}
-use Rattle.demands.specs.WrongEngines.{Refuted, refusesAll, fixedAnswer, leavesEveryCard, Along, Exemplary, RefusesAll, FixedAnswer, LeavesEveryCard, onlyTheFirst, firstThenOnly9000, inventsTicks, OnlyTheCount, thirtyWhileOpen, rollBackAsksPolicy, previousDeletedAtEnable, secondEnableRestartsWait, lateConfirmationTaken, Caught}
+use Rattle.demands.specs.Engines.{Engine, reached, remembered, cardAfter, answerAfter, Answered, MeetsDemand3}
+use Rattle.demands.specs.WrongEngines.{Refuted, refusesAll, fixedAnswer, leavesEveryCard, Along, larger, Exemplary, RefusesAll, FixedAnswer, LeavesEveryCard, isCommand, firstThen, FirstThenOnly9000, idle, NotTheSecondChange, inventsTicks, OnlyTheCount, thirtyWhileOpen, rollBackAsksPolicy, previousDeletedAtEnable, secondEnableRestartsWait, lateConfirmationTaken, Caught}
 
 -- a change that this engine opens, and calls after each of which it is still open
 record Open (e : Engine) (past : List Call) (opening : Call) (wanted : List ℕ) (calls : List Call) : Type 0 where
-  quiet : isQuiet (cardAfter e inputs past .phase) ≡ true
   opens : Opens (cardAfter e inputs past) opening wanted
   stays : staysOpen (λ rest. cardAfter e inputs (past ++ opening ∷ rest)) calls ≡ true
 
 abbrev waiting : List Call
 waiting = ticks 9 ++ enable 2 ∷ []
+
+-- a change that is opened and confirmed: four commands
+abbrev firstChange : List Call
+firstChange = load 2 0 ++ load 3 0 ++ enable 2 ∷ confirm 1 ∷ []
 
 record Runs : Type 0 where
   made : isDone (freshOf inputs .status) ≡ true
@@ -61,9 +65,14 @@ record Runs : Type 0 where
   missing : step (freshOf inputs .card) (setFallBack 2) .status ≡ NotHeld
   room-before : quotas (freshOf inputs .card .places) ≡ 100
   room-after : quotas (step (freshOf inputs .card) (create 2 50) .card .places) ≡ 150
-  listed-card : step (freshOf inputs .card) getStatus .card ≡ freshOf inputs .card
-  unopened : Open (onlyTheFirst 4) (load 2 0 ++ load 3 0 ++ enable 2 ∷ confirm 1 ∷ []) (enable 3) (aid 3) []
-  unopened-quiet : isQuiet (cardAfter (onlyTheFirst 4) inputs ((load 2 0 ++ load 3 0 ++ enable 2 ∷ confirm 1 ∷ []) ++ enable 3 ∷ []) .phase) ≡ true
+  creates : step (freshOf inputs .card) (create 2 50) .status ≡ Done
+  creates-says : length (step (freshOf inputs .card) (create 2 50) .response) ≡ 1
+  keys-says : length (step (step (freshOf inputs .card) (create 2 50) .card) (Keyed (aid 2)) .response) ≡ 0
+  less : step (freshOf inputs .card) getStatus .card .capacity ≡ 1000
+  more-room : step (freshOf larger .card) getStatus .card .capacity ≡ 2000
+  made-larger : isDone (freshOf larger .status) ≡ true
+  second-quiet : isQuiet (run (freshOf inputs .card) firstChange .phase) ≡ true
+  second-opens : Opens (run (freshOf inputs .card) firstChange) (enable 3) (aid 3)
   invented : thirtyWhileOpen (answerAfter (inventsTicks thirtyWhileOpen) inputs (load 2 0) (enable 2) .card) ≡ 30
   counted : ticksToCome (answerAfter (inventsTicks thirtyWhileOpen) inputs (load 2 0) (enable 2) .card) ≡ 20
   thirty : ticksAmong (ticks 30) ≡ 30
@@ -77,7 +86,7 @@ record Runs : Type 0 where
   late-quiet : isQuiet (cardAfter lateConfirmationTaken inputs (load 2 0 ++ enable 2 ∷ (ticks 10 ++ confirm 1 ∷ [])) .phase) ≡ true
 
 runs : Runs
-unfolding reached remembered ticksAmong staysOpen step run wordOf sameBytes padded isFor clash zeros placeOk seek quotas allOf anyOf countOf distinct allOff enableAt phaseOk sound tickOf lostOf confirmOf tickStep lostStep confirmStep noticeOf stepsIn ticksToCome refused accepted freshOutcome pick atMost isBelow isSame tagAt lengthAt afterLength afterTag headAt expectOf expectAt aloneAt dgiAt confirmationAt namedBy storeDataAt verificationAt deletionAt noted listedWithin listedAt tagsAt listingAt protocolsWithin protocolsAt numberAt grantOf memoryAt parametersAt prefixedOf prefixedAt namesAt rightsAt installOf lengthWrong classRight classWrong instructionWrong parametersRight parametersWrong shapeRight shapeWrong fieldOf dataWrong statusBody statusRow rowOf rowsFrom statusResponse oneStatus dataResponse deletedResponse
+unfolding reached remembered ticksAmong staysOpen step run wordOf sameBytes padded isFor clash zeros placeOk seek quotas allOf anyOf countOf distinct allOff enableAt phaseOk sound tickOf lostOf confirmOf tickStep lostStep confirmStep noticeSince stepsIn ticksToCome refused accepted freshOutcome pick atMost isBelow isSame tagAt lengthAt afterLength afterTag headAt expectOf expectAt aloneAt dgiAt confirmationAt namedBy storeDataAt verificationAt deletionAt noted listedWithin listedAt tagsAt listingAt protocolsWithin protocolsAt numberAt grantOf memoryAt parametersAt prefixedOf prefixedAt namesAt rightsAt installOf lengthWrong classRight classWrong instructionWrong parametersRight parametersWrong shapeRight shapeWrong fieldOf dataWrong statusBody statusRow rowOf rowsFrom statusResponse oneStatus dataResponse deletedResponse
 runs =
     record {
       made = refl;
@@ -85,17 +94,22 @@ runs =
       missing = refl;
       room-before = refl;
       room-after = refl;
-      listed-card = refl;
-      unopened = record { quiet = refl; opens = enables (aid 3) refl refl; stays = refl };
-      unopened-quiet = refl;
+      creates = refl;
+      creates-says = refl;
+      keys-says = refl;
+      less = refl;
+      more-room = refl;
+      made-larger = refl;
+      second-quiet = refl;
+      second-opens = enables (aid 3) refl refl;
       invented = refl;
       counted = refl;
       thirty = refl;
-      forbidden = record { quiet = refl; opens = enables (aid 2) refl refl; stays = refl };
-      deleted = record { quiet = refl; opens = enables (aid 3) refl refl; stays = refl };
+      forbidden = record { opens = enables (aid 2) refl refl; stays = refl };
+      deleted = record { opens = enables (aid 3) refl refl; stays = refl };
       more = refl;
-      restarts = record { quiet = refl; opens = enables (aid 2) refl refl; stays = refl };
-      late = record { quiet = refl; opens = enables (aid 2) refl refl; stays = refl };
+      restarts = record { opens = enables (aid 2) refl refl; stays = refl };
+      late = record { opens = enables (aid 2) refl refl; stays = refl };
       late-number = refl;
       late-open = refl;
       late-quiet = refl;
@@ -112,80 +126,155 @@ along e (call ∷ calls) m c d =
     (d [] call, along e calls (e .remember m c call) (e .answer m c call .card) (λ past. d (call ∷ past)))
 
 pub exemplary : Exemplary
-exemplary e w =
-    let d = w .demand2 inputs (runs .made) in
-    record { first = along e _ _ _ d; second = along e _ _ _ d; second-not-held = along e _ _ _ d; seventh = along e _ _ _ d }
+exemplary e d =
+    let at-first = d inputs (runs .made) in
+    let at-larger = d larger (runs .made-larger) in
+    record { first = (along e _ _ _ at-first, along e _ _ _ at-larger); second = (along e _ _ _ at-first, along e _ _ _ at-first); seventh = along e _ _ _ at-first }
 
 pub refuses-all-examples : RefusesAll
 unfolding Along refused
-refuses-all-examples word n x = false≢true (sym (n _ _) ∙ ap isDone (x .first .0 .status ∙ runs .listed))
+refuses-all-examples word n =
+    record {
+      first = λ x. false≢true (sym (n _ _) ∙ ap isDone (x .0 .0 .status ∙ runs .listed));
+      second = λ x. false≢true (sym (n _ _) ∙ ap isDone (x .0 .0 .status ∙ runs .creates));
+      seventh = λ x. false≢true (sym (n _ _) ∙ ap isDone (x .0 .status ∙ runs .creates));
+    }
 
 pub fixed-answer-examples : FixedAnswer
 unfolding Along
-fixed-answer-examples o x = apart (x .first .0 .status ∙ runs .listed) (x .second-not-held .0 .status ∙ runs .missing)
+fixed-answer-examples o =
+    record {
+      first = λ x.
+          let e : step (freshOf inputs .card) getStatus .card .capacity ≡ step (freshOf larger .card) getStatus .card .capacity = ap (λ (c : Card). c .capacity) (sym (x .0 .0 .card) ∙ x .1 .0 .card) in
+          let a = runs .less in
+          let b = runs .more-room in
+          absurd (omega arith);
+      second = λ x. apart (x .0 .0 .status ∙ runs .creates) (x .1 .0 .status ∙ runs .missing);
+      seventh = λ x.
+          let e : length (o .response) ≡ 1 = ap (λ (l : List ℕ). length l) (x .0 .response) ∙ runs .creates-says in
+          let f : length (o .response) ≡ 0 = ap (λ (l : List ℕ). length l) (x .1 .0 .response ∙ ap (λ (c : Card). step c (Keyed (aid 2)) .response) (x .0 .card)) ∙ runs .keys-says in
+          absurd (omega arith);
+    }
 
-pub leaves-every-card-examples : LeavesEveryCard
-unfolding Along
-leaves-every-card-examples says x =
-    let e : quotas (freshOf inputs .card .places) ≡ quotas (step (freshOf inputs .card) (create 2 50) .card .places) = ap (λ (c : Card). quotas (c .places)) (x .second .0 .card) in
+-- GET STATUS leaves every card as it was
+left : (c : Card) (b : Bool) (w : Status) (r : List ℕ) → cond b (accepted w (stepTo c c noAid) r) (refused c w) .card ≡ c
+unfolding accepted refused
+left c true w r = refl
+left c false w r = refl
+
+listed-card : (c : Card) → step c getStatus .card ≡ c
+unfolding step fieldOf pick isSame listingAt tagsAt aloneAt expectAt expectOf headAt afterTag afterLength tagAt lengthAt atMost isBelow
+listed-card c = left c (isDone (tableWord c getStatus)) (tableWord c getStatus) (responseOf c (asked c getStatus))
+
+-- a creation does not
+grown : quotas (freshOf inputs .card .places) ≡ quotas (step (freshOf inputs .card) (create 2 50) .card .places) → ⊥
+grown e =
     let a = runs .room-before in
     let b = runs .room-after in
     absurd (omega arith)
 
+pub leaves-every-card-examples : LeavesEveryCard
+unfolding Along
+leaves-every-card-examples =
+    record {
+      first = (
+        (record { status = refl; response = refl; notification = refl; card = sym (listed-card (freshOf inputs .card)) }, tt),
+        (record { status = refl; response = refl; notification = refl; card = sym (listed-card (freshOf larger .card)) }, tt),
+      );
+      second = λ says x. grown (ap (λ (c : Card). quotas (c .places)) (x .0 .0 .card));
+      seventh = λ says x. grown (ap (λ (c : Card). quotas (c .places)) (x .0 .card));
+    }
+
 pub refuses-all : (word : Card → Call → Status) → ((c : Card) (call : Call) → isDone (word c call) ≡ false) → Refuted (refusesAll word)
-refuses-all word n w = refuses-all-examples word n (exemplary (refusesAll word) w)
+refuses-all word n w = refuses-all-examples word n .first (exemplary (refusesAll word) (w .demand2) .first)
 
 pub fixed-answer : (o : Outcome) → Refuted (fixedAnswer o)
-fixed-answer o w = fixed-answer-examples o (exemplary (fixedAnswer o) w)
+fixed-answer o w = fixed-answer-examples o .second (exemplary (fixedAnswer o) (w .demand2) .second)
 
 pub leaves-every-card : (says : Card → Call → Outcome) → Refuted (leavesEveryCard says)
-leaves-every-card says w = leaves-every-card-examples says (exemplary (leavesEveryCard says) w)
+leaves-every-card says w = leaves-every-card-examples .second says (exemplary (leavesEveryCard says) (w .demand2) .second)
 
--- one that works on the first n commands: n times GET STATUS leave the fresh card, then it takes what is to be refused
-status-card : (c : Card) (b : Bool) → step c getStatus .card ≡ c → cond b (accepted (stepTo c c noAid) []) (step c getStatus) .card ≡ c
-unfolding accepted
-status-card c true e = refl
-status-card c false e = e
+-- one that works on the first k commands does as the manager while no more have come
+unfoldable commandsAmong : List Call → ℕ
+commandsAmong [] = 0
+commandsAmong (call ∷ calls) = cond (isCommand call) 1 0 + commandsAmong calls
 
-listed-reached : (n j m : ℕ) (c : Card) → step c getStatus .card ≡ c → reached (onlyTheFirst n) m c (replicate j getStatus) ≡ c
-unfolding reached
-listed-reached n zero m c e = refl
-listed-reached n (suc j) m c e =
-    ap (λ (d : Card). reached (onlyTheFirst n) (suc m) d (replicate j getStatus)) (status-card c (leb n m && true) e)
-    ∙ listed-reached n j (suc m) c e
+never : (a : Bool) (x y : Outcome) → cond (a && false) x y ≡ y
+never true x y = refl
+never false x y = refl
 
-refl-plus : (m : ℕ) → m ≡ 0 + m
-refl-plus m = omega arith
+works : (k m : ℕ) (b : Bool) (x y : Outcome) → cond b 1 0 + m ≤ k → cond (leb k m && b) x y ≡ y
+works k m true x y h = rw (lt-leb k m (omega (arith, h))) refl
+works k m false x y h = never (leb k m) x y
 
-shift : (j m : ℕ) → j + suc m ≡ suc j + m
-shift j m = omega arith
+parted : (b : Bool) (r m k : ℕ) → cond b 1 0 + r + m ≤ k → (cond b 1 0 + m ≤ k) × (r + cond b (suc m) m ≤ k)
+parted true r m k h = (omega (arith, h), omega (arith, h))
+parted false r m k h = (omega (arith, h), omega (arith, h))
 
-listed-remembered : (n j m : ℕ) (c : Card) → step c getStatus .card ≡ c → remembered (onlyTheFirst n) m c (replicate j getStatus) ≡ j + m
-unfolding remembered
-listed-remembered n zero m c e = refl-plus m
-listed-remembered n (suc j) m c e =
-    ap (λ (d : Card). remembered (onlyTheFirst n) (suc m) d (replicate j getStatus)) (status-card c (leb n m && true) e)
-    ∙ listed-remembered n j (suc m) c e
-    ∙ shift j m
+worked : (k : ℕ) (later : Card → Call → Outcome) (calls : List Call) (m : ℕ) (c : Card) → commandsAmong calls + m ≤ k → reached (firstThen k later) m c calls ≡ run c calls
+unfolding reached run commandsAmong
+worked k later [] m c h = refl
+worked k later (call ∷ calls) m c h =
+    let p = parted (isCommand call) (commandsAmong calls) m k h in
+    ap (λ (o : Outcome). reached (firstThen k later) (cond (isCommand call) (suc m) m) (o .card) calls) (works k m (isCommand call) (later c call) (step c call) (p .0))
+    ∙ worked k later calls (cond (isCommand call) (suc m) m) (step c call .card) (p .1)
 
-pub only-the-first : (n : ℕ) → MeetsDemand2 (onlyTheFirst n) → ⊥
-unfolding accepted
-only-the-first n d =
+tallied : (b : Bool) (r m : ℕ) → r + cond b (suc m) m ≡ cond b 1 0 + r + m
+tallied true r m = omega arith
+tallied false r m = omega arith
+
+tally : (k : ℕ) (later : Card → Call → Outcome) (calls : List Call) (m : ℕ) (c : Card) → remembered (firstThen k later) m c calls ≡ commandsAmong calls + m
+unfolding remembered commandsAmong
+tally k later [] m c = omega arith
+tally k later (call ∷ calls) m c =
+    tally k later calls (cond (isCommand call) (suc m) m) _ ∙ tallied (isCommand call) (commandsAmong calls) m
+
+-- a run of GET STATUS
+listings-leave : (j : ℕ) (c : Card) → run c (replicate j getStatus) ≡ c
+unfolding run
+listings-leave zero c = refl
+listings-leave (suc j) c = ap (λ (d : Card). run d (replicate j getStatus)) (listed-card c) ∙ listings-leave j c
+
+listings-count : (j : ℕ) → commandsAmong (replicate j getStatus) ≡ j
+unfolding commandsAmong
+listings-count zero = refl
+listings-count (suc j) = let e = listings-count j in omega arith
+
+-- its answer to a command after k of them
+late-answer : (k m : ℕ) (x y : Outcome) → k ≤ m → cond (leb k m && true) x y ≡ x
+late-answer k m x y h = rw (le-leb k m h) refl
+
+pub first-then-only-9000 : FirstThenOnly9000
+first-then-only-9000 n later done d =
     let c = freshOf inputs .card in
-    let e = runs .listed-card in
-    let x = d inputs (runs .made) (replicate n getStatus) (setFallBack 2) .status in
-    let y : cond (leb n (n + 0) && true) (accepted (stepTo c c noAid) []) (step c (setFallBack 2)) .status ≡ step c (setFallBack 2) .status = rw (listed-reached n n 0 c e, listed-remembered n n 0 c e) at x in
-    let z : Done ≡ step c (setFallBack 2) .status = rw (le-leb n (n + 0) (omega arith)) at y in
-    apart refl (z ∙ runs .missing)
+    let past = replicate n getStatus in
+    let count = listings-count n in
+    let there : cardAfter (firstThen n later) inputs past ≡ c = worked n later past 0 c (omega arith) ∙ listings-leave n c in
+    let number = tally n later past 0 c in
+    let x = d inputs (runs .made) past (setFallBack 2) .status in
+    let y = ap (λ (o : Outcome). o .status) (late-answer n (remembered (firstThen n later) 0 c past) (later (cardAfter (firstThen n later) inputs past) (setFallBack 2)) (step (cardAfter (firstThen n later) inputs past) (setFallBack 2)) (omega arith)) in
+    apart (sym x ∙ y ∙ done _ _) (ap (λ (e : Card). step e (setFallBack 2) .status) there ∙ runs .missing)
 
-pub first-then-only-9000 : Refuted firstThenOnly9000
-first-then-only-9000 w = only-the-first 1 (w .demand2)
+-- the card after one call more
+reached-last : (e : Engine) (past : List Call) (call : Call) (m : e .Memory) (c : Card) → reached e m c (past ++ call ∷ []) ≡ e .answer (remembered e m c past) (reached e m c past) call .card
+unfolding reached remembered
+reached-last e [] call m c = refl
+reached-last e (x ∷ past) call m c = reached-last e past call (e .remember m c x) (e .answer m c x .card)
 
 -- and by demand 3 at the second change, which it does not open
-pub second-change-not-opened : MeetsDemand3 (onlyTheFirst 4) → ⊥
-second-change-not-opened d =
-    let r = runs .unopened in
-    false≢true (sym (d inputs (runs .made) _ (enable 3) (aid 3) (r .quiet) (r .opens) .opens) ∙ runs .unopened-quiet)
+pub not-the-second-change : NotTheSecondChange
+unfolding commandsAmong run accepted reached
+not-the-second-change n d =
+    let c = freshOf inputs .card in
+    let k = n + 4 in
+    let past = firstChange ++ replicate n getStatus in
+    let count = listings-count n in
+    let there : cardAfter (firstThen k idle) inputs past ≡ run c firstChange = worked k idle past 0 c (omega arith) ∙ listings-leave n (run c firstChange) in
+    let number = tally k idle past 0 c in
+    let opens = coe 1 0 (i. Opens (there i) (enable 3) (aid 3)) (runs .second-opens) in
+    let quiet = ap (λ (e : Card). isQuiet (e .phase)) there ∙ runs .second-quiet in
+    let after = reached-last (firstThen k idle) past (enable 3) 0 c ∙ ap (λ (o : Outcome). o .card) (late-answer k (remembered (firstThen k idle) 0 c past) (idle (cardAfter (firstThen k idle) inputs past) (enable 3)) (step (cardAfter (firstThen k idle) inputs past) (enable 3)) (omega arith)) in
+    false≢true (sym (d inputs (runs .made) past (enable 3) (aid 3) opens .opens) ∙ ap (λ (e : Card). isQuiet (e .phase)) after ∙ quiet)
 
 -- the figure alone differs, so the cards reached are the manager's
 reached-run : (figure : Card → ℕ) (calls : List Call) (c : Card) → reached (inventsTicks figure) tt c calls ≡ run c calls
@@ -208,7 +297,7 @@ invents-ticks w =
 -- a change that is open after thirty ticks
 stuck : (e : Engine) (past : List Call) (opening : Call) (wanted : List ℕ) (calls : List Call) → Open e past opening wanted calls → 30 ≤ ticksAmong calls → MeetsDemand3 e → ⊥
 stuck e past opening wanted calls r k d =
-    let t = d inputs (runs .made) past opening wanted (r .quiet) (r .opens) .thirty calls (r .stays) in
+    let t = d inputs (runs .made) past opening wanted (r .opens) .thirty calls (r .stays) in
     absurd (omega arith)
 
 pub roll-back-asks-policy : Refuted rollBackAsksPolicy
@@ -226,7 +315,7 @@ second-enable-restarts-wait w =
 pub late-confirmation-taken : Refuted lateConfirmationTaken
 late-confirmation-taken w =
     let r = runs .late in
-    let u = w .demand3 inputs (runs .made) (load 2 0) (enable 2) (aid 2) (r .quiet) (r .opens) .still (ticks 10) (confirm 1) (r .stays) (runs .late-number) in
+    let u = w .demand3 inputs (runs .made) (load 2 0) (enable 2) (aid 2) (r .opens) .still (ticks 10) (confirm 1) (r .stays) (runs .late-number) in
     false≢true (sym (runs .late-open) ∙ sym (ap isQuiet (u .phase)) ∙ runs .late-quiet)
 
 pub caught : Caught
@@ -236,8 +325,7 @@ caught =
       fixed = fixed-answer;
       leaving-every-card = leaves-every-card;
       only-9000 = first-then-only-9000;
-      only-the-first-ones = only-the-first;
-      not-the-second-change = second-change-not-opened;
+      not-the-second-change = not-the-second-change;
       inventing = invents-ticks;
       asking-policy = roll-back-asks-policy;
       deleting-at-enable = previous-deleted-at-enable;

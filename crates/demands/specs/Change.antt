@@ -7,28 +7,33 @@ use mathlib.Core.Bool.{Bool, true, false, not, cond, _&&_, _||_}
 use lib.Dec.{ltb}
 use Rattle.status.specs.StatusWords.{isDone}
 use Rattle.status.specs.Rows.{wordOf}
-use Rattle.isdp.specs.Aids.{aidOf, nameOf}
+use Rattle.status.specs.declared.Status.{Status}
+use Rattle.isdp.specs.Aids.{aidOf, bytesOf}
 use Rattle.isdp.specs.LifeCycle.{isEnabled}
 use Rattle.places.specs.Places.{at}
-use Rattle.card.specs.Cards.{isQuiet, enabledPlace, onFallback}
+use Rattle.card.specs.Cards.{isQuiet, enabledAid, onFallback}
 use Rattle.card.specs.Sound.{sound}
 use Rattle.card.specs.Clock.{outstanding}
 use Rattle.card.specs.declared.Card.{Card}
 use Rattle.steps.specs.Asked.{Act.enable, Act.disable, Asked, Asked.unread, Asked.create, Asked.on, Asked.confirm, Asked.statusOfAll, Asked.getData, Asked.tick, Asked.lost}
 use Rattle.manager.specs.Calls.{Call, Call.Command, Call.Keyed, Call.Stored, Call.Finished, Call.Tick, Call.Lost, asked}
 use Rattle.manager.specs.Table.{table}
-use Rattle.manager.specs.Manager.{step, run}
+use Rattle.manager.specs.Manager.{step, run, work}
 
--- the AID of the enabled profile, and of the fall-back
-abbrev pub enabledAid : Card → List ℕ
-enabledAid c = aidOf (at (c .places) (enabledPlace c))
+-- the AID of the enabled profile and of the fall-back, as bytes
+abbrev pub enabledBytes : Card → List ℕ
+enabledBytes c = bytesOf (enabledAid c)
 
-abbrev pub fallbackAid : Card → List ℕ
-fallbackAid c = aidOf (at (c .places) (c .fallback))
+abbrev pub fallbackBytes : Card → List ℕ
+fallbackBytes c = aidOf (at (c .places) (c .fallback))
+
+-- the word of the table
+abbrev pub tableWord : Card → Call → Status
+tableWord c call = wordOf (work c call .success) (table c call)
 
 -- no row of the table refuses the call
 abbrev pub taken : Card → Call → Bool
-taken c call = isDone (wordOf (table c call))
+taken c call = isDone (tableWord c call)
 
 abbrev pub isTick : Call → Bool
 isTick (Command verdict s room) = false
@@ -66,7 +71,7 @@ staysOpen reach (call ∷ calls) =
 pub record Unmoved (c d : Card) : Type 0 where
   pub phase : d .phase ≡ c .phase
   pub enabled : (i : ℕ) → isEnabled (at (d .places) i) ≡ isEnabled (at (c .places) i)
-  pub named : (i : ℕ) → nameOf (at (d .places) i) ≡ nameOf (at (c .places) i)
+  pub named : (i : ℕ) → at (d .places) i .aid ≡ at (c .places) i .aid
   pub fallback : d .fallback ≡ c .fallback
   pub last : d .last ≡ c .last
 
@@ -86,10 +91,10 @@ pub record Change (wanted previous fallback : List ℕ) (last : ℕ) (reach : Li
   -- "The change closes no later than the thirtieth tick."
   pub thirty : (calls : List Call) → staysOpen reach calls ≡ true → ticksAmong calls < 30
   -- the one asked for is tried before the tenth tick, the previous one before the twentieth, then the fall-back
-  pub meanwhile : (calls : List Call) → staysOpen reach calls ≡ true → enabledAid (reach calls) ≡ holder wanted previous fallback (ticksAmong calls)
+  pub meanwhile : (calls : List Call) → staysOpen reach calls ≡ true → enabledBytes (reach calls) ≡ holder wanted previous fallback (ticksAmong calls)
   -- "At its close the enabled profile is the one asked for .. if its notification was confirmed before the tenth tick; failing that,
   -- the previous one if the roll-back was confirmed before the twentieth; failing that, the fall-back."
-  pub close : (calls : List Call) (call : Call) → staysOpen reach calls ≡ true → isQuiet (reach (calls ++ call ∷ []) .phase) ≡ true → enabledAid (reach (calls ++ call ∷ [])) ≡ heir wanted previous fallback (confirms (reach calls) call) (ticksAmong calls)
+  pub close : (calls : List Call) (call : Call) → staysOpen reach calls ≡ true → isQuiet (reach (calls ++ call ∷ []) .phase) ≡ true → enabledBytes (reach (calls ++ call ∷ [])) ≡ heir wanted previous fallback (confirms (reach calls) call) (ticksAmong calls)
   -- a tick closes it no sooner than it should
   pub due : (calls : List Call) → staysOpen reach calls ≡ true → isQuiet (reach (calls ++ Tick ∷ []) .phase) ≡ true → ticksAmong calls + 1 ≡ last
   -- "confirmed": the confirmation of the outstanding number closes it
@@ -100,30 +105,32 @@ pub record Change (wanted previous fallback : List ℕ) (last : ℕ) (reach : Li
 -- the profile that an accepted enable or disable asks for: "on a disable, the fall-back"
 pub data Opens (c : Card) (call : Call) : List ℕ → Type 0 where
   enables : (aid : List ℕ) → asked c call ≡ on aid enable → taken c call ≡ true → Opens c call aid
-  disables : (aid : List ℕ) → asked c call ≡ on aid disable → taken c call ≡ true → Opens c call (fallbackAid c)
+  disables : (aid : List ℕ) → asked c call ≡ on aid disable → taken c call ≡ true → Opens c call (fallbackBytes c)
 
 -- left alone it closes at the thirtieth tick; a change away from the fall-back at the twentieth, when the fall-back is back
 abbrev pub lastTick : Card → ℕ
 lastTick c = cond (onFallback c) 20 30
 
--- demand 3: of every sound Quiet card, so of the second and every later change too
+-- demand 3: of every card on which an enable or disable is accepted, so of the second and every later change too
 abbrev pub Demand3 : Type 0
 Demand3 =
-    (c : Card) (call : Call) (wanted : List ℕ) → sound c ≡ true → isQuiet (c .phase) ≡ true → Opens c call wanted
-    → Change wanted (enabledAid c) (fallbackAid c) (lastTick c) (run (step c call .card))
+    (c : Card) (call : Call) (wanted : List ℕ) → Opens c call wanted
+    → Change wanted (enabledBytes c) (fallbackBytes c) (lastTick c) (run (step c call .card))
 
 -- "A change opened by a lost network ends on the fall-back, by the tenth tick."
 pub record LostChange (fallback : List ℕ) (reach : List Call → Card) : Type 0 where
   pub opens : isQuiet (reach [] .phase) ≡ false
   pub ten : (calls : List Call) → staysOpen reach calls ≡ true → ticksAmong calls < 10
-  pub throughout : (calls : List Call) → staysOpen reach calls ≡ true → enabledAid (reach calls) ≡ fallback
-  pub close : (calls : List Call) (call : Call) → staysOpen reach calls ≡ true → isQuiet (reach (calls ++ call ∷ []) .phase) ≡ true → enabledAid (reach (calls ++ call ∷ [])) ≡ fallback
+  pub throughout : (calls : List Call) → staysOpen reach calls ≡ true → enabledBytes (reach calls) ≡ fallback
+  pub close : (calls : List Call) (call : Call) → staysOpen reach calls ≡ true → isQuiet (reach (calls ++ call ∷ []) .phase) ≡ true → enabledBytes (reach (calls ++ call ∷ [])) ≡ fallback
   pub due : (calls : List Call) → staysOpen reach calls ≡ true → isQuiet (reach (calls ++ Tick ∷ []) .phase) ≡ true → ticksAmong calls + 1 ≡ 10
+  pub confirmed : (calls : List Call) (call : Call) → staysOpen reach calls ≡ true → confirms (reach calls) call ≡ true → isQuiet (reach (calls ++ call ∷ []) .phase) ≡ true
+  pub still : (calls : List Call) (call : Call) → staysOpen reach calls ≡ true → (isTick call || confirms (reach calls) call) ≡ false → Unmoved (reach calls) (reach (calls ++ call ∷ []))
 
 abbrev pub LostNetwork : Type 0
 LostNetwork =
     (c : Card) → sound c ≡ true → isQuiet (c .phase) ≡ true → onFallback c ≡ false
-    → LostChange (fallbackAid c) (run (step c Lost .card))
+    → LostChange (fallbackBytes c) (run (step c Lost .card))
 
 -- the first call that closes a change, with what stands before it and after
 pub record FirstClose (reach : List Call → Card) (calls : List Call) : Type 0 where

@@ -1,16 +1,20 @@
--- Document 01, 'Steps': "Confirmation: closes the change." Of every command that writes one, as the grammar of its bytes has it.
+-- Document 01, 'Steps': "Confirmation: closes the change." Which one is accepted is said of every command that writes one, as the grammar
+-- of its bytes has it.
 use Prim.Native.Nat.{ℕ, _≤_}
 use mathlib.Core.Path.{_≡_}
 use mathlib.Core.List.{List}
 use mathlib.Core.Bool.{true, false}
+use Rattle.card.specs.Cards.{isQuiet}
 use Rattle.card.specs.Sound.{sound}
 use Rattle.card.specs.Clock.{outstanding}
 use Rattle.card.specs.declared.Card.{Card}
+use Rattle.card.specs.declared.Phase.the-variants.{Quiet}
 use Rattle.fields.specs.Grammar.{confirmation}
 use Rattle.command.specs.Grammar.{Encodes, storeData}
-use Rattle.manager.specs.Calls.{Call.Command}
+use Rattle.manager.specs.Calls.{Call, Call.Command}
 use Rattle.manager.specs.Table.{leastBuffer}
-use Rattle.demands.specs.Change.{taken}
+use Rattle.manager.specs.Manager.{step}
+use Rattle.demands.specs.Change.{enabledBytes, taken, confirms}
 
 -- it is accepted exactly where its number is the outstanding one; where no change is open there is none
 abbrev pub ConfirmationTaken : Type 0
@@ -20,6 +24,16 @@ ConfirmationTaken =
     → leastBuffer ≤ room
     → Encodes (c .capacity) (storeData (confirmation number)) s
     → taken c (Command verdict s room) ≡ outstanding (c .phase) number
+
+-- an accepted one closes any open change, a lost network's too, and the profile that is enabled stays enabled
+pub record Closed (c d : Card) : Type 0 where
+  pub was-open : isQuiet (c .phase) ≡ false
+  pub quiet : d .phase ≡ Quiet
+  pub enabled : enabledBytes d ≡ enabledBytes c
+  pub last : d .last ≡ c .last
+
+abbrev pub ConfirmationCloses : Type 0
+ConfirmationCloses = (c : Card) (call : Call) → confirms c call ≡ true → Closed c (step c call .card)
 
 -- a card in Trial takes one, and not its neighbour's
 pub record ConfirmationMet : Type 0 where

@@ -1,6 +1,9 @@
 -- Demand 2: "Each command and event has the status word, response bytes, notification and new profile table that .. document 01
 -- give[s], and nothing further changes. From a fresh card on, exactly one profile is enabled and exactly one is the fall-back."
--- The table, the steps and the responses are the definitions of the crates below, so all of this holds at every card reached.
+-- The table, the steps and the responses are the definitions of the crates below. `step` is defined by them, so the fields `first-row`,
+-- `only-first-row`, `otherwise`, `only-otherwise`, `takes` and `answered` hold by that definition: they say how it is to be read, and would
+-- hold of a wrong table too. What document 01 asks of each call is pinned by the law of each call, by `Written`, `Notified`, `StatusTable`
+-- and `Examples`; the fields on fresh and on soundness say more than the definition.
 use Prim.Native.Nat.{ℕ, _<_}
 use mathlib.Core.Path.{_≡_}
 use mathlib.Core.List.{List, [], _∷_, _++_}
@@ -21,7 +24,7 @@ use Rattle.card.specs.declared.Card.{Card}
 use Rattle.steps.specs.Steps.{stepOf, responseOf}
 use Rattle.manager.specs.Calls.{Call, asked}
 use Rattle.manager.specs.Table.{table}
-use Rattle.manager.specs.Manager.{step, run, answers}
+use Rattle.manager.specs.Manager.{step, run, answers, work}
 
 -- no row's condition holds
 abbrev pub NoneHolds : List Row → Type 0
@@ -38,26 +41,26 @@ pub record First (rows : List Row) (w : Status) : Type 0 where
   pub holds : this .when ≡ true
   pub word : this .word ≡ w
 
--- "Given exactly when, in this order": a word is given where its row is the first to hold, and a refusal's word nowhere else
+-- by definition: "Given exactly when, in this order": a word is given where its row is the first to hold, and a refusal's word nowhere else
 abbrev pub FirstRow : Type 0
 FirstRow = (c : Card) (call : Call) (w : Status) → First (table c call) w → step c call .status ≡ w
 
 abbrev pub OnlyFirstRow : Type 0
 OnlyFirstRow = (c : Card) (call : Call) → isDone (step c call .status) ≡ false → First (table c call) (step c call .status)
 
--- "Otherwise 90 00", and only then
+-- by definition: "Otherwise 90 00", and only then
 abbrev pub Otherwise : Type 0
 Otherwise = (c : Card) (call : Call) → NoneHolds (table c call) → step c call .status ≡ Done
 
 abbrev pub OnlyOtherwise : Type 0
 OnlyOtherwise = (c : Card) (call : Call) → step c call .status ≡ Done → NoneHolds (table c call)
 
--- an accepted call gives its step and its response: the whole answer
+-- by definition: an accepted call gives its step and its response, the whole answer
 abbrev pub Takes : Type 0
 Takes =
     (c : Card) (call : Call)
     → step c call .status ≡ Done
-    → step c call ≡ accepted (stepOf c (asked c call)) (responseOf c (asked c call))
+    → step c call ≡ accepted (work c call .success) (stepOf c (asked c call)) (responseOf c (asked c call))
 
 -- fresh: its whole answer, where its inputs keep the sizes and where not
 abbrev pub FreshTaken : Type 0
@@ -74,9 +77,9 @@ FreshRefused =
     → freshOutcome eid aid capacity quota used volatile
     ≡ record { status = DataWrong; card = zeroCard; response = []; notification = silent; ticks = 0 }
 
--- every answer of a run is that of its call on the card then reached, so all above holds of it
-abbrev pub Answered : Type 0
-Answered =
+-- by definition: every answer of a run is that of its call on the card then reached, so all above holds of it
+abbrev pub RunAnswered : Type 0
+RunAnswered =
     (c : Card) (before : List Call) (call : Call) (after : List Call)
     → answers c (before ++ call ∷ after)
     ≡ answers c before ++ step (run c before) call ∷ answers (run c (before ++ call ∷ [])) after
@@ -114,7 +117,7 @@ pub record Demand2 : Type 0 where
   pub takes : Takes
   pub fresh-taken : FreshTaken
   pub fresh-refused : FreshRefused
-  pub answered : Answered
+  pub answered : RunAnswered
   pub keeps : Keeps
   pub makes : Makes
   pub from-fresh : FromFresh

@@ -12,7 +12,7 @@ use Rattle.card.specs.declared.Card.{Card}
 use Rattle.manager.specs.Calls.{Call, Call.Lost}
 use Rattle.manager.specs.Manager.{step}
 use Rattle.demands.specs.Inputs.{Inputs, freshOf}
-use Rattle.demands.specs.Change.{enabledAid, fallbackAid, Opens, lastTick, Change, LostChange}
+use Rattle.demands.specs.Change.{enabledBytes, fallbackBytes, Opens, lastTick, Change, LostChange}
 
 -- it answers a fresh and every call on the card handed in, and remembers what it likes
 pub record Engine : Type 1 where
@@ -55,14 +55,14 @@ MeetsDemand2 e =
 abbrev pub MeetsDemand3 : Engine → Type 0
 MeetsDemand3 e =
     (x : Inputs) → isDone (freshOf x .status) ≡ true → (past : List Call) (call : Call) (wanted : List ℕ)
-    → isQuiet (cardAfter e x past .phase) ≡ true → Opens (cardAfter e x past) call wanted
-    → Change wanted (enabledAid (cardAfter e x past)) (fallbackAid (cardAfter e x past)) (lastTick (cardAfter e x past)) (λ calls. cardAfter e x (past ++ call ∷ calls))
+    → Opens (cardAfter e x past) call wanted
+    → Change wanted (enabledBytes (cardAfter e x past)) (fallbackBytes (cardAfter e x past)) (lastTick (cardAfter e x past)) (λ calls. cardAfter e x (past ++ call ∷ calls))
 
 abbrev pub MeetsLost : Engine → Type 0
 MeetsLost e =
     (x : Inputs) → isDone (freshOf x .status) ≡ true → (past : List Call)
     → isQuiet (cardAfter e x past .phase) ≡ true → onFallback (cardAfter e x past) ≡ false
-    → LostChange (fallbackAid (cardAfter e x past)) (λ calls. cardAfter e x (past ++ Lost ∷ calls))
+    → LostChange (fallbackBytes (cardAfter e x past)) (λ calls. cardAfter e x (past ++ Lost ∷ calls))
 
 -- "it equals the count of the tick rule's steps to Quiet from the card handed back"
 abbrev pub MeetsCount : Engine → Type 0

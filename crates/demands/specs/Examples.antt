@@ -1,14 +1,16 @@
 -- Document 01, 'Marked examples': the twelve as a single table, each row run by the manager's definitions from command bytes on.
--- "Fresh card F = A0 00 00 00 01, others A0 00 00 00 02 and so on." Examples 7, 8, 10 have a row for each call that issues a number.
-use Prim.Native.Nat.{ℕ, zero, suc, _/_, _%_}
+-- "Fresh card F = A0 00 00 00 01, others A0 00 00 00 02 and so on." Examples 7, 8, 10 have a row for each call that issues a number,
+-- example 6 one for its delete.
+use Prim.Native.Nat.{ℕ, zero, suc, _+_, _-_, _/_, _%_}
 use mathlib.Core.Path.{_≡_}
 use mathlib.Core.List.{List, [], _∷_, _++_}
-use mathlib.Core.Bool.{Bool, true, false, cond}
-use lib.ListN.{replicate}
+use lib.ListN.{length, replicate}
 use Rattle.status.specs.StatusWords.{numberOf}
+use Rattle.isdp.specs.Sizes.{mostPlaces}
 use Rattle.isdp.specs.Aids.{padded}
-use Rattle.isdp.specs.LifeCycle.{disabled, enabled}
+use Rattle.isdp.specs.LifeCycle.{selectable, disabled, enabled}
 use Rattle.isdp.specs.Place.{vacant, made}
+use Rattle.isdp.specs.declared.Isdp.{Isdp}
 use Rattle.card.specs.Answers.{Outcome}
 use Rattle.card.specs.Notifications.{silent}
 use Rattle.card.specs.declared.Card.{Card}
@@ -19,7 +21,6 @@ use Rattle.card.specs.declared.Phase.{Phase}
 use Rattle.card.specs.declared.Phase.the-variants.{Quiet, Trial, Back, Fallen}
 use Rattle.manager.specs.Calls.{Call, Call.Command, Call.Keyed, Call.Stored, Call.Finished, Call.Tick, Call.Lost}
 use Rattle.manager.specs.Manager.{step, run}
-use Rattle.demands.specs.Change.{enabledAid, fallbackAid}
 use Rattle.demands.specs.Inputs.{Inputs, freshOf}
 
 abbrev pub aid : ℕ → List ℕ
@@ -75,33 +76,40 @@ fresh = freshOf inputs .card
 abbrev pub load : ℕ → ℕ → List Call
 load n policy = create n 50 ∷ Keyed (aid n) ∷ Stored (aid n) 5 ∷ Finished (aid n) policy ∷ []
 
--- F is the fall-back, 02 the other, with their life cycles and the last number as given
-abbrev pub cardOfTwo : ℕ → ℕ → ℕ → Card
-cardOfTwo first second last =
+-- the examples' card with these profiles in its first places, this last number, this place the fall-back, in this phase
+abbrev pub cardWith : List Isdp → ℕ → ℕ → Phase → Card
+cardWith profiles last fallback phase =
     record {
       eid = replicate 16 0x89;
       capacity = 1000;
       volatile = 7;
       last = last;
-      fallback = 0;
-      phase = Quiet;
-      places = made (aid 1) first 100 10 ∷ made (aid 2) second 50 5 ∷ replicate 6 vacant;
+      fallback = fallback;
+      phase = phase;
+      places = profiles ++ replicate (mostPlaces - length profiles) vacant;
     }
 
--- the outstanding number, where there is one
-abbrev pub outstandingIn : Phase → List ℕ
-outstandingIn Quiet = []
-outstandingIn (Trial previous left number) = number ∷ []
-outstandingIn (Back left number) = number ∷ []
-outstandingIn (Fallen left number) = number ∷ []
+-- F alone; F and 02, with their life cycles; new profiles of quota 1, with AIDs from n on
+abbrev pub alone : List Isdp
+alone = made (aid 1) enabled 100 10 ∷ []
+
+abbrev pub two : ℕ → ℕ → List Isdp
+two first second = made (aid 1) first 100 10 ∷ made (aid 2) second 50 5 ∷ []
+
+unfoldable pub created : ℕ → ℕ → List Isdp
+created n zero = []
+created n (suc k) = made (aid n) selectable 1 0 ∷ created (suc n) k
+
+-- F is the fall-back, 02 the other, Quiet
+abbrev pub cardOfTwo : ℕ → ℕ → ℕ → Card
+cardOfTwo first second last = cardWith (two first second) last 0 Quiet
 
 -- the notification of a kind, with a number, that the profile whose AID ends so is enabled
 abbrev pub notice : Kind → ℕ → ℕ → Notification
 notice kind number n =
     record { kind = kind; number = number; eid = replicate 16 0x89; aid = record { bytes = padded (aid n); len = 5 } }
 
--- from this card, after these calls, this one is answered so; then this profile is enabled, this one is the fall-back, this number is
--- outstanding and this many numbers are used; where `whole`, the card is looked at in all its fields, and is the one before the call
+-- from this card, after these calls, this one is answered so, and the card handed back is this one, in all its fields
 pub record Example : Type 0 where
   pub number : ℕ
   pub start : Card
@@ -111,66 +119,51 @@ pub record Example : Type 0 where
   pub response : List ℕ
   pub notification : Notification
   pub ticks : ℕ
-  pub enabled : ℕ
-  pub fallback : ℕ
-  pub outstanding : List ℕ
-  pub used : ℕ
-  pub whole : Bool
+  pub card : Card
 
 abbrev pub examples : List Example
 examples =
-    record { number = 1; start = fresh; before = []; call = getStatus; word = 0x9000; response = 0xE3 ∷ 0x0E ∷ 0x4F ∷ 0x05 ∷ 0xA0 ∷ 0x00 ∷ 0x00 ∷ 0x00 ∷ 0x01 ∷ 0x9F ∷ 0x70 ∷ 0x01 ∷ 0x3F ∷ 0x53 ∷ 0x01 ∷ 0x01 ∷ []; notification = silent; ticks = 0; enabled = 1; fallback = 1; outstanding = []; used = 0; whole = true }
-    ∷ record { number = 2; start = fresh; before = load 2 0; call = setFallBack 2; word = 0x9000; response = []; notification = silent; ticks = 0; enabled = 1; fallback = 2; outstanding = []; used = 0; whole = false }
-    ∷ record { number = 2; start = fresh; before = []; call = setFallBack 2; word = 0x6A88; response = []; notification = silent; ticks = 0; enabled = 1; fallback = 1; outstanding = []; used = 0; whole = true }
-    ∷ record { number = 3; start = fresh; before = load 2 0; call = command (0x80 ∷ 0xE2 ∷ 0x87 ∷ 0x00 ∷ 0x0A ∷ 0x3A ∷ 0x05 ∷ 0x07 ∷ 0x4F ∷ 0x05 ∷ aid 2); word = 0x6A86; response = []; notification = silent; ticks = 0; enabled = 1; fallback = 1; outstanding = []; used = 0; whole = false }
-    ∷ record { number = 3; start = fresh; before = load 2 0; call = command (0x80 ∷ 0xE2 ∷ 0x88 ∷ 0x00 ∷ 0x09 ∷ 0x3A ∷ 0x05 ∷ 0x07 ∷ 0x4F ∷ 0x05 ∷ aid 2); word = 0x6700; response = []; notification = silent; ticks = 0; enabled = 1; fallback = 1; outstanding = []; used = 0; whole = false }
-    ∷ record { number = 4; start = fresh; before = load 2 0; call = command (0x80 ∷ 0xE2 ∷ 0x88 ∷ 0x00 ∷ 0x09 ∷ 0x3A ∷ 0x05 ∷ 0x06 ∷ 0x4F ∷ 0x04 ∷ 0xA0 ∷ 0x00 ∷ 0x00 ∷ 0x00 ∷ []); word = 0x6A80; response = []; notification = silent; ticks = 0; enabled = 1; fallback = 1; outstanding = []; used = 0; whole = false }
-    ∷ record { number = 5; start = fresh; before = []; call = create 2 900; word = 0x9000; response = 0x00 ∷ []; notification = silent; ticks = 0; enabled = 1; fallback = 1; outstanding = []; used = 0; whole = false }
-    ∷ record { number = 5; start = fresh; before = []; call = create 2 901; word = 0x6A84; response = []; notification = silent; ticks = 0; enabled = 1; fallback = 1; outstanding = []; used = 0; whole = true }
-    ∷ record { number = 6; start = fresh; before = load 2 0 ++ creates 3 5; call = create 8 1; word = 0x9000; response = 0x00 ∷ []; notification = silent; ticks = 0; enabled = 1; fallback = 1; outstanding = []; used = 0; whole = false }
-    ∷ record { number = 6; start = fresh; before = load 2 0 ++ creates 3 6; call = create 9 1; word = 0x6A84; response = []; notification = silent; ticks = 0; enabled = 1; fallback = 1; outstanding = []; used = 0; whole = false }
-    ∷ record { number = 6; start = fresh; before = load 2 0 ++ creates 3 6 ++ delete 2 ∷ []; call = create 9 1; word = 0x9000; response = 0x00 ∷ []; notification = silent; ticks = 0; enabled = 1; fallback = 1; outstanding = []; used = 0; whole = false }
-    ∷ record { number = 7; start = fresh; before = load 2 0; call = enable 2; word = 0x9000; response = []; notification = notice Changed 1 2; ticks = 20; enabled = 2; fallback = 1; outstanding = 1 ∷ []; used = 1; whole = false }
-    ∷ record { number = 7; start = fresh; before = load 2 0 ++ enable 2 ∷ ticks 9; call = confirm 1; word = 0x9000; response = []; notification = silent; ticks = 0; enabled = 2; fallback = 1; outstanding = []; used = 1; whole = false }
-    ∷ record { number = 8; start = fresh; before = load 2 0 ++ enable 2 ∷ ticks 9; call = Tick; word = 0x9000; response = []; notification = notice RolledBack 2 1; ticks = 10; enabled = 1; fallback = 1; outstanding = 2 ∷ []; used = 2; whole = false }
-    ∷ record { number = 8; start = fresh; before = load 2 0 ++ enable 2 ∷ ticks 10; call = confirm 1; word = 0x6A88; response = []; notification = silent; ticks = 10; enabled = 1; fallback = 1; outstanding = 2 ∷ []; used = 2; whole = false }
-    ∷ record { number = 9; start = fresh; before = load 2 0 ++ enable 2 ∷ ticks 19; call = Tick; word = 0x9000; response = []; notification = silent; ticks = 0; enabled = 1; fallback = 1; outstanding = []; used = 2; whole = false }
-    ∷ record { number = 10; start = cardOfTwo disabled enabled 0; before = []; call = disable 2; word = 0x9000; response = []; notification = notice Changed 1 1; ticks = 30; enabled = 1; fallback = 1; outstanding = 1 ∷ []; used = 1; whole = false }
-    ∷ record { number = 10; start = cardOfTwo disabled enabled 0; before = disable 2 ∷ ticks 9; call = Tick; word = 0x9000; response = []; notification = notice RolledBack 2 2; ticks = 20; enabled = 2; fallback = 1; outstanding = 2 ∷ []; used = 2; whole = false }
-    ∷ record { number = 10; start = cardOfTwo disabled enabled 0; before = disable 2 ∷ ticks 19; call = Tick; word = 0x9000; response = []; notification = notice FallenBack 3 1; ticks = 10; enabled = 1; fallback = 1; outstanding = 3 ∷ []; used = 3; whole = false }
-    ∷ record { number = 10; start = cardOfTwo disabled enabled 0; before = disable 2 ∷ ticks 29; call = Tick; word = 0x9000; response = []; notification = silent; ticks = 0; enabled = 1; fallback = 1; outstanding = []; used = 3; whole = false }
-    ∷ record { number = 11; start = cardOfTwo enabled disabled 65535; before = []; call = enable 2; word = 0x9000; response = []; notification = notice Changed 0 2; ticks = 20; enabled = 2; fallback = 1; outstanding = 0 ∷ []; used = 0; whole = false }
-    ∷ record { number = 12; start = fresh; before = []; call = Lost; word = 0x9000; response = []; notification = silent; ticks = 0; enabled = 1; fallback = 1; outstanding = []; used = 0; whole = true }
+    record { number = 1; start = fresh; before = []; call = getStatus; word = 0x9000; response = 0xE3 ∷ 0x0E ∷ 0x4F ∷ 0x05 ∷ 0xA0 ∷ 0x00 ∷ 0x00 ∷ 0x00 ∷ 0x01 ∷ 0x9F ∷ 0x70 ∷ 0x01 ∷ 0x3F ∷ 0x53 ∷ 0x01 ∷ 0x01 ∷ []; notification = silent; ticks = 0; card = cardWith alone 0 0 Quiet }
+    ∷ record { number = 2; start = fresh; before = load 2 0; call = setFallBack 2; word = 0x9000; response = []; notification = silent; ticks = 0; card = cardWith (two enabled disabled) 0 1 Quiet }
+    ∷ record { number = 2; start = fresh; before = []; call = setFallBack 2; word = 0x6A88; response = []; notification = silent; ticks = 0; card = cardWith alone 0 0 Quiet }
+    ∷ record { number = 3; start = fresh; before = load 2 0; call = command (0x80 ∷ 0xE2 ∷ 0x87 ∷ 0x00 ∷ 0x0A ∷ 0x3A ∷ 0x05 ∷ 0x07 ∷ 0x4F ∷ 0x05 ∷ aid 2); word = 0x6A86; response = []; notification = silent; ticks = 0; card = cardWith (two enabled disabled) 0 0 Quiet }
+    ∷ record { number = 3; start = fresh; before = load 2 0; call = command (0x80 ∷ 0xE2 ∷ 0x88 ∷ 0x00 ∷ 0x09 ∷ 0x3A ∷ 0x05 ∷ 0x07 ∷ 0x4F ∷ 0x05 ∷ aid 2); word = 0x6700; response = []; notification = silent; ticks = 0; card = cardWith (two enabled disabled) 0 0 Quiet }
+    ∷ record { number = 4; start = fresh; before = load 2 0; call = command (0x80 ∷ 0xE2 ∷ 0x88 ∷ 0x00 ∷ 0x09 ∷ 0x3A ∷ 0x05 ∷ 0x06 ∷ 0x4F ∷ 0x04 ∷ 0xA0 ∷ 0x00 ∷ 0x00 ∷ 0x00 ∷ []); word = 0x6A80; response = []; notification = silent; ticks = 0; card = cardWith (two enabled disabled) 0 0 Quiet }
+    ∷ record { number = 5; start = fresh; before = []; call = create 2 900; word = 0x9000; response = 0x00 ∷ []; notification = silent; ticks = 0; card = cardWith (alone ++ made (aid 2) selectable 900 0 ∷ []) 0 0 Quiet }
+    ∷ record { number = 5; start = fresh; before = []; call = create 2 901; word = 0x6A84; response = []; notification = silent; ticks = 0; card = cardWith alone 0 0 Quiet }
+    ∷ record { number = 6; start = fresh; before = load 2 0 ++ creates 3 (mostPlaces - 3); call = create mostPlaces 1; word = 0x9000; response = 0x00 ∷ []; notification = silent; ticks = 0; card = cardWith (two enabled disabled ++ created 3 (mostPlaces - 2)) 0 0 Quiet }
+    ∷ record { number = 6; start = fresh; before = load 2 0 ++ creates 3 (mostPlaces - 2); call = create (mostPlaces + 1) 1; word = 0x6A84; response = []; notification = silent; ticks = 0; card = cardWith (two enabled disabled ++ created 3 (mostPlaces - 2)) 0 0 Quiet }
+    ∷ record { number = 6; start = fresh; before = load 2 0 ++ creates 3 (mostPlaces - 2); call = delete 2; word = 0x9000; response = 0x00 ∷ []; notification = silent; ticks = 0; card = cardWith (alone ++ vacant ∷ created 3 (mostPlaces - 2)) 0 0 Quiet }
+    ∷ record { number = 6; start = fresh; before = load 2 0 ++ creates 3 (mostPlaces - 2) ++ delete 2 ∷ []; call = create (mostPlaces + 1) 1; word = 0x9000; response = 0x00 ∷ []; notification = silent; ticks = 0; card = cardWith (alone ++ made (aid (mostPlaces + 1)) selectable 1 0 ∷ created 3 (mostPlaces - 2)) 0 0 Quiet }
+    ∷ record { number = 7; start = fresh; before = load 2 0; call = enable 2; word = 0x9000; response = []; notification = notice Changed 1 2; ticks = 20; card = cardWith (two disabled enabled) 1 0 (Trial 0 10 1) }
+    ∷ record { number = 7; start = fresh; before = load 2 0 ++ enable 2 ∷ ticks 9; call = confirm 1; word = 0x9000; response = []; notification = silent; ticks = 0; card = cardWith (two disabled enabled) 1 0 Quiet }
+    ∷ record { number = 8; start = fresh; before = load 2 0 ++ enable 2 ∷ ticks 9; call = Tick; word = 0x9000; response = []; notification = notice RolledBack 2 1; ticks = 10; card = cardWith (two enabled disabled) 2 0 (Back 10 2) }
+    ∷ record { number = 8; start = fresh; before = load 2 0 ++ enable 2 ∷ ticks 10; call = confirm 1; word = 0x6A88; response = []; notification = silent; ticks = 10; card = cardWith (two enabled disabled) 2 0 (Back 10 2) }
+    ∷ record { number = 9; start = fresh; before = load 2 0 ++ enable 2 ∷ ticks 19; call = Tick; word = 0x9000; response = []; notification = silent; ticks = 0; card = cardWith (two enabled disabled) 2 0 Quiet }
+    ∷ record { number = 10; start = cardOfTwo disabled enabled 0; before = []; call = disable 2; word = 0x9000; response = []; notification = notice Changed 1 1; ticks = 30; card = cardWith (two enabled disabled) 1 0 (Trial 1 10 1) }
+    ∷ record { number = 10; start = cardOfTwo disabled enabled 0; before = disable 2 ∷ ticks 9; call = Tick; word = 0x9000; response = []; notification = notice RolledBack 2 2; ticks = 20; card = cardWith (two disabled enabled) 2 0 (Back 10 2) }
+    ∷ record { number = 10; start = cardOfTwo disabled enabled 0; before = disable 2 ∷ ticks 19; call = Tick; word = 0x9000; response = []; notification = notice FallenBack 3 1; ticks = 10; card = cardWith (two enabled disabled) 3 0 (Fallen 10 3) }
+    ∷ record { number = 10; start = cardOfTwo disabled enabled 0; before = disable 2 ∷ ticks 29; call = Tick; word = 0x9000; response = []; notification = silent; ticks = 0; card = cardWith (two enabled disabled) 3 0 Quiet }
+    ∷ record { number = 11; start = cardOfTwo enabled disabled 65535; before = []; call = enable 2; word = 0x9000; response = []; notification = notice Changed 0 2; ticks = 20; card = cardWith (two disabled enabled) 0 0 (Trial 0 10 0) }
+    ∷ record { number = 12; start = fresh; before = []; call = Lost; word = 0x9000; response = []; notification = silent; ticks = 0; card = cardWith alone 0 0 Quiet }
     ∷ []
 
--- what is seen of an answer, with the card itself where it is looked at whole
+-- the word by its number, and the rest of an answer as it is
 pub record Seen : Type 0 where
   pub word : ℕ
   pub response : List ℕ
   pub notification : Notification
   pub ticks : ℕ
-  pub enabled : List ℕ
-  pub fallback : List ℕ
-  pub outstanding : List ℕ
-  pub used : ℕ
-  pub whole : List Card
+  pub card : Card
 
--- the card before the example's call
-abbrev pub cardBefore : Example → Card
-cardBefore e = run (e .start) (e .before)
-
-abbrev pub seen : Example → Outcome → Seen
-seen e o =
+abbrev pub seen : Outcome → Seen
+seen o =
     record {
       word = numberOf (o .status);
       response = o .response;
       notification = o .notification;
       ticks = o .ticks;
-      enabled = enabledAid (o .card);
-      fallback = fallbackAid (o .card);
-      outstanding = outstandingIn (o .card .phase);
-      used = o .card .last;
-      whole = cond (e .whole) (o .card ∷ []) [];
+      card = o .card;
     }
 
 abbrev pub expected : Example → Seen
@@ -180,16 +173,12 @@ expected e =
       response = e .response;
       notification = e .notification;
       ticks = e .ticks;
-      enabled = aid (e .enabled);
-      fallback = aid (e .fallback);
-      outstanding = e .outstanding;
-      used = e .used;
-      whole = cond (e .whole) (cardBefore e ∷ []) [];
+      card = e .card;
     }
 
 unfoldable pub allSeen : List Example → List Seen
 allSeen [] = []
-allSeen (e ∷ rest) = seen e (step (cardBefore e) (e .call)) ∷ allSeen rest
+allSeen (e ∷ rest) = seen (step (run (e .start) (e .before)) (e .call)) ∷ allSeen rest
 
 unfoldable pub allExpected : List Example → List Seen
 allExpected [] = []

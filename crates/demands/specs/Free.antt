@@ -5,12 +5,11 @@ use mathlib.Core.Path.{_≡_}
 use mathlib.Core.List.{List, [], _∷_, _++_}
 use mathlib.Core.Bool.{true, cond}
 use lib.ListN.{drop}
-use Rattle.status.specs.StatusWords.{isDone}
 use Rattle.byte_string.specs.Bytes.{sameBytes}
+use Rattle.status.specs.StatusWords.{isDone}
 use Rattle.card.specs.Cards.{freeIn}
-use Rattle.command.specs.Requests.{fieldOf}
 use Rattle.steps.specs.Asked.{Act, Act.enable, Act.disable, Act.delete, Act.masterDelete, Act.setFallBack, Act.status, Act.keyed, Act.stored, Act.finished, Asked, Asked.unread, Asked.create, Asked.on, Asked.confirm, Asked.statusOfAll, Asked.getData, Asked.tick, Asked.lost}
-use Rattle.manager.specs.Calls.{Call, Call.Command, Call.Keyed, Call.Stored, Call.Finished, Call.Tick, Call.Lost, fieldAsks}
+use Rattle.manager.specs.Calls.{Call, askedOf}
 use Rattle.manager.specs.Manager.{run}
 use Rattle.demands.specs.Inputs.{Inputs, freshOf}
 use Rattle.demands.specs.Examples as sample
@@ -55,23 +54,14 @@ afterAsked getData response ms = ms
 afterAsked tick response ms = ms
 afterAsked lost response ms = ms
 
--- what a call asks, read with the capacity that fresh was given
-abbrev pub askedOf : ℕ → Call → Asked
-askedOf capacity (Command verdict s room) = fieldAsks verdict s (fieldOf s capacity)
-askedOf capacity (Keyed aid) = on aid keyed
-askedOf capacity (Stored aid n) = on aid (stored n)
-askedOf capacity (Finished aid policy) = on aid (finished policy)
-askedOf capacity Tick = tick
-askedOf capacity Lost = lost
-
--- "made .. and not since deleted": a refused call changes nothing
-abbrev pub after : ℕ → Exchange → List Made → List Made
-after capacity x ms =
+-- "made .. and not since deleted": a call is read with the capacity that fresh was given, and a refused one changes nothing
+abbrev pub madeAfter : ℕ → Exchange → List Made → List Made
+madeAfter capacity x ms =
     cond (isDone (x .answer .status)) (afterAsked (askedOf capacity (x .call)) (x .answer .response) ms) ms
 
 unfoldable pub history : ℕ → List Made → List Exchange → List Made
 history capacity ms [] = ms
-history capacity ms (x ∷ xs) = history capacity (after capacity x ms) xs
+history capacity ms (x ∷ xs) = history capacity (madeAfter capacity x ms) xs
 
 -- their quotas, together
 unfoldable pub room : List Made → ℕ

@@ -4,6 +4,8 @@ pub mod Demand1
 pub mod Demand2
 pub mod Ticks
 pub mod OpeningAnswers
+pub mod Written
+pub mod CallLaws
 pub mod Create
 pub mod Unique
 pub mod Small
@@ -11,6 +13,7 @@ pub mod Change
 pub mod Confirmation
 pub mod Inputs
 pub mod Examples
+pub mod StatusTable
 pub mod Witnesses
 pub mod Engines
 pub mod WrongEngines
@@ -19,3 +22,5 @@ pub mod SampleRun
 pub mod Influence
 pub mod Others
 pub mod Free
+pub mod Notified
+pub mod SilentEngines

@@ -7,7 +7,6 @@ use mathlib.Core.Bool.{cond}
 use lib.Dec.{eqb}
 use Rattle.status.specs.declared.Status.the-variants.{Done}
 use Rattle.isdp.specs.Sizes.{wait}
-use Rattle.isdp.specs.Aids.{nameOf}
 use Rattle.isdp.specs.LifeCycle.{disabled, enabled}
 use Rattle.places.specs.Places.{at, enableAt}
 use Rattle.card.specs.Cards.{placeOf, enabledPlace, withChange}
@@ -29,7 +28,7 @@ pub record Opening (c : Card) (wanted : ℕ) (o : Outcome) : Type 0 where
   pub was-enabled : at (c .places) (enabledPlace c) .life ≡ enabled
   pub now-disabled : at (o .card .places) (enabledPlace c) .life ≡ disabled
   -- "changed", with that number, the EID and the AID of the profile then enabled
-  pub notification : o .notification ≡ record { kind = Changed; number = nextOf (c .last); eid = c .eid; aid = nameOf (at (c .places) wanted) }
+  pub notification : o .notification ≡ record { kind = Changed; number = nextOf (c .last); eid = c .eid; aid = at (c .places) wanted .aid }
   pub response : o .response ≡ []
   -- three waits, or two where the previous profile is the fall-back
   pub ticks : o .ticks ≡ cond (eqb (enabledPlace c) (c .fallback)) 20 30

@@ -22,7 +22,6 @@ use Rattle.demands.specs.SampleRun.{loaded, changed}
 -- AID, quota, used and policy are as they were; the life cycle is not spoken of
 pub record AsItWas (before after : Isdp) : Type 0 where
   pub aid : after .aid ≡ before .aid
-  pub len : after .len ≡ before .len
   pub quota : after .quota ≡ before .quota
   pub used : after .used ≡ before .used
   pub policy : after .policy ≡ before .policy

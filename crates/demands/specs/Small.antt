@@ -1,12 +1,13 @@
--- Document 01, two short promises over every card: "Naming the holder changes nothing", and which calls an open change never refuses.
+-- Document 01, two short promises: "Naming the holder changes nothing", and which calls an open change never refuses.
 use Prim.Native.Nat.{ℕ}
 use mathlib.Core.Path.{_≡_}
 use mathlib.Core.List.{List}
-use mathlib.Core.Bool.{Bool, false}
-use Rattle.card.specs.Cards.{placeOf}
+use mathlib.Core.Bool.{Bool, true}
+use Rattle.card.specs.Cards.{placeOf, withPhase}
+use Rattle.card.specs.Sound.{sound}
 use Rattle.card.specs.declared.Card.{Card}
+use Rattle.card.specs.declared.Phase.the-variants.{Quiet}
 use Rattle.steps.specs.Asked.{Act.setFallBack, Act.status, Act.keyed, Act.stored, Act.finished, Asked, Asked.on, Asked.statusOfAll, Asked.getData, Asked.tick, Asked.lost}
-use Rattle.steps.specs.Conditions.{changeWrong}
 use Rattle.manager.specs.Calls.{Call, asked}
 use Rattle.manager.specs.Manager.{step}
 
@@ -18,9 +19,9 @@ HolderNamed =
     → placeOf c aid ≡ c .fallback
     → step c call .card ≡ c
 
--- the row of an open change is not met by a call that asks this, whatever the card
+-- a call that asks this has, whether a change is open or not, the status that it has on the same card in Quiet
 abbrev pub Allowed : Asked → Type 0
-Allowed a = (c : Card) (call : Call) → asked c call ≡ a → changeWrong c (asked c call) ≡ false
+Allowed a = (c : Card) (call : Call) → sound c ≡ true → asked c call ≡ a → step c call .status ≡ step (withPhase c Quiet) call .status
 
 -- "69 85: a change is open, for create, enable, disable, delete, master delete, set fall-back"; for none of these
 pub record AllowedWhileOpen : Type 0 where

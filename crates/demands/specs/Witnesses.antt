@@ -9,7 +9,7 @@ use Rattle.card.specs.Sound.{sound}
 use Rattle.card.specs.declared.Card.{Card}
 use Rattle.manager.specs.Calls.{Call, Call.Tick, Call.Lost}
 use Rattle.manager.specs.Manager.{step, run}
-use Rattle.demands.specs.Change.{enabledAid, fallbackAid, confirms, staysOpen, ticksAmong, Opens}
+use Rattle.demands.specs.Change.{enabledBytes, fallbackBytes, confirms, staysOpen, ticksAmong, Opens}
 use Rattle.demands.specs.Examples.{aid, fresh, load, enable, disable, confirm, ticks}
 
 -- F is the fall-back, 02 is enabled by a change that is closed, 03 is DISABLED
@@ -22,14 +22,14 @@ pub record Ends (opening : Call) (calls : List Call) (closing : Call) (confirmed
   pub quiet-after : isQuiet (run (step second opening .card) (calls ++ closing ∷ []) .phase) ≡ true
   pub confirming : confirms (run (step second opening .card) calls) closing ≡ confirmed
   pub ticked : ticksAmong calls ≡ seen
-  pub enabled : enabledAid (run (step second opening .card) (calls ++ closing ∷ [])) ≡ aid profile
+  pub enabled : enabledBytes (run (step second opening .card) (calls ++ closing ∷ [])) ≡ aid profile
 
 pub record Witnesses : Type 0 where
   pub still : sound second ≡ true
   pub quiet : isQuiet (second .phase) ≡ true
   pub away : onFallback second ≡ false
-  pub previous : enabledAid second ≡ aid 2
-  pub fallback : fallbackAid second ≡ aid 1
+  pub previous : enabledBytes second ≡ aid 2
+  pub fallback : fallbackBytes second ≡ aid 1
   pub enabling : Opens second (enable 3) (aid 3)
   pub disabling : Opens second (disable 2) (aid 1)
   -- confirmed before the tenth tick, before the twentieth, not at all

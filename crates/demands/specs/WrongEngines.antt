@@ -1,14 +1,14 @@
 -- Document 01, 'What the contracts have to settle' ("These engines have to be caught") and 'Wrong engines we expect to see': each is
 -- the manager with one thing changed, and none meets the demands.
-use Prim.Native.Nat.{ℕ, suc}
+use Prim.Native.Nat.{ℕ, suc, _+_}
 use mathlib.Core.Path.{_≡_}
 use mathlib.Core.List.{List, [], _∷_, _++_}
 use mathlib.Core.Bool.{Bool, true, false, not, cond, _&&_}
-use lib.ListN.{set}
+use lib.ListN.{set, replicate}
 use lib.Dec.{ltb, leb}
 use Rattle.status.specs.StatusWords.{isDone}
 use Rattle.status.specs.declared.Status.{Status}
-use Rattle.status.specs.declared.Status.the-variants.{PolicyForbids}
+use Rattle.status.specs.declared.Status.the-variants.{PolicyForbids, Done}
 use Rattle.isdp.specs.Sizes.{wait}
 use Rattle.isdp.specs.Aids.{noAid}
 use Rattle.isdp.specs.Policy.{forbidsDisabling}
@@ -24,7 +24,7 @@ use Rattle.card.specs.declared.Phase.{Phase}
 use Rattle.card.specs.declared.Phase.the-variants.{Quiet, Trial, Back, Fallen}
 use Rattle.steps.specs.Asked.{Act, Act.enable, Act.disable, Act.delete, Act.masterDelete, Act.setFallBack, Act.status, Act.keyed, Act.stored, Act.finished, Asked, Asked.unread, Asked.create, Asked.on, Asked.confirm, Asked.statusOfAll, Asked.getData, Asked.tick, Asked.lost}
 use Rattle.manager.specs.Calls.{Call, Call.Command, Call.Keyed, Call.Stored, Call.Finished, Call.Tick, Call.Lost, asked}
-use Rattle.manager.specs.Manager.{step}
+use Rattle.manager.specs.Manager.{step, work}
 use Rattle.demands.specs.Change.{taken, isTick}
 use Rattle.demands.specs.Inputs.{Inputs, freshOf}
 use Rattle.demands.specs.Examples as example
@@ -71,28 +71,47 @@ Along e m c [] = Unit {0}
 Along e m c (call ∷ calls) =
     Answered (e .answer m c call) (step c call) × Along e (e .remember m c call) (e .answer m c call .card) calls
 
-abbrev pub AlongFresh : Engine → List Call → Type 0
-AlongFresh e calls = Along e (e .start example.inputs) (e .fresh example.inputs .card) calls
+abbrev pub AlongFrom : Engine → Inputs → List Call → Type 0
+AlongFrom e x calls = Along e (e .start x) (e .fresh x .card) calls
 
--- "all three by demand 2 on examples 1, 2 and 7"
-pub record OnExamples (e : Engine) : Type 0 where
-  pub first : AlongFresh e (example.getStatus ∷ [])
-  pub second : AlongFresh e (example.load 2 0 ++ example.setFallBack 2 ∷ [])
-  pub second-not-held : AlongFresh e (example.setFallBack 2 ∷ [])
-  pub seventh : AlongFresh e (example.load 2 0 ++ example.enable 2 ∷ example.ticks 9 ++ example.confirm 1 ∷ [])
+-- "by demand 2 on examples 1, 2 and 7", each by itself. F is told by its AID alone, so example 1 is held on two fresh cards.
+abbrev pub larger : Inputs
+larger = record { eid = replicate 16 0x89; aid = example.aid 1; capacity = 2000; quota = 100; used = 10; volatile = 7 }
+
+abbrev pub OnExample1 : Engine → Type 0
+OnExample1 e = AlongFrom e example.inputs (example.getStatus ∷ []) × AlongFrom e larger (example.getStatus ∷ [])
+
+abbrev pub OnExample2 : Engine → Type 0
+OnExample2 e = AlongFrom e example.inputs (example.load 2 0 ++ example.setFallBack 2 ∷ []) × AlongFrom e example.inputs (example.setFallBack 2 ∷ [])
+
+abbrev pub OnExample7 : Engine → Type 0
+OnExample7 e = AlongFrom e example.inputs (example.load 2 0 ++ example.enable 2 ∷ example.ticks 9 ++ example.confirm 1 ∷ [])
 
 -- whatever meets demand 2 meets it there
+pub record OnExamples (e : Engine) : Type 0 where
+  pub first : OnExample1 e
+  pub second : OnExample2 e
+  pub seventh : OnExample7 e
+
 abbrev pub Exemplary : Type 1
-Exemplary = (e : Engine) → Meets e → OnExamples e
+Exemplary = (e : Engine) → MeetsDemand2 e → OnExamples e
+
+pub record RefutedOnEach (e : Engine) : Type 0 where
+  pub first : OnExample1 e → ⊥
+  pub second : OnExample2 e → ⊥
+  pub seventh : OnExample7 e → ⊥
 
 abbrev pub RefusesAll : Type 0
-RefusesAll = (word : Card → Call → Status) → ((c : Card) (call : Call) → isDone (word c call) ≡ false) → OnExamples (refusesAll word) → ⊥
+RefusesAll = (word : Card → Call → Status) → ((c : Card) (call : Call) → isDone (word c call) ≡ false) → RefutedOnEach (refusesAll word)
 
 abbrev pub FixedAnswer : Type 0
-FixedAnswer = (o : Outcome) → OnExamples (fixedAnswer o) → ⊥
+FixedAnswer = (o : Outcome) → RefutedOnEach (fixedAnswer o)
 
-abbrev pub LeavesEveryCard : Type 0
-LeavesEveryCard = (says : Card → Call → Outcome) → OnExamples (leavesEveryCard says) → ⊥
+-- example 1 changes no card: an engine that leaves every card can be right there, so that example alone refutes none
+pub record LeavesEveryCard : Type 0 where
+  pub first : OnExample1 (leavesEveryCard step)
+  pub second : (says : Card → Call → Outcome) → OnExample2 (leavesEveryCard says) → ⊥
+  pub seventh : (says : Card → Call → Outcome) → OnExample7 (leavesEveryCard says) → ⊥
 
 -- "one that works on the first command and then only answers 90 00": it remembers how many commands came
 abbrev pub isCommand : Call → Bool
@@ -103,19 +122,30 @@ isCommand (Finished aid policy) = false
 isCommand Tick = false
 isCommand Lost = false
 
--- on the first so many
-abbrev pub onlyTheFirst : ℕ → Engine
-onlyTheFirst n =
+-- it works on the first so many, and answers every later one so
+abbrev pub firstThen : ℕ → (Card → Call → Outcome) → Engine
+firstThen n later =
     record {
       Memory = ℕ;
       fresh = freshOf;
       start = λ x. 0;
-      answer = λ m c call. cond (leb n m && isCommand call) (accepted (stepTo c c noAid) []) (step c call);
+      answer = λ m c call. cond (leb n m && isCommand call) (later c call) (step c call);
       remember = λ m c call. cond (isCommand call) (suc m) m;
     }
 
-abbrev pub firstThenOnly9000 : Engine
-firstThenOnly9000 = onlyTheFirst 1
+-- by demand 2, however many it works on and whatever it answers later, if only the word is 90 00
+abbrev pub FirstThenOnly9000 : Type 0
+FirstThenOnly9000 =
+    (n : ℕ) (later : Card → Call → Outcome) → ((c : Card) (call : Call) → later c call .status ≡ Done) → MeetsDemand2 (firstThen n later) → ⊥
+
+-- 90 00 and nothing done
+abbrev pub idle : Card → Call → Outcome
+idle c call = accepted Done (stepTo c c noAid) []
+
+-- by demand 3 from the second change on: the first takes four commands (two creations, the enable and its confirmation), and it may work
+-- on any number more
+abbrev pub NotTheSecondChange : Type 0
+NotTheSecondChange = (n : ℕ) → MeetsDemand3 (firstThen (n + 4) idle) → ⊥
 
 -- "one that invents its ticks-left figure", from the card handed back
 abbrev pub inventsTicks : (Card → ℕ) → Engine
@@ -187,7 +217,7 @@ abbrev pub secondEnableRestartsWait : Engine
 secondEnableRestartsWait =
     plain
     (λ c call.
-    cond (asksEnable (asked c call) && not (isQuiet (c .phase))) (accepted (stepTo c (restarted (c .phase) c) noAid) [])
+    cond (asksEnable (asked c call) && not (isQuiet (c .phase))) (accepted Done (stepTo c (restarted (c .phase) c) noAid) [])
     (step c call))
 
 -- "A late confirmation of number 1 accepted as that of number 2."
@@ -202,17 +232,15 @@ isLate phase tick = false
 isLate phase lost = false
 
 abbrev pub lateConfirmationTaken : Engine
-lateConfirmationTaken = plain (λ c call. cond (isLate (c .phase) (asked c call)) (accepted (confirmStep c) []) (step c call))
+lateConfirmationTaken = plain (λ c call. cond (isLate (c .phase) (asked c call)) (accepted Done (confirmStep c) []) (step c call))
 
 -- "These engines have to be caught": none of them meets the demands
 pub record Caught : Type 0 where
   pub refusing-all : (word : Card → Call → Status) → ((c : Card) (call : Call) → isDone (word c call) ≡ false) → Refuted (refusesAll word)
   pub fixed : (o : Outcome) → Refuted (fixedAnswer o)
   pub leaving-every-card : (says : Card → Call → Outcome) → Refuted (leavesEveryCard says)
-  -- by demand 2 however many commands it works on, and by demand 3 at the second change
-  pub only-9000 : Refuted firstThenOnly9000
-  pub only-the-first-ones : (n : ℕ) → MeetsDemand2 (onlyTheFirst n) → ⊥
-  pub not-the-second-change : MeetsDemand3 (onlyTheFirst 4) → ⊥
+  pub only-9000 : FirstThenOnly9000
+  pub not-the-second-change : NotTheSecondChange
   pub inventing : Refuted (inventsTicks thirtyWhileOpen)
   pub asking-policy : Refuted rollBackAsksPolicy
   pub deleting-at-enable : Refuted previousDeletedAtEnable

@@ -46,10 +46,14 @@ abbrev pub fieldAsks : ℕ → List ℕ → Field → Asked
 fieldAsks verdict s field.Wrong = unread
 fieldAsks verdict s (field.Found r) = requestAsks verdict s r
 
+-- what a call asks; of the card a reader needs the capacity
+abbrev pub askedOf : ℕ → Call → Asked
+askedOf capacity (Command verdict s room) = fieldAsks verdict s (fieldOf s capacity)
+askedOf capacity (Keyed aid) = on aid keyed
+askedOf capacity (Stored aid n) = on aid (stored n)
+askedOf capacity (Finished aid policy) = on aid (finished policy)
+askedOf capacity Tick = tick
+askedOf capacity Lost = lost
+
 abbrev pub asked : Card → Call → Asked
-asked c (Command verdict s room) = fieldAsks verdict s (fieldOf s (c .capacity))
-asked c (Keyed aid) = on aid keyed
-asked c (Stored aid n) = on aid (stored n)
-asked c (Finished aid policy) = on aid (finished policy)
-asked c Tick = tick
-asked c Lost = lost
+asked c call = askedOf (c .capacity) call

@@ -58,7 +58,7 @@ Legal c tick = Unit {0}
 Legal c lost = Unit {0}
 
 -- no change is open
-quietly : (p : Phase) → not (isQuiet p) ≡ false → p ≡ Quiet
+pub quietly : (p : Phase) → not (isQuiet p) ≡ false → p ≡ Quiet
 quietly Quiet e = refl
 quietly (Trial q l n) e = absurd (false≢true (sym e))
 quietly (Back l n) e = absurd (false≢true (sym e))

@@ -6,3 +6,4 @@ pub mod Opens
 pub mod Creates
 pub mod Inner
 pub mod Kept
+pub mod Laws

@@ -2,3 +2,4 @@
 pub mod Asked
 pub mod Conditions
 pub mod Steps
+pub mod Laws

@@ -1,0 +1,56 @@
+-- Document 01, 'Steps': a law for each call, over what the manager answers. A command is told by what the grammar of its bytes writes, in a
+-- buffer that is long enough; what each law says stands in steps/specs/Laws, one file a heading.
+use Prim.Native.Nat.{ℕ, _≤_}
+use mathlib.Core.Path.{_≡_}
+use mathlib.Core.List.{List, [], _∷_}
+use mathlib.Core.Bool.{Bool, true}
+use Rattle.card.specs.Sound.{sound}
+use Rattle.card.specs.Answers.{Outcome}
+use Rattle.card.specs.declared.Card.{Card}
+use Rattle.fields.specs.Grammar as field
+use Rattle.install.specs.Grammar.{Created}
+use Rattle.command.specs.Grammar as written
+use Rattle.command.specs.Grammar.{Wanted, Encodes}
+use Rattle.steps.specs.Laws.Create.{CreateAnswers}
+use Rattle.steps.specs.Laws.Loading.{KeyedAnswers, StoredAnswers, FinishedAnswers}
+use Rattle.steps.specs.Laws.Change.{EnableAnswers, DisableAnswers}
+use Rattle.steps.specs.Laws.Deletion.{DeleteAnswers, MasterDeleteAnswers}
+use Rattle.steps.specs.Laws.FallBack.{SetFallBackAnswers}
+use Rattle.steps.specs.Laws.Confirmation.{ConfirmationAnswers}
+use Rattle.steps.specs.Laws.Clock.{TickAnswers, LostAnswers}
+use Rattle.steps.specs.Laws.Reports.{StatusOfAllAnswers, StatusOfOneAnswers, GetDataAnswers}
+use Rattle.manager.specs.Calls.{Call, Call.Command, Call.Keyed, Call.Stored, Call.Finished, Call.Tick, Call.Lost}
+use Rattle.manager.specs.Table.{leastBuffer}
+use Rattle.manager.specs.Manager.{step}
+
+-- a command that writes this is answered so on every sound card, whatever the token verdict handed in
+abbrev pub WrittenLaw : Wanted → (Card → ℕ → Outcome → Type 0) → Type 0
+WrittenLaw w Answered =
+    (c : Card) (verdict : ℕ) (s : List ℕ) (room : ℕ)
+    → sound c ≡ true
+    → leastBuffer ≤ room
+    → Encodes (c .capacity) w s
+    → Answered c verdict (step c (Command verdict s room))
+
+-- any other call
+abbrev pub CallLaw : Call → (Card → Outcome → Type 0) → Type 0
+CallLaw call Answered = (c : Card) → sound c ≡ true → Answered c (step c call)
+
+pub record EveryCall : Type 0 where
+  pub create : (v : Created) → WrittenLaw (written.create v) (λ c verdict. CreateAnswers c (v .aid) (v .quota))
+  pub enable : (aid : List ℕ) → WrittenLaw (written.storeData (field.enable aid)) (λ c verdict. EnableAnswers c aid)
+  pub disable : (aid : List ℕ) → WrittenLaw (written.storeData (field.disable aid)) (λ c verdict. DisableAnswers c aid)
+  pub delete : (aid : List ℕ) → WrittenLaw (written.deletion (field.delete aid)) (λ c verdict. DeleteAnswers c aid)
+  pub master-delete : (aid : List ℕ) → WrittenLaw (written.deletion (field.masterDelete aid)) (λ c verdict. MasterDeleteAnswers c aid verdict)
+  pub set-fall-back : (aid : List ℕ) → WrittenLaw (written.storeData (field.setFallBack aid)) (λ c verdict. SetFallBackAnswers c aid)
+  pub confirmation : (number : ℕ) → WrittenLaw (written.storeData (field.confirmation number)) (λ c verdict. ConfirmationAnswers c number)
+  -- 4F is empty
+  pub status-of-all : (life mark : Bool) → WrittenLaw (written.getStatus (field.asked [] life mark)) (λ c verdict. StatusOfAllAnswers c life mark)
+  -- 4F is an AID
+  pub status-of-one : (first : ℕ) (rest : List ℕ) (life mark : Bool) → WrittenLaw (written.getStatus (field.asked (first ∷ rest) life mark)) (λ c verdict. StatusOfOneAnswers c (first ∷ rest) life mark)
+  pub get-data : WrittenLaw written.getData (λ c verdict. GetDataAnswers c)
+  pub keyed : (aid : List ℕ) → CallLaw (Keyed aid) (λ c. KeyedAnswers c aid)
+  pub stored : (aid : List ℕ) (n : ℕ) → CallLaw (Stored aid n) (λ c. StoredAnswers c aid n)
+  pub finished : (aid : List ℕ) (policy : ℕ) → CallLaw (Finished aid policy) (λ c. FinishedAnswers c aid policy)
+  pub tick : CallLaw Tick TickAnswers
+  pub lost : CallLaw Lost LostAnswers

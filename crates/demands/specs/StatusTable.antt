@@ -1,0 +1,184 @@
+-- Document 01, 'Status words', computed: for each row of the table calls that meet it and, where the rows before allow it, a neighbour
+-- that does not. The calls that meet a row and a later one too pin the order: each pair of adjacent rows that one call can meet is here.
+-- 6D 00 is never met without 6A 86, and no call meets both of 6A 88 and "create with an AID already held", of 69 E1 and 69 82, or of 69 82 and 6A 84.
+use Prim.Native.Nat.{ℕ, suc, _+_, _-_}
+use mathlib.Core.Path.{_≡_}
+use mathlib.Core.List.{List, [], _∷_, _++_}
+use mathlib.Core.Bool.{cond}
+use lib.ListN.{replicate}
+use Rattle.status.specs.StatusWords.{numberOf}
+use Rattle.status.specs.Rows.{Row}
+use Rattle.isdp.specs.Sizes.{mostPlaces}
+use Rattle.isdp.specs.LifeCycle.{disabled, enabled}
+use Rattle.card.specs.Fresh.{zeroCard}
+use Rattle.card.specs.declared.Card.{Card}
+use Rattle.manager.specs.Calls.{Call, Call.Command, Call.Keyed, Call.Stored, Call.Finished, Call.Tick, Call.Lost}
+use Rattle.manager.specs.Table.{table}
+use Rattle.manager.specs.Manager.{step, run}
+use Rattle.demands.specs.Examples.{aid, command, getStatus, setFallBack, enable, disable, confirm, delete, create, creates, fresh, load, cardOfTwo}
+
+-- the number of the first row that holds, counted from 1; 16 where none of the fifteen does
+unfoldable pub rowMet : List Row → ℕ
+rowMet [] = 1
+rowMet (r ∷ rs) = cond (r .when) 1 (suc (rowMet rs))
+
+-- after these calls from this card, this one is answered by this row with this word
+pub record Case : Type 0 where
+  pub row : ℕ
+  pub word : ℕ
+  pub start : Card
+  pub before : List Call
+  pub call : Call
+
+-- GET STATUS of all, with this class and this last byte
+abbrev pub listing : ℕ → ℕ → List ℕ
+listing class le = class ∷ 0xF2 ∷ 0x40 ∷ 0x02 ∷ 0x02 ∷ 0x4F ∷ 0x00 ∷ le ∷ []
+
+-- set fall-back of 02, with this P1
+abbrev pub marking : ℕ → Call
+marking p1 = command (0x80 ∷ 0xE2 ∷ p1 ∷ 0x00 ∷ 0x0A ∷ 0x3A ∷ 0x05 ∷ 0x07 ∷ 0x4F ∷ 0x05 ∷ aid 2)
+
+-- enable with an element too many
+abbrev pub malformed : Call
+malformed = command (0x80 ∷ 0xE2 ∷ 0x88 ∷ 0x00 ∷ 0x0C ∷ 0x3A ∷ 0x03 ∷ 0x09 ∷ 0x4F ∷ 0x05 ∷ (aid 2 ++ 0x4F ∷ 0x00 ∷ []))
+
+abbrev pub masterDelete : ℕ → ℕ → Call
+masterDelete verdict n =
+    Command verdict
+    (0x80 ∷ 0xE4 ∷ 0x00 ∷ 0x40 ∷ 0x19
+    ∷ 0x4F ∷ 0x05 ∷ (aid n
+    ++ 0xB6 ∷ 0x0D ∷ 0x42 ∷ 0x01 ∷ 0x01 ∷ 0x45 ∷ 0x01 ∷ 0x02 ∷ 0x5F ∷ 0x20 ∷ 0x01 ∷ 0x03 ∷ 0x93 ∷ 0x01 ∷ 0x04 ∷ 0x9E ∷ 0x01 ∷ 0x55 ∷ []))
+    256
+
+-- F is enabled and the fall-back, 02 is DISABLED; the same in Trial, to 02
+abbrev pub quiet : Card
+quiet = cardOfTwo enabled disabled 0
+
+abbrev pub opening : List Call
+opening = enable 2 ∷ []
+
+-- 02 is enabled with this policy, and F is the fall-back
+abbrev pub onto : ℕ → List Call
+onto policy = load 2 policy ++ enable 2 ∷ confirm 1 ∷ []
+
+abbrev pub case : ℕ → ℕ → Card → List Call → Call → Case
+case row word start before call = record { row = row; word = word; start = start; before = before; call = call }
+
+abbrev pub cases : List Case
+cases =
+    -- 6F 00, also before 6F 02
+    case 1 0x6F00 zeroCard [] (Command 0 (listing 0x80 0) 255)
+    ∷ case 1 0x6F00 zeroCard [] Tick
+    ∷ case 16 0x9000 fresh [] Tick
+    -- 6F 02, also before 67 00
+    ∷ case 2 0x6F02 fresh [] (Command 0 (0x80 ∷ 0xF2 ∷ 0x40 ∷ []) 255)
+    ∷ case 2 0x6F02 fresh [] (Command 0 (listing 0x80 0) 255)
+    ∷ case 16 0x9000 fresh [] (Command 0 (listing 0x80 0) 256)
+    -- 67 00 for 3 and for 262 bytes, also before 6E 00; 4 and 261 bytes pass
+    ∷ case 3 0x6700 fresh [] (command (0x00 ∷ 0xF2 ∷ 0x40 ∷ []))
+    ∷ case 3 0x6700 fresh [] (command (0x00 ∷ replicate 261 0))
+    ∷ case 3 0x6700 fresh [] (command (0x80 ∷ 0xF2 ∷ 0x40 ∷ []))
+    ∷ case 7 0x6700 fresh [] (command (0x80 ∷ 0xF2 ∷ 0x40 ∷ 0x02 ∷ []))
+    ∷ case 16 0x9000 fresh [] (command (0x80 ∷ 0xF2 ∷ 0x40 ∷ 0x02 ∷ 0xFF ∷ 0x4F ∷ 0x00 ∷ 0x5C ∷ 0x81 ∷ 0xFA ∷ (replicate 250 0x53 ++ 0x00 ∷ [])))
+    -- 6E 00, also before 6D 00; the bounds of the three ranges
+    ∷ case 4 0x6E00 fresh [] (command (0x90 ∷ 0xAA ∷ 0x40 ∷ 0x02 ∷ []))
+    ∷ case 4 0x6E00 fresh [] (command (listing 0x7F 0))
+    ∷ case 16 0x9000 fresh [] (command (listing 0x8F 0))
+    ∷ case 4 0x6E00 fresh [] (command (listing 0x90 0))
+    ∷ case 4 0x6E00 fresh [] (command (listing 0xBF 0))
+    ∷ case 16 0x9000 fresh [] (command (listing 0xC0 0))
+    ∷ case 16 0x9000 fresh [] (command (listing 0xCF 0))
+    ∷ case 4 0x6E00 fresh [] (command (listing 0xD0 0))
+    ∷ case 4 0x6E00 fresh [] (command (listing 0xDF 0))
+    ∷ case 16 0x9000 fresh [] (command (listing 0xE0 0))
+    ∷ case 16 0x9000 fresh [] (command (listing 0xEF 0))
+    ∷ case 4 0x6E00 fresh [] (command (listing 0xF0 0))
+    -- 6D 00, always before 6A 86
+    ∷ case 5 0x6D00 fresh [] (command (0x80 ∷ 0xAA ∷ 0x40 ∷ 0x02 ∷ []))
+    -- 6A 86, also before 67 00; the bounds of P1
+    ∷ case 6 0x6A86 quiet [] (command (0x80 ∷ 0xE2 ∷ 0x87 ∷ 0x00 ∷ []))
+    ∷ case 6 0x6A86 quiet [] (marking 0x87)
+    ∷ case 16 0x9000 quiet [] (marking 0x88)
+    ∷ case 16 0x9000 quiet [] (marking 0x8F)
+    ∷ case 6 0x6A86 quiet [] (marking 0x90)
+    -- 67 00 for the length shape, also before 6A 80
+    ∷ case 7 0x6700 quiet [] (command (0x80 ∷ 0xE2 ∷ 0x88 ∷ 0x00 ∷ 0x09 ∷ 0x3A ∷ 0x05 ∷ 0x07 ∷ 0x4F ∷ 0x05 ∷ aid 2))
+    ∷ case 7 0x6700 fresh [] (command (listing 0x80 1))
+    ∷ case 7 0x6700 fresh [] (command (0x80 ∷ 0xCA ∷ 0xFF ∷ 0x21 ∷ 0x01 ∷ []))
+    ∷ case 16 0x9000 fresh [] (command (0x80 ∷ 0xCA ∷ 0xFF ∷ 0x21 ∷ 0x00 ∷ []))
+    -- 6A 80 for the data field and for the values of an inner call, also in an open change and for an AID not held
+    ∷ case 8 0x6A80 quiet opening malformed
+    ∷ case 8 0x6A80 quiet opening (create 2 1001)
+    ∷ case 8 0x6A80 quiet [] malformed
+    ∷ case 8 0x6A80 fresh [] (Keyed (0xA0 ∷ 0x00 ∷ 0x00 ∷ 0x00 ∷ []))
+    ∷ case 8 0x6A80 fresh [] (Stored (replicate 17 0xA0) 1)
+    ∷ case 8 0x6A80 fresh [] (Finished (aid 9) 0x05)
+    ∷ case 10 0x6A88 fresh [] (Keyed (aid 9))
+    ∷ case 10 0x6A88 fresh [] (Stored (replicate 16 0xA0) 1)
+    ∷ case 10 0x6A88 fresh [] (Finished (aid 9) 0x04)
+    -- 69 85 in an open change, and a confirmation in none, also before 6A 88 and before an AID already held
+    ∷ case 9 0x6985 quiet opening (enable 9)
+    ∷ case 9 0x6985 quiet opening (create 2 1)
+    ∷ case 9 0x6985 quiet [] (confirm 0)
+    ∷ case 9 0x6985 quiet opening (setFallBack 1)
+    ∷ case 16 0x9000 quiet (enable 2 ∷ confirm 1 ∷ []) (setFallBack 1)
+    ∷ case 16 0x9000 quiet opening getStatus
+    -- 6A 88, also before the state
+    ∷ case 10 0x6A88 quiet [] (enable 9)
+    ∷ case 10 0x6A88 quiet opening (confirm 2)
+    ∷ case 16 0x9000 quiet opening (confirm 1)
+    -- 6A 80 for an AID already held, also before 6A 84
+    ∷ case 11 0x6A80 fresh [] (create 1 901)
+    ∷ case 11 0x6A80 fresh (creates 2 (mostPlaces - 1)) (create 2 1)
+    ∷ case 11 0x6A80 fresh [] (create 1 1)
+    ∷ case 16 0x9000 fresh [] (create 2 1)
+    -- 69 85 for the state, also before 69 E1, 69 82 and 6A 84
+    ∷ case 12 0x6985 fresh (onto 2) (delete 2)
+    ∷ case 12 0x6985 fresh (load 2 1 ++ setFallBack 2 ∷ enable 2 ∷ confirm 1 ∷ []) (disable 2)
+    ∷ case 12 0x6985 fresh (onto 1 ++ create 3 50 ∷ []) (enable 3)
+    ∷ case 12 0x6985 fresh (onto 0) (masterDelete 0 2)
+    ∷ case 12 0x6985 fresh (create 2 50 ∷ []) (Stored (aid 2) 51)
+    ∷ case 12 0x6985 fresh (create 2 50 ∷ Keyed (aid 2) ∷ []) (Finished (aid 2) 0)
+    ∷ case 16 0x9000 fresh (create 2 50 ∷ Keyed (aid 2) ∷ Stored (aid 2) 1 ∷ []) (Finished (aid 2) 0)
+    ∷ case 12 0x6985 fresh (create 2 50 ∷ []) (setFallBack 2)
+    ∷ case 12 0x6985 fresh (load 2 0) (Keyed (aid 2))
+    -- 69 E1
+    ∷ case 13 0x69E1 fresh (load 2 2) (delete 2)
+    ∷ case 16 0x9000 fresh (load 2 1) (delete 2)
+    ∷ case 13 0x69E1 fresh (onto 1) (disable 2)
+    ∷ case 16 0x9000 fresh (onto 2) (disable 2)
+    ∷ case 13 0x69E1 fresh (onto 1 ++ load 3 0) (enable 3)
+    ∷ case 16 0x9000 fresh (onto 0 ++ load 3 1) (enable 3)
+    -- 69 82
+    ∷ case 14 0x6982 fresh (load 2 2) (masterDelete 0 2)
+    ∷ case 14 0x6982 fresh (load 2 2) (masterDelete 2 2)
+    ∷ case 16 0x9000 fresh (load 2 2) (masterDelete 1 2)
+    -- 6A 84
+    ∷ case 15 0x6A84 fresh [] (create 2 901)
+    ∷ case 16 0x9000 fresh [] (create 2 900)
+    ∷ case 15 0x6A84 fresh (creates 2 (mostPlaces - 1)) (create (mostPlaces + 1) 1)
+    ∷ case 15 0x6A84 fresh (create 2 50 ∷ Keyed (aid 2) ∷ []) (Stored (aid 2) 51)
+    ∷ case 15 0x6A84 fresh (create 2 50 ∷ Keyed (aid 2) ∷ []) (Stored (aid 2) 4294967295)
+    ∷ case 16 0x9000 fresh (create 2 50 ∷ Keyed (aid 2) ∷ []) (Stored (aid 2) 50)
+    -- "Tick and lost are refused only by 6F 00"
+    ∷ case 1 0x6F00 zeroCard [] Lost
+    ∷ case 16 0x9000 quiet opening Lost
+    ∷ []
+
+-- the row that answers, and the word
+pub record Told : Type 0 where
+  pub row : ℕ
+  pub word : ℕ
+
+unfoldable pub allTold : List Case → List Told
+allTold [] = []
+allTold (x ∷ rest) =
+    record { row = rowMet (table (run (x .start) (x .before)) (x .call)); word = numberOf (step (run (x .start) (x .before)) (x .call) .status) }
+    ∷ allTold rest
+
+unfoldable pub allMeant : List Case → List Told
+allMeant [] = []
+allMeant (x ∷ rest) = record { row = x .row; word = x .word } ∷ allMeant rest
+
+abbrev pub StatusTable : Type 0
+StatusTable = allTold cases ≡ allMeant cases

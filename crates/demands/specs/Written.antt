@@ -1,0 +1,97 @@
+-- Document 01, 'Reading a command' and 'Steps': from written bytes to the answer, for every command. What a command asks is said here by
+-- what the grammar of its bytes writes; no reader of bytes stands in these statements.
+use Prim.Native.Nat.{ℕ, _≤_}
+use mathlib.Core.Path.{_≡_}
+use mathlib.Core.List.{List, [], _∷_}
+use mathlib.Core.Bool.{Bool, true, false}
+use Rattle.status.specs.StatusWords.{isDone}
+use Rattle.status.specs.declared.Status.{Status}
+use Rattle.status.specs.declared.Status.the-variants.{Unsound, BufferShort, LengthWrong, ClassWrong, InstructionWrong, ParametersWrong, DataWrong, StateWrong, NotHeld, PolicyForbids, VerdictWrong, NoRoom, Done}
+use Rattle.card.specs.Sound.{sound}
+use Rattle.card.specs.Answers.{outcome}
+use Rattle.card.specs.declared.Card.{Card}
+use Rattle.tlv.specs.Encoding.{Bytes}
+use Rattle.fields.specs.Grammar as field
+use Rattle.command.specs.Grammar as written
+use Rattle.command.specs.Grammar.{Wanted, Encodes}
+use Rattle.steps.specs.Asked.{Act.enable, Act.disable, Act.delete, Act.masterDelete, Act.setFallBack, Act.status, Asked, Asked.create, Asked.on, Asked.confirm, Asked.statusOfAll, Asked.getData}
+use Rattle.steps.specs.Steps.{askedWork}
+use Rattle.manager.specs.Calls.{Call.Command}
+use Rattle.manager.specs.Table.{leastBuffer}
+use Rattle.manager.specs.Manager.{step}
+
+abbrev pub storedAsks : field.Stored → Asked
+storedAsks (field.enable aid) = on aid enable
+storedAsks (field.disable aid) = on aid disable
+storedAsks (field.setFallBack aid) = on aid setFallBack
+storedAsks (field.confirmation number) = confirm number
+
+-- the token verdict is handed in beside the bytes
+abbrev pub deletedAsks : ℕ → field.Deleted → Asked
+deletedAsks verdict (field.delete aid) = on aid delete
+deletedAsks verdict (field.masterDelete aid) = on aid (masterDelete verdict)
+
+-- 4F is empty, for all, or an AID
+abbrev pub listedAsks : List ℕ → Bool → Bool → Asked
+listedAsks [] life shown = statusOfAll life shown
+listedAsks (first ∷ rest) life shown = on (first ∷ rest) (status life shown)
+
+-- what a written command asks of the card
+abbrev pub wantedAsks : ℕ → Wanted → Asked
+wantedAsks verdict (written.create v) = create (v .aid) (v .quota)
+wantedAsks verdict (written.storeData v) = storedAsks v
+wantedAsks verdict (written.deletion v) = deletedAsks verdict v
+wantedAsks verdict (written.getStatus v) = listedAsks (v .who) (v .life) (v .fallBackShown)
+wantedAsks verdict written.getData = getData
+
+-- the answer to a written command is the outcome of what was written: the card's rows of the table, the step and the response of that
+abbrev pub WrittenAnswered : Type 0
+WrittenAnswered =
+    (c : Card) (verdict : ℕ) (s : List ℕ) (room : ℕ) (w : Wanted)
+    → leastBuffer ≤ room
+    → Encodes (c .capacity) w s
+    → step c (Command verdict s room) ≡ outcome c (askedWork c (wantedAsks verdict w))
+
+-- an accepted command was so written
+abbrev pub AcceptedWritten : Type 0
+AcceptedWritten =
+    (c : Card) (verdict : ℕ) (s : List ℕ) (room : ℕ)
+    → Bytes s
+    → isDone (step c (Command verdict s room) .status) ≡ true
+    → (w : Wanted) × ((leastBuffer ≤ room) × Encodes (c .capacity) w s)
+
+-- a word that says that a command cannot be read
+abbrev pub ofReading : Status → Bool
+ofReading Unsound = false
+ofReading BufferShort = false
+ofReading LengthWrong = true
+ofReading ClassWrong = true
+ofReading InstructionWrong = true
+ofReading ParametersWrong = true
+ofReading DataWrong = true
+ofReading StateWrong = false
+ofReading NotHeld = false
+ofReading PolicyForbids = false
+ofReading VerdictWrong = false
+ofReading NoRoom = false
+ofReading Done = false
+
+-- what nobody writes so is refused by such a word
+abbrev pub UnwrittenRefused : Type 0
+UnwrittenRefused =
+    (c : Card) (verdict : ℕ) (s : List ℕ) (room : ℕ)
+    → Bytes s
+    → sound c ≡ true
+    → leastBuffer ≤ room
+    → ((w : Wanted) → Encodes (c .capacity) w s → ⊥)
+    → ofReading (step c (Command verdict s room) .status) ≡ true
+
+-- no bytes are written for two things
+abbrev pub OneMeaning : Type 0
+OneMeaning = (s : List ℕ) (capacity : ℕ) (v w : Wanted) → Encodes capacity v s → Encodes capacity w s → v ≡ w
+
+pub record Written : Type 0 where
+  pub written-answered : WrittenAnswered
+  pub accepted-written : AcceptedWritten
+  pub unwritten-refused : UnwrittenRefused
+  pub one-meaning : OneMeaning

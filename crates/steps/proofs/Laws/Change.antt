@@ -1,0 +1,81 @@
+-- Enable and disable: the rows are the law's conditions, and a DISABLED profile is enabled over the enabled one, which is one. Assumes nothing.
+use mathlib.Core.Path.{_≡_, refl, ap, subst, _∙_}
+use Prim.Native.Nat.{ℕ, _+_}
+use mathlib.Core.List.{[]}
+use mathlib.Core.Bool.{Bool, true, false, not, cond}
+use lib.Dec.{eqb}
+use borrow.Author.Tests.{eqb-true, eqb-false, eq-eqb, ne-eqb, not-true, not-false}
+use Rattle.status.specs.declared.Status.the-variants.{Done}
+use Rattle.isdp.specs.Sizes.{wait}
+use Rattle.isdp.specs.Aids.{noAid}
+use Rattle.isdp.specs.LifeCycle.{disabled, isEnabled}
+use Rattle.isdp.proofs.Bools.{and-l, and-r}
+use Rattle.places.proofs.Lives.{within}
+use Rattle.places.proofs.Seeks.{enabled-at}
+use Rattle.card.specs.Cards.{placeOf, profileOf, enabledPlace}
+use Rattle.card.specs.Clock.{nextOf, opened}
+use Rattle.card.specs.Sound.{sound}
+use Rattle.card.specs.Steps.{stepTo}
+use Rattle.card.specs.Ticks.{ticksByPhase}
+use Rattle.card.specs.Answers.{accepted, outcome}
+use Rattle.card.specs.declared.Card.{Card}
+use Rattle.card.specs.declared.Phase.the-variants.{Trial}
+use Rattle.card.proofs.Counts.{counted}
+use Rattle.card.proofs.Sounds.{Sound, parts, whole, nonzero}
+use Rattle.steps.specs.Asked.{Act.enable, Act.disable, Asked.on}
+use Rattle.steps.specs.Steps.{askedWork}
+use Rattle.steps.specs.Laws.Answer.{profileAt, Holds, Enabled, OnPlace}
+use Rattle.steps.specs.Laws.Change.{TrialEntered, MayEnable, EnableLaw, MayDisable, DisableLaw}
+use Rattle.steps.proofs.Kept.{quietly}
+use Rattle.steps.proofs.Opens.{only, opens, enabled-life, fallback-life}
+use Rattle.steps.proofs.Laws.Answer.{on-target, enters}
+
+-- the enabled place is one
+pub enabled-is : (c : Card) (e : ℕ) → Sound c → Enabled c e → enabledPlace c ≡ e
+enabled-is c e s v = only (c .places) (enabledPlace c) e (s .roles .one) (enabled-at (c .places) (s .roles .one)) (eq-eqb _ _ v)
+
+ticks-case : (b : Bool) → wait + wait + cond b 0 wait ≡ cond b 20 30
+ticks-case true = refl
+ticks-case false = refl
+
+trial : (c : Card) (t : ℕ) → sound c ≡ true → profileAt c t .life ≡ disabled → TrialEntered c (enabledPlace c) t (accepted Done (stepTo c (opened c t) noAid) [])
+unfolding ticksByPhase
+trial c t s d =
+    let w = parts c s in
+    enters c t (within (c .places) t (nonzero _ 30 d)) (enabledPlace c) (Trial (enabledPlace c) wait (nextOf (c .last))) (cond (eqb (enabledPlace c) (c .fallback)) 20 30) w (enabled-life c w)
+    (counted (opened c t) (whole _ (opens c t w d)) ∙ ticks-case (eqb (enabledPlace c) (c .fallback)))
+
+pub enable-law : EnableLaw
+enable-law c aid s e v =
+    subst (λ (i : ℕ). OnPlace (Holds c aid) (MayEnable c i) (TrialEntered c i) (outcome c (askedWork c (on aid enable)))) (enabled-is c e (parts c s) v)
+    (on-target c aid (askedWork c (on aid enable)) (MayEnable c (enabledPlace c)) (TrialEntered c (enabledPlace c)) s refl refl
+    (λ p. (
+      not-false _ (p .1 .0),
+      record { none-open = quietly (c .phase) (p .0); is-disabled = eqb-true _ _ (not-false _ (p .1 .1 .1 .0)); enabled-allows = p .1 .1 .1 .1 .0 },
+    ))
+    (λ h m. (
+      (rw (m .none-open), (ap not (h .held-there), (refl, (rw (m .is-disabled), (m .enabled-allows, (refl, (refl, tt))))))),
+      trial c (placeOf c aid) s (m .is-disabled),
+    )))
+
+pub disable-law : DisableLaw
+disable-law c aid s =
+    let t = placeOf c aid in
+    let w = parts c s in
+    on-target c aid (askedWork c (on aid disable)) (MayDisable c) (λ i. TrialEntered c i (c .fallback)) s refl refl
+    (λ p.
+    let h = not-false _ (p .1 .1 .1 .0) in (
+      not-false _ (p .1 .0),
+      record {
+        none-open = quietly (c .phase) (p .0);
+        is-enabled = eqb-true _ _ (and-l (isEnabled (profileOf c aid)) _ h);
+        not-fallback = eqb-false _ _ (not-true _ (and-r (isEnabled (profileOf c aid)) _ h));
+        allows = p .1 .1 .1 .1 .0;
+      },
+    ))
+    (λ h m.
+    let n = ne-eqb t (c .fallback) (m .not-fallback) in (
+      (rw (m .none-open), (ap not (h .held-there), (refl, (rw (m .is-enabled, n), (m .allows, (refl, (refl, tt))))))),
+      subst (λ (i : ℕ). TrialEntered c i (c .fallback) (accepted Done (stepTo c (opened c (c .fallback)) noAid) [])) (enabled-is c t w (m .is-enabled))
+          (trial c (c .fallback) s (fallback-life c t w (eq-eqb _ _ (m .is-enabled)) n)),
+    ))

@@ -1,0 +1,118 @@
+-- Keyed, stored and finished: a held AID has 5 to 16 bytes, so that the rows are the law's conditions; the profile was not enabled and is
+-- not, so the clock runs on. Assumes nothing.
+use mathlib.Core.Path.{_≡_, refl, sym, ap, _∙_}
+use Prim.Native.Nat.{ℕ, _+_, _≤_, _<_}
+use native.Mathlib.Omega.{arith}
+use mathlib.Core.List.{List, []}
+use mathlib.Core.Bool.{true, false, not}
+use lib.ListN.{length, take, set, length-take}
+use lib.Dec.{eqb}
+use borrow.Author.Tests.{eqb-true, leb-true, le-leb, ltb-true, lt-ltb, not-false}
+use Rattle.status.specs.declared.Status.the-variants.{Done}
+use Rattle.isdp.specs.Sizes.{leastAid, mostAid}
+use Rattle.isdp.specs.Aids.{aidOk, aidOf, noAid}
+use Rattle.isdp.specs.LifeCycle.{selectable, personalized, disabled, enabled, isEnabled, withLife, withUsed, withPolicy, finish}
+use Rattle.isdp.specs.declared.Isdp.{Isdp}
+use Rattle.isdp.proofs.Bools.{and-l, and-r}
+use Rattle.isdp.proofs.Placed.{Placed}
+use Rattle.places.specs.Places.{at}
+use Rattle.places.proofs.Sets.{set-enabled}
+use Rattle.card.specs.Cards.{placeOf, profileOf, withPlaces}
+use Rattle.card.specs.Sound.{sound}
+use Rattle.card.specs.Steps.{stepTo}
+use Rattle.card.specs.Ticks.{ticksIn, ticksByPhase}
+use Rattle.card.specs.Answers.{accepted}
+use Rattle.card.specs.declared.Card.{Card}
+use Rattle.card.specs.declared.Phase.{Phase}
+use Rattle.card.specs.declared.Phase.the-variants.{Quiet, Trial, Back, Fallen}
+use Rattle.card.proofs.Counts.{counted}
+use Rattle.card.proofs.Sounds.{Sound, parts, whole}
+use Rattle.steps.specs.Asked.{Act.keyed, Act.stored, Act.finished}
+use Rattle.steps.specs.Steps.{innerWork}
+use Rattle.steps.proofs.Inner.{parted, keyed-at, stored-at, finished-at}
+use Rattle.steps.specs.Laws.Answer.{profileAt, Holds}
+use Rattle.steps.specs.Laws.Loading.{Loaded, MayStore, MayFinish, KeyedLaw, StoredLaw, FinishedLaw}
+use Rattle.steps.proofs.Laws.Places.{held-within}
+use Rattle.steps.proofs.Laws.Answer.{on-target, rewrites}
+
+-- the clock looks at no place but whether the fall-back is enabled
+clock-case : (c : Card) (l : List Isdp) (p : Phase) → isEnabled (at l (c .fallback)) ≡ isEnabled (profileAt c (c .fallback)) → ticksIn p (withPlaces c l) ≡ ticksIn p c
+clock-case c l Quiet e = refl
+clock-case c l (Trial previous left n) e = refl
+clock-case c l (Back left n) e = rw e
+clock-case c l (Fallen left n) e = refl
+
+module _ (c : Card) (t : ℕ) (x : Isdp) (held-in : t < length (c .places)) (w : isEnabled x ≡ isEnabled (profileAt c t)) (s : Sound (withPlaces c (set (c .places) t x))) where
+  clock : ticksByPhase (withPlaces c (set (c .places) t x)) ≡ ticksByPhase c
+  unfolding ticksByPhase
+  clock = clock-case c (set (c .places) t x) (c .phase) (set-enabled x (c .places) t w (c .fallback))
+
+  loads : Loaded c (λ i. x) t (accepted Done (stepTo c (withPlaces c (set (c .places) t x)) noAid) [])
+  loads = rewrites c t x [] (ticksByPhase c) held-in (counted (withPlaces c (set (c .places) t x)) (whole _ s) ∙ clock)
+
+-- the AID of a place that keeps the sizes
+aid-length : (n : ℕ) (l : List ℕ) → n ≤ length l → length (take n l) ≡ n
+aid-length n l h = length-take n l ∙ omega arith
+
+sized : (k : ℕ) (p : Isdp) → Placed k p → aidOk (aidOf p) ≡ true
+sized k p h =
+    let a = leb-true leastAid (p .aid .len) (h .five) in
+    let b = leb-true (p .aid .len) mostAid (h .sixteen) in
+    let n = h .wide in
+    rw (aid-length (p .aid .len) (p .aid .bytes) (omega arith), h .five, h .sixteen)
+
+module _ (c : Card) (aid : List ℕ) (s : sound c ≡ true) where
+  abbrev t : ℕ
+  t = placeOf c aid
+
+  aid-ok : (v : ℕ) → Holds c aid t → profileAt c t .life ≡ v → eqb v 0 ≡ false → aidOk aid ≡ true
+  aid-ok v h e n = rw (← (h .named)) (sized (c .capacity) (profileAt c t) (parted c t v (parts c s) e n))
+
+  inside : Holds c aid t → t < length (c .places)
+  inside h = held-within (c .places) t (h .held-there)
+
+  off : (v : ℕ) → profileAt c t .life ≡ v → eqb v enabled ≡ false → isEnabled (profileAt c t) ≡ false
+  off v e n = rw e n
+
+pub keyed-law : KeyedLaw
+keyed-law c aid s =
+    let i = placeOf c aid in
+    on-target c aid (innerWork c aid keyed) (λ j. profileAt c j .life ≡ selectable) (Loaded c (λ j. withLife (profileAt c j) personalized)) s refl refl
+    (λ p. (not-false _ (p .1 .1 .0), eqb-true _ _ (not-false _ (p .1 .1 .1 .1 .0))))
+    (λ h m. (
+      (ap not (aid-ok c aid s selectable h m refl), (refl, (ap not (h .held-there), (refl, (rw m, (refl, (refl, (refl, tt)))))))),
+      loads c i (withLife (profileAt c i) personalized) (inside c aid s h) (sym (off c aid s selectable m refl)) (keyed-at c i (parts c s) m),
+    ))
+
+pub stored-law : StoredLaw
+stored-law c aid n s =
+    let i = placeOf c aid in
+    let p = profileOf c aid in
+    on-target c aid (innerWork c aid (stored n)) (MayStore c n) (Loaded c (λ j. withUsed (profileAt c j) (profileAt c j .used + n))) s refl refl
+    (λ r. (
+      not-false _ (r .1 .1 .0),
+      record { is-personalized = eqb-true _ _ (not-false _ (r .1 .1 .1 .1 .0)); fits = leb-true (p .used + n) (p .quota) (not-false _ (r .1 .1 .1 .1 .1 .1 .1 .0)) },
+    ))
+    (λ h m.
+    let e = m .is-personalized in
+    let f = le-leb (p .used + n) (p .quota) (m .fits) in (
+      (ap not (aid-ok c aid s personalized h e refl), (refl, (ap not (h .held-there), (refl, (rw e, (refl, (refl, (ap not f, tt)))))))),
+      loads c i (withUsed p (p .used + n)) (inside c aid s h) refl (stored-at c i (p .used + n) (parts c s) e f),
+    ))
+
+pub finished-law : FinishedLaw
+finished-law c aid policy s =
+    let i = placeOf c aid in
+    let p = profileOf c aid in
+    on-target c aid (innerWork c aid (finished policy)) (MayFinish c policy) (Loaded c (λ j. withPolicy (withLife (profileAt c j) disabled) policy)) s refl refl
+    (λ r.
+    let a = not-false _ (r .1 .1 .1 .1 .0) in
+    let k = ltb-true 0 (p .used) (and-r (eqb (p .life) personalized) _ a) in (
+      not-false _ (r .1 .1 .0),
+      record { legal = and-r (aidOk aid) _ (not-false _ (r .0)); is-personalized = eqb-true _ _ (and-l (eqb (p .life) personalized) _ a); used-over-0 = k },
+    ))
+    (λ h m.
+    let e = m .is-personalized in (
+      (rw (aid-ok c aid s personalized h e refl, m .legal), (refl, (ap not (h .held-there), (refl, (rw (e, lt-ltb 0 (p .used) (m .used-over-0)), (refl, (refl, (refl, tt)))))))),
+      loads c i (finish p policy) (inside c aid s h) (sym (off c aid s personalized e refl)) (finished-at c i policy (parts c s) e (m .legal)),
+    ))

@@ -1,0 +1,34 @@
+-- Each by computing.
+use mathlib.Core.Path.{refl}
+use Rattle.status.specs.Rows.{wordOf}
+use Rattle.byte_string.specs.Bytes.{sameBytes}
+use Rattle.isdp.specs.Aids.{padded}
+use Rattle.isdp.specs.Place.{isFor, clash, zeros, placeOk}
+use Rattle.places.specs.Places.{seek, quotas, allOf, anyOf, countOf, distinct}
+use Rattle.card.specs.Sound.{phaseOk, sound}
+use Rattle.card.specs.Answers.{accepted}
+use Rattle.steps.specs.Laws.Met.{LawsMet}
+
+pub laws-met : LawsMet
+unfolding wordOf sameBytes padded isFor clash zeros placeOk seek quotas allOf anyOf countOf distinct phaseOk sound accepted
+laws-met =
+    record {
+      quiet-sound = refl;
+      away-sound = refl;
+      trial-sound = (refl, refl);
+      back-sound = (refl, refl, refl);
+      fallen-sound = (refl, refl);
+      creates = refl;
+      keys = refl;
+      stores = refl;
+      finishes = refl;
+      enables = refl;
+      disables = refl;
+      deletes = refl;
+      master-deletes = refl;
+      sets-fall-back = refl;
+      confirms-trial = refl;
+      confirms-back = refl;
+      confirms-fallen = refl;
+      tells-status = λ life mark. refl;
+    }

@@ -1,0 +1,66 @@
+-- GET STATUS and GET DATA: no row refuses them but "target AID not held", and the rows of the response, one after the other, are those of
+-- the places from the lowest. By induction over the places. Assumes nothing.
+use mathlib.Core.Path.{_≡_, refl, sym, ap, subst, _∙_}
+use Prim.Native.Nat.{ℕ, suc, _+_}
+use native.Mathlib.Omega.{arith}
+use mathlib.Core.List.{List, [], _∷_, _++_, append-assoc, append-nil}
+use mathlib.Core.Bool.{Bool, true, not, cond}
+use lib.ListN.{length}
+use borrow.Author.Tests.{not-false}
+use Rattle.isdp.specs.Place.{held}
+use Rattle.isdp.specs.declared.Isdp.{Isdp}
+use Rattle.places.specs.Places.{at}
+use Rattle.card.specs.Cards.{placeOf}
+use Rattle.card.specs.declared.Card.{Card}
+use Rattle.responses.specs.Responses.{markOf, statusBody, statusRow, rowOf, rowsFrom, statusResponse, oneStatus, dataResponse}
+use Rattle.steps.specs.Asked.{Act.status, Asked.on, Asked.statusOfAll, Asked.getData}
+use Rattle.steps.specs.Steps.{askedWork}
+use Rattle.steps.specs.Laws.Answer.{profileAt, Still}
+use Rattle.steps.specs.Laws.Reports.{statusAt, statusBelow, StatusOfAllLaw, StatusOfOneLaw, GetDataLaw}
+use Rattle.steps.proofs.Laws.Answer.{on-target, step-taken, still}
+
+-- the row of one place
+row-is : (c : Card) (life mark : Bool) (k : ℕ) → rowOf (profileAt c k) (markOf (c .fallback) k) life mark ≡ cond (held (profileAt c k)) (statusAt c life mark k) []
+unfolding rowOf statusRow statusBody
+row-is c life mark k = refl
+
+-- the rows of the places from one on, after those below it
+from-lowest : (c : Card) (life mark : Bool) (ps : List Isdp) (k : ℕ) → ((i : ℕ) → at ps i ≡ profileAt c (k + i)) → statusBelow c life mark k ++ rowsFrom (c .fallback) k life mark ps ≡ statusBelow c life mark (k + length ps)
+unfolding rowsFrom statusBelow
+from-lowest c life mark [] k f = let e : k + 0 ≡ k = omega arith in rw (e, append-nil)
+from-lowest c life mark (p ∷ ps) k f =
+    let e : k + suc (length ps) ≡ suc k + length ps = omega arith in
+    let z : k + 0 ≡ k = omega arith in
+    let here : p ≡ profileAt c k = f 0 ∙ ap (profileAt c) z in
+    let rest = from-lowest c life mark ps (suc k) (λ i. f (suc i) ∙ ap (profileAt c) (omega arith)) in
+    rw (e, ← rest, here, row-is c life mark k, append-assoc)
+
+all-bytes : (c : Card) (life mark : Bool) → statusResponse c life mark ≡ statusBelow c life mark (length (c .places))
+unfolding statusResponse statusBelow
+all-bytes c life mark =
+    let e : 0 + length (c .places) ≡ length (c .places) = omega arith in
+    from-lowest c life mark (c .places) 0 (λ i. ap (profileAt c) (omega arith)) ∙ ap (statusBelow c life mark) e
+
+one-bytes : (c : Card) (t : ℕ) (life mark : Bool) → held (profileAt c t) ≡ true → oneStatus c t life mark ≡ statusAt c life mark t
+unfolding oneStatus
+one-bytes c t life mark h = row-is c life mark t ∙ rw h
+
+pub status-of-all-law : StatusOfAllLaw
+status-of-all-law c life mark s =
+    subst (Still c (statusBelow c life mark (length (c .places)))) (sym (step-taken c (askedWork c (statusOfAll life mark)) s refl (refl, (refl, (refl, (refl, (refl, (refl, (refl, tt)))))))))
+    (rw (all-bytes c life mark) (still c (statusBelow c life mark (length (c .places))) s))
+
+pub status-of-one-law : StatusOfOneLaw
+status-of-one-law c aid life mark s =
+    on-target c aid (askedWork c (on aid (status life mark))) (λ t. Unit {0}) (λ t. Still c (statusAt c life mark t)) s refl refl
+    (λ p. (not-false _ (p .1 .0), tt))
+    (λ h m. (
+      (refl, (ap not (h .held-there), (refl, (refl, (refl, (refl, (refl, tt))))))),
+      rw (one-bytes c (placeOf c aid) life mark (h .held-there)) (still c (statusAt c life mark (placeOf c aid)) s),
+    ))
+
+pub get-data-law : GetDataLaw
+unfolding dataResponse
+get-data-law c s =
+    subst (Still c _) (sym (step-taken c (askedWork c getData) s refl (refl, (refl, (refl, (refl, (refl, (refl, (refl, tt)))))))))
+    (still c (dataResponse c) s)

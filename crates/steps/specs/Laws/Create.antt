@@ -1,0 +1,39 @@
+-- Document 01, 'Steps': "Create: the lowest free place, SELECTABLE, used 0, empty policy. Freed places and room are used again".
+use Prim.Native.Nat.{ℕ, _+_, _≤_, _<_}
+use mathlib.Core.Path.{_≡_}
+use mathlib.Core.List.{List, [], _∷_}
+use mathlib.Core.Bool.{true, false}
+use lib.ListN.{length}
+use Rattle.isdp.specs.LifeCycle.{selectable}
+use Rattle.isdp.specs.Place.{held, made}
+use Rattle.places.specs.Places.{quotas}
+use Rattle.card.specs.Sound.{sound}
+use Rattle.card.specs.Answers.{Outcome, outcome}
+use Rattle.card.specs.declared.Card.{Card}
+use Rattle.card.specs.declared.Phase.the-variants.{Quiet}
+use Rattle.steps.specs.Asked.{Asked.create}
+use Rattle.steps.specs.Steps.{askedWork}
+use Rattle.steps.specs.Laws.Answer.{profileAt, Holds, Answers, OnPlace, onlyAt, replaced}
+
+-- place t is the lowest free one
+pub record LowestFree (c : Card) (t : ℕ) : Type 0 where
+  pub a-place : t < length (c .places)
+  pub free : held (profileAt c t) ≡ false
+  pub lowest : (i : ℕ) → i < t → held (profileAt c i) ≡ true
+
+pub record MayCreate (c : Card) (aid : List ℕ) (quota : ℕ) : Type 0 where
+  pub none-open : c .phase ≡ Quiet
+  pub not-held : (i : ℕ) → Holds c aid i → ⊥
+  pub room : quotas (c .places) + quota ≤ c .capacity
+
+-- a response of one byte 00 (000, 4.1.1.1)
+abbrev pub CreateAnswers : Card → List ℕ → ℕ → Outcome → Type 0
+CreateAnswers c aid quota =
+    OnPlace (LowestFree c) (λ t. MayCreate c aid quota)
+    (λ t. Answers c (replaced c (onlyAt c t (made aid selectable quota 0)) (0x00 ∷ []) 0))
+
+abbrev pub CreateLaw : Type 0
+CreateLaw =
+    (c : Card) (aid : List ℕ) (quota : ℕ)
+    → sound c ≡ true
+    → CreateAnswers c aid quota (outcome c (askedWork c (create aid quota)))

@@ -1,0 +1,47 @@
+-- Document 01, 'Steps': "Delete: target DISABLED and not fall-back, else 69 85; 69 E1 if it forbids deletion. Master delete is the same
+-- without policy, with the token verdict. Response of both: 00."
+use Prim.Native.Nat.{ℕ}
+use mathlib.Core.Path.{_≡_}
+use mathlib.Core.List.{List, [], _∷_}
+use mathlib.Core.Bool.{true, false}
+use Rattle.isdp.specs.LifeCycle.{disabled}
+use Rattle.isdp.specs.Policy.{forbidsDeletion}
+use Rattle.isdp.specs.Place.{vacant}
+use Rattle.card.specs.Sound.{sound}
+use Rattle.card.specs.Answers.{Outcome, outcome}
+use Rattle.card.specs.declared.Card.{Card}
+use Rattle.card.specs.declared.Phase.the-variants.{Quiet}
+use Rattle.steps.specs.Asked.{Act.delete, Act.masterDelete, Asked.on}
+use Rattle.steps.specs.Steps.{askedWork}
+use Rattle.steps.specs.Laws.Answer.{profileAt, Holds, Answers, OnPlace, onlyAt, replaced}
+
+pub record MayDelete (c : Card) (t : ℕ) : Type 0 where
+  pub none-open : c .phase ≡ Quiet
+  pub is-disabled : profileAt c t .life ≡ disabled
+  pub not-fallback : t ≡ c .fallback → ⊥
+  pub allows : forbidsDeletion (profileAt c t .policy) ≡ false
+
+pub record MayMasterDelete (c : Card) (verdict t : ℕ) : Type 0 where
+  pub none-open : c .phase ≡ Quiet
+  pub is-disabled : profileAt c t .life ≡ disabled
+  pub not-fallback : t ≡ c .fallback → ⊥
+  pub verified : verdict ≡ 1
+
+-- the place is no longer held
+abbrev pub Deleted : Card → ℕ → Outcome → Type 0
+Deleted c t = Answers c (replaced c (onlyAt c t vacant) (0x00 ∷ []) 0)
+
+abbrev pub DeleteAnswers : Card → List ℕ → Outcome → Type 0
+DeleteAnswers c aid = OnPlace (Holds c aid) (MayDelete c) (Deleted c)
+
+abbrev pub MasterDeleteAnswers : Card → List ℕ → ℕ → Outcome → Type 0
+MasterDeleteAnswers c aid verdict = OnPlace (Holds c aid) (MayMasterDelete c verdict) (Deleted c)
+
+abbrev pub DeleteLaw : Type 0
+DeleteLaw = (c : Card) (aid : List ℕ) → sound c ≡ true → DeleteAnswers c aid (outcome c (askedWork c (on aid delete)))
+
+abbrev pub MasterDeleteLaw : Type 0
+MasterDeleteLaw =
+    (c : Card) (aid : List ℕ) (verdict : ℕ)
+    → sound c ≡ true
+    → MasterDeleteAnswers c aid verdict (outcome c (askedWork c (on aid (masterDelete verdict))))

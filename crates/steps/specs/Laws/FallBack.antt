@@ -1,0 +1,39 @@
+-- Document 01, 'Steps': "Set fall-back: target DISABLED or ENABLED, else 69 85. Naming the holder changes nothing, answer 90 00."
+use Prim.Native.Nat.{ℕ}
+use mathlib.Core.Path.{_≡_}
+use mathlib.Core.List.{List, []}
+use mathlib.Core.Bool.{true}
+use Rattle.isdp.specs.LifeCycle.{isFinished}
+use Rattle.card.specs.Sound.{sound}
+use Rattle.card.specs.Notifications.{silent}
+use Rattle.card.specs.Answers.{Outcome, outcome}
+use Rattle.card.specs.declared.Card.{Card}
+use Rattle.card.specs.declared.Phase.the-variants.{Quiet}
+use Rattle.steps.specs.Asked.{Act.setFallBack, Asked.on}
+use Rattle.steps.specs.Steps.{askedWork}
+use Rattle.steps.specs.Laws.Answer.{profileAt, Holds, Result, Answers, Still, OnPlace}
+
+pub record MayBeFallBack (c : Card) (t : ℕ) : Type 0 where
+  pub none-open : c .phase ≡ Quiet
+  pub disabled-or-enabled : isFinished (profileAt c t .life) ≡ true
+
+abbrev pub fallsBackTo : Card → ℕ → Result
+fallsBackTo c t =
+    record {
+      last = c .last;
+      fallback = t;
+      phase = c .phase;
+      place = profileAt c;
+      response = [];
+      notification = silent;
+      ticks = 0;
+    }
+
+-- any target, and the holder
+pub record SetFallBackAnswers (c : Card) (aid : List ℕ) (o : Outcome) : Type 0 where
+  pub target : OnPlace (Holds c aid) (MayBeFallBack c) (λ t. Answers c (fallsBackTo c t)) o
+  pub holder : c .phase ≡ Quiet → Holds c aid (c .fallback) → Still c [] o
+
+abbrev pub SetFallBackLaw : Type 0
+SetFallBackLaw =
+    (c : Card) (aid : List ℕ) → sound c ≡ true → SetFallBackAnswers c aid (outcome c (askedWork c (on aid setFallBack)))

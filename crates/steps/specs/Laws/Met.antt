@@ -1,0 +1,69 @@
+-- The laws are not empty: sound cards in every phase, and on them each call that can be refused is accepted.
+use Prim.Native.Nat.{ℕ}
+use mathlib.Core.Path.{_≡_}
+use mathlib.Core.List.{List, [], _∷_}
+use mathlib.Core.Bool.{Bool, true}
+use lib.ListN.{replicate}
+use Rattle.status.specs.declared.Status.the-variants.{Done}
+use Rattle.isdp.specs.Sizes.{eidSize}
+use Rattle.isdp.specs.LifeCycle.{selectable, personalized, disabled, enabled}
+use Rattle.isdp.specs.Place.{vacant, made}
+use Rattle.card.specs.Cards.{cardWith}
+use Rattle.card.specs.Sound.{sound}
+use Rattle.card.specs.Answers.{outcome}
+use Rattle.card.specs.declared.Card.{Card}
+use Rattle.card.specs.declared.Phase.{Phase}
+use Rattle.card.specs.declared.Phase.the-variants.{Quiet, Trial, Back, Fallen}
+use Rattle.steps.specs.Asked.{Act, Act.enable, Act.disable, Act.delete, Act.masterDelete, Act.setFallBack, Act.status, Act.keyed, Act.stored, Act.finished, Asked, Asked.create, Asked.on, Asked.confirm}
+use Rattle.steps.specs.Steps.{askedWork, innerWork}
+
+abbrev pub aidEnding : ℕ → List ℕ
+aidEnding n = 0xA0 ∷ 0x00 ∷ 0x00 ∷ 0x00 ∷ n ∷ []
+
+-- 01, the fall-back, and 02 in these states, 03 SELECTABLE, 04 PERSONALIZED with 10 bytes used
+abbrev pub sample : ℕ → ℕ → ℕ → Phase → Card
+sample first second last phase =
+    cardWith (replicate eidSize 0) 1000 0 last 0 phase
+    (made (aidEnding 1) first 100 10
+    ∷ made (aidEnding 2) second 100 10
+    ∷ made (aidEnding 3) selectable 100 0
+    ∷ made (aidEnding 4) personalized 100 10
+    ∷ vacant
+    ∷ vacant
+    ∷ vacant
+    ∷ vacant
+    ∷ [])
+
+-- the fall-back is enabled, or 02 is
+abbrev pub on01 : ℕ → Phase → Card
+on01 last phase = sample enabled disabled last phase
+
+abbrev pub on02 : ℕ → Phase → Card
+on02 last phase = sample disabled enabled last phase
+
+abbrev pub Accepts : Card → Asked → Type 0
+Accepts c a = outcome c (askedWork c a) .status ≡ Done
+
+abbrev pub AcceptsInner : Card → ℕ → Act → Type 0
+AcceptsInner c n act = outcome c (innerWork c (aidEnding n) act) .status ≡ Done
+
+pub record LawsMet : Type 0 where
+  -- every phase, with ticks left and with the last one
+  pub quiet-sound : sound (on01 0 Quiet) ≡ true
+  pub away-sound : sound (on02 0 Quiet) ≡ true
+  pub trial-sound : (sound (on02 1 (Trial 0 10 1)) ≡ true) × (sound (on02 1 (Trial 0 1 1)) ≡ true)
+  pub back-sound : (sound (on01 2 (Back 10 2)) ≡ true) × (sound (on01 2 (Back 1 2)) ≡ true) × (sound (on02 2 (Back 1 2)) ≡ true)
+  pub fallen-sound : (sound (on01 3 (Fallen 10 3)) ≡ true) × (sound (on01 3 (Fallen 1 3)) ≡ true)
+  pub creates : Accepts (on01 0 Quiet) (create (aidEnding 5) 600)
+  pub keys : AcceptsInner (on01 0 Quiet) 3 keyed
+  pub stores : AcceptsInner (on01 0 Quiet) 4 (stored 90)
+  pub finishes : AcceptsInner (on01 0 Quiet) 4 (finished 0)
+  pub enables : Accepts (on01 0 Quiet) (on (aidEnding 2) enable)
+  pub disables : Accepts (on02 0 Quiet) (on (aidEnding 2) disable)
+  pub deletes : Accepts (on01 0 Quiet) (on (aidEnding 2) delete)
+  pub master-deletes : Accepts (on01 0 Quiet) (on (aidEnding 2) (masterDelete 1))
+  pub sets-fall-back : Accepts (on01 0 Quiet) (on (aidEnding 2) setFallBack)
+  pub confirms-trial : Accepts (on02 1 (Trial 0 10 1)) (confirm 1)
+  pub confirms-back : Accepts (on01 2 (Back 10 2)) (confirm 2)
+  pub confirms-fallen : Accepts (on01 3 (Fallen 10 3)) (confirm 3)
+  pub tells-status : (life mark : Bool) → Accepts (on01 0 Quiet) (on (aidEnding 2) (status life mark))

@@ -1,0 +1,67 @@
+-- Document 01, 'Responses': "GET STATUS: for each place from the lowest, E3 holding 4F, 9F70 and 53 (..; 53 is 01 for the fall-back, else 00).
+-- With 5C, 4F is always there and the others if listed. GET DATA: FF21 holding 81 (number of ISD-Ps, 1 byte), 82 (free, 4 bytes), 83
+-- (volatile figure, 4 bytes)". They change nothing, and an open change does not refuse them.
+use Prim.Native.Nat.{ℕ, zero, suc, _-_}
+use mathlib.Core.Path.{_≡_}
+use mathlib.Core.List.{List, [], _∷_, _++_}
+use mathlib.Core.Bool.{Bool, true, cond}
+use lib.ListN.{length}
+use lib.Dec.{eqb}
+use Rattle.isdp.specs.Aids.{aidOf}
+use Rattle.isdp.specs.Place.{held}
+use Rattle.places.specs.Places.{countOf, quotas}
+use Rattle.card.specs.Sound.{sound}
+use Rattle.card.specs.Answers.{Outcome, outcome}
+use Rattle.card.specs.declared.Card.{Card}
+use Rattle.responses.specs.Responses.{fourBytes}
+use Rattle.steps.specs.Asked.{Act.status, Asked.on, Asked.statusOfAll, Asked.getData}
+use Rattle.steps.specs.Steps.{askedWork}
+use Rattle.steps.specs.Laws.Answer.{profileAt, Holds, element, Still, OnPlace}
+
+-- "53 is 01 for the fall-back, else 00"
+abbrev pub fallBackMark : Card → ℕ → ℕ
+fallBackMark c i = cond (eqb i (c .fallback)) 0x01 0x00
+
+-- of the profile at place i: is 9F70 listed, is 53 listed
+abbrev pub statusAt : Card → Bool → Bool → ℕ → List ℕ
+statusAt c life mark i =
+    element 0xE3
+    (element 0x4F (aidOf (profileAt c i))
+    ++ (cond life (0x9F ∷ 0x70 ∷ 0x01 ∷ profileAt c i .life ∷ []) []
+    ++ cond mark (0x53 ∷ 0x01 ∷ fallBackMark c i ∷ []) []))
+
+-- the places below this one, from the lowest; a place that is not held says nothing
+unfoldable pub statusBelow : Card → Bool → Bool → ℕ → List ℕ
+statusBelow c life mark zero = []
+statusBelow c life mark (suc i) =
+    statusBelow c life mark i ++ cond (held (profileAt c i)) (statusAt c life mark i) []
+
+abbrev pub StatusOfAllAnswers : Card → Bool → Bool → Outcome → Type 0
+StatusOfAllAnswers c life mark = Still c (statusBelow c life mark (length (c .places)))
+
+-- accepted exactly where the AID is held
+abbrev pub StatusOfOneAnswers : Card → List ℕ → Bool → Bool → Outcome → Type 0
+StatusOfOneAnswers c aid life mark = OnPlace (Holds c aid) (λ t. Unit {0}) (λ t. Still c (statusAt c life mark t))
+
+abbrev pub GetDataAnswers : Card → Outcome → Type 0
+GetDataAnswers c =
+    Still c
+    (0xFF ∷ 0x21 ∷ 0x0F
+    ∷ 0x81 ∷ 1 ∷ countOf held (c .places)
+    ∷ 0x82 ∷ 4 ∷ fourBytes (c .capacity - quotas (c .places))
+    ++ (0x83 ∷ 4 ∷ fourBytes (c .volatile)))
+
+abbrev pub StatusOfAllLaw : Type 0
+StatusOfAllLaw =
+    (c : Card) (life mark : Bool)
+    → sound c ≡ true
+    → StatusOfAllAnswers c life mark (outcome c (askedWork c (statusOfAll life mark)))
+
+abbrev pub StatusOfOneLaw : Type 0
+StatusOfOneLaw =
+    (c : Card) (aid : List ℕ) (life mark : Bool)
+    → sound c ≡ true
+    → StatusOfOneAnswers c aid life mark (outcome c (askedWork c (on aid (status life mark))))
+
+abbrev pub GetDataLaw : Type 0
+GetDataLaw = (c : Card) → sound c ≡ true → GetDataAnswers c (outcome c (askedWork c getData))
