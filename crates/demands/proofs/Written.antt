@@ -26,9 +26,9 @@ use Rattle.command.specs.Grammar.{Wanted, Encodes, wantedOf, readAs}
 use Rattle.command.specs.Reading.{readOf}
 use Rattle.command.specs.Framing.{lengthWrong, classWrong, instructionWrong, parametersWrong, shapeWrong}
 use Rattle.command.specs.Requests.{dataWrong}
-use Rattle.command.specs.Places.{Placed, RequestIn}
-use Rattle.command.specs.declared.request.Request.{Request}
-use Rattle.command.specs.declared.request.Request.the-variants as request
+use Rattle.fields.specs.Places.{Placed, RequestIn}
+use Rattle.fields.specs.declared.request.Request.{Request}
+use Rattle.fields.specs.declared.request.Request.the-variants as request
 use Rattle.command.specs.declared.Reading.{Reading}
 use Rattle.command.specs.declared.Reading.the-variants as reading
 use Rattle.command.proofs.Answers.{passes-done, done-read, refused-word}
