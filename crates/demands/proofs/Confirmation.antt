@@ -5,8 +5,6 @@ use Prim.Native.Nat.{ℕ}
 use mathlib.Core.Bool.{Bool, true, false, not, cond, false≢true}
 use Rattle.status.specs.StatusWords.{isDone}
 use Rattle.status.specs.Rows.{wordOf}
-use Rattle.steps.specs.Steps.{successOf}
-use Rattle.steps.proofs.Rows.{Passed}
 use Rattle.status.specs.declared.Status.the-variants.{StateWrong, NotHeld, Done}
 use Rattle.isdp.proofs.Bools.{and-l, and-r}
 use Rattle.places.proofs.Seeks.{enabled-at}
@@ -18,6 +16,8 @@ use Rattle.card.specs.declared.Phase.{Phase}
 use Rattle.card.specs.declared.Phase.the-variants.{Quiet, Trial, Back, Fallen}
 use Rattle.fields.specs.Grammar.{confirmation}
 use Rattle.command.specs.Grammar.{storeData}
+use Rattle.steps.specs.Steps.{successOf}
+use Rattle.steps.proofs.Rows.{Passed}
 use Rattle.steps.specs.Asked.{Asked, Asked.unread, Asked.create, Asked.on, Asked.confirm, Asked.statusOfAll, Asked.getData, Asked.tick, Asked.lost}
 use Rattle.steps.specs.Conditions.{cardRows}
 use Rattle.manager.specs.Calls.{Call.Command, asked}

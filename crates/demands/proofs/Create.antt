@@ -19,10 +19,10 @@ use Rattle.places.proofs.Seeks.{past, seek-below}
 use Rattle.card.specs.Cards.{isQuiet, profileOf, freePlace, freeIn}
 use Rattle.card.specs.Answers.{Outcome}
 use Rattle.card.specs.declared.Card.{Card}
-use Rattle.install.specs.Grammar.{Created}
-use Rattle.command.specs.Grammar as written
 use Rattle.card.proofs.Sounds.{parts}
 use Rattle.card.proofs.Outcomes.{accepted-card}
+use Rattle.install.specs.Grammar.{Created}
+use Rattle.command.specs.Grammar as written
 use Rattle.steps.specs.Asked.{Asked.create}
 use Rattle.steps.specs.Conditions.{cardRows}
 use Rattle.steps.specs.Steps.{stepOf, responseOf, successOf}

@@ -2,6 +2,8 @@
 use mathlib.Core.Path.{sym, ap, _∙_}
 use mathlib.Core.List.{[], _∷_}
 use mathlib.Core.Bool.{false, not}
+use Rattle.byte_string.specs.Put.{put}
+use Rattle.byte_string.proofs.PutLaws.{put-none}
 use Rattle.status.specs.StatusWords.{isDone}
 use Rattle.status.specs.Rows.{row, wordOf}
 use Rattle.status.specs.declared.Status.the-variants.{DataWrong, Done}
@@ -12,12 +14,10 @@ use Rattle.card.specs.Fresh.{zeroCard, freshCard, freshOk, freshOutcome}
 use Rattle.card.specs.declared.Card.{Card}
 use Rattle.card.proofs.Outcomes.{Refusal, refuses, decided}
 use Rattle.card.proofs.Freshness.{zero-unsound}
-use Rattle.byte_string.specs.Put.{put}
-use Rattle.byte_string.proofs.PutLaws.{put-none}
-use Rattle.demands.specs.Change.{tableWord}
 use Rattle.steps.specs.Steps.{stepOf, responseOf}
 use Rattle.manager.specs.Calls.{asked}
 use Rattle.manager.specs.Manager.{step}
+use Rattle.demands.specs.Change.{tableWord}
 use Rattle.demands.specs.Demand1.{HandedBack, Refusals, Untouched, FreshRefusals, Demand1}
 use Rattle.demands.proofs.Words.{done-as}
 

@@ -11,7 +11,6 @@ use Rattle.status.specs.StatusWords.{isDone}
 use Rattle.status.specs.Rows.{row, wordOf}
 use Rattle.status.specs.declared.Status.the-variants.{DataWrong, Done}
 use Rattle.status.proofs.Tables.{passed}
-use Rattle.steps.proofs.Rows.{Passed}
 use Rattle.isdp.specs.Sizes.{mostPlaces, eidSize}
 use Rattle.isdp.specs.Aids.{aidOk, aidOf, noAid}
 use Rattle.isdp.specs.LifeCycle.{selectable, disabled, enabled}
@@ -36,6 +35,7 @@ use Rattle.card.proofs.Sounds.{Sound, Phased, parts, choose, nonzero}
 use Rattle.card.proofs.Outcomes.{took, accepted-card}
 use Rattle.card.proofs.Freshness.{fresh-sound}
 use Rattle.responses.specs.Responses.{deletedResponse}
+use Rattle.steps.proofs.Rows.{Passed}
 use Rattle.steps.specs.Asked.{Act, Act.enable, Act.disable, Act.delete, Act.masterDelete, Act.setFallBack, Act.status, Act.keyed, Act.stored, Act.finished, Asked, Asked.unread, Asked.create, Asked.on, Asked.confirm, Asked.statusOfAll, Asked.getData, Asked.tick, Asked.lost}
 use Rattle.steps.specs.Steps.{stepOf, actStep, responseOf, successOf}
 use Rattle.steps.proofs.Kept.{Legal}

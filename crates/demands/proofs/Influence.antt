@@ -6,11 +6,11 @@ use mathlib.Core.List.{List, [], _∷_}
 use mathlib.Core.Bool.{Bool, true, false, not, cond, false≢true}
 use lib.ListN.{set}
 use borrow.Author.Tests.{not-true}
-use Rattle.isdp.specs.LifeCycle.{withUsed}
 use Rattle.status.specs.StatusWords.{isDone}
 use Rattle.status.specs.Rows.{Row, row, wordOf}
 use Rattle.status.specs.declared.Status.{Status}
 use Rattle.status.specs.declared.Status.the-variants.{Unsound, BufferShort, LengthWrong, ClassWrong, InstructionWrong, ParametersWrong, DataWrong, Done}
+use Rattle.isdp.specs.LifeCycle.{withUsed}
 use Rattle.isdp.specs.Place.{isFor, clash}
 use Rattle.isdp.specs.declared.Isdp.{Isdp}
 use Rattle.isdp.proofs.Bools.{and-l, and-r}
@@ -27,7 +27,6 @@ use Rattle.command.specs.declared.request.Request.the-variants as request
 use Rattle.command.specs.declared.request.Field.{Field}
 use Rattle.command.specs.declared.request.Field.the-variants as field
 use Rattle.command.specs.Requests.{fieldOf}
-use Rattle.demands.specs.Change.{tableWord}
 use Rattle.steps.specs.Asked.{Asked}
 use Rattle.steps.specs.Conditions.{cardRows}
 use Rattle.steps.specs.Steps.{stepOf, responseOf}
@@ -35,6 +34,7 @@ use Rattle.manager.specs.Calls.{Call, Call.Command, Call.Keyed, Call.Stored, Ca
 use Rattle.manager.specs.Table.{bufferShort, inCommand, valuesWrong, table}
 use Rattle.manager.specs.Manager.{step, run}
 use Rattle.manager.proofs.Kept.{step-sound, run-sound}
+use Rattle.demands.specs.Change.{tableWord}
 use Rattle.demands.specs.Said.{Said, said, Exchange, exchanges}
 use Rattle.demands.specs.Influence.{reuse, Differ, fills, noneFills, UsedBytesStayPrivate}
 use Rattle.demands.proofs.Uses.{useAt, reuseAt, use-same}

@@ -9,7 +9,6 @@ use lib.Dec.{ltb, eqb}
 use borrow.Author.Tests.{eqb-true, ltb-true, not-true, not-false}
 use Rattle.status.specs.StatusWords.{isDone}
 use Rattle.status.specs.declared.Status.{Status}
-use Rattle.steps.proofs.Rows.{Passed}
 use Rattle.isdp.specs.Sizes.{mostPlaces}
 use Rattle.isdp.specs.Aids.{named, noAid}
 use Rattle.isdp.specs.declared.Aid.{Aid}
@@ -33,6 +32,7 @@ use Rattle.card.specs.declared.Step.{Step}
 use Rattle.card.proofs.Sounds.{parts}
 use Rattle.card.proofs.Noticed.{found-kept, unmoved, steps-noticed}
 use Rattle.card.proofs.Freshness.{fresh-sound}
+use Rattle.steps.proofs.Rows.{Passed}
 use Rattle.steps.specs.Asked.{Act, Act.enable, Act.disable, Act.delete, Act.masterDelete, Act.setFallBack, Act.status, Act.keyed, Act.stored, Act.finished, Asked, Asked.unread, Asked.create, Asked.on, Asked.confirm, Asked.statusOfAll, Asked.getData, Asked.tick, Asked.lost}
 use Rattle.steps.specs.Steps.{stepOf, responseOf}
 use Rattle.steps.proofs.Creates.{empty}
@@ -108,8 +108,8 @@ module _ (c : Card) (s : sound c ≡ true) where
       let r = refusals c call e in
       silently (record { none = r .no-notification; same-profile = ap enabledAid (r .same-card); same-number = ap (λ (d : Card). d .last) (r .same-card) })
 
-pub every-call : statement.EveryCall
-every-call c call s = call-case c s call (isDone (step c call .status)) refl
+pub calls-notify : statement.CallsNotify
+calls-notify c call s = call-case c s call (isDone (step c call .status)) refl
 
 -- a notification of a phase just opened names a profile
 opened-names : (p : Phase) (n : Notification) (known : Aid) → JustOpened p n → nowKnown n known ≡ n .aid
@@ -127,7 +127,7 @@ run-named : (calls : List Call) (c : Card) (known : Aid) → sound c ≡ true �
 unfolding run exchanges lastNamed
 run-named [] c known s e = e
 run-named (call ∷ calls) c known s e =
-    run-named calls (step c call .card) (nowKnown (step c call .notification) known) (step-sound c call s) (known-is c (step c call) known e (every-call c call s))
+    run-named calls (step c call .card) (nowKnown (step c call .notification) known) (step-sound c call s) (known-is c (step c call) known e (calls-notify c call s))
 
 fresh-named : (x : Inputs) → isDone (freshOf x .status) ≡ true → enabledAid (freshOf x .card) ≡ named (x .aid)
 unfolding seek
@@ -138,4 +138,4 @@ last-named x calls h =
     run-named calls (freshOf x .card) (named (x .aid)) (fresh-sound (x .eid) (x .aid) (x .capacity) (x .quota) (x .used) (x .volatile) h) (fresh-named x h)
 
 pub notifying : statement.Notifying
-notifying = record { every-call = every-call; last-named = last-named }
+notifying = record { calls-notify = calls-notify; last-named = last-named }

@@ -7,10 +7,10 @@ use mathlib.Core.List.{[]}
 use mathlib.Core.Bool.{Bool, true, false, cond}
 use lib.Dec.{eqb}
 use borrow.Author.Tests.{eqb-true, eq-eqb, ne-eqb, not-true, not-false}
-use Rattle.isdp.specs.declared.Aid.{Aid}
 use Rattle.status.specs.StatusWords.{isDone}
 use Rattle.status.specs.declared.Status.the-variants.{Done}
 use Rattle.status.proofs.Tables.{passed}
+use Rattle.isdp.specs.declared.Aid.{Aid}
 use Rattle.isdp.specs.Sizes.{wait, lastNumber}
 use Rattle.isdp.specs.Aids.{noAid}
 use Rattle.isdp.specs.LifeCycle.{disabled, enabled, isEnabled}

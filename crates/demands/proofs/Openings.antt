@@ -6,11 +6,10 @@ use mathlib.Core.List.{List}
 use mathlib.Core.Bool.{Bool, true, false, false≢true}
 use lib.Dec.{eqb}
 use borrow.Author.Tests.{eqb-true, eq-eqb, ne-eqb, not-true, not-false}
+use Rattle.byte_string.proofs.Alike.{same-true}
 use Rattle.status.specs.Rows.{wordOf}
-use Rattle.steps.proofs.Rows.{Passed}
 use Rattle.isdp.specs.Aids.{aidOf}
 use Rattle.isdp.specs.Place.{held, isFor}
-use Rattle.byte_string.proofs.Alike.{same-true}
 use Rattle.isdp.specs.LifeCycle.{disabled, isEnabled}
 use Rattle.isdp.proofs.Bools.{and-l, and-r}
 use Rattle.isdp.specs.declared.Isdp.{Isdp}
@@ -24,6 +23,7 @@ use Rattle.card.specs.Steps.{lostStep}
 use Rattle.card.specs.Answers.{accepted}
 use Rattle.card.specs.declared.Card.{Card}
 use Rattle.card.proofs.Sounds.{parts, whole, nonzero}
+use Rattle.steps.proofs.Rows.{Passed}
 use Rattle.steps.specs.Asked.{Act.enable, Act.disable, Asked.on}
 use Rattle.steps.proofs.Opens as steps
 use Rattle.manager.specs.Calls.{Call.Lost}

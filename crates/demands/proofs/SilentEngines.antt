@@ -5,10 +5,9 @@ use Prim.Native.Nat.{ℕ}
 use native.Mathlib.Omega.{arith}
 use mathlib.Core.List.{List, [], _∷_, _++_}
 use mathlib.Core.Bool.{true}
-use Rattle.status.specs.StatusWords.{isDone}
-use Rattle.manager.specs.Calls.{Call}
-use Rattle.status.specs.Rows.{wordOf}
 use Rattle.byte_string.specs.Bytes.{sameBytes}
+use Rattle.status.specs.StatusWords.{isDone}
+use Rattle.status.specs.Rows.{wordOf}
 use Rattle.isdp.specs.Aids.{bytesOf, padded}
 use Rattle.isdp.specs.Place.{isFor, clash, zeros, placeOk}
 use Rattle.places.specs.Places.{seek, quotas, allOf, anyOf, countOf, distinct, allOff, enableAt}
@@ -18,6 +17,12 @@ use Rattle.card.specs.Steps.{tickStep, lostStep, confirmStep}
 use Rattle.card.specs.Notifications.{noticeSince}
 use Rattle.card.specs.Answers.{accepted}
 use Rattle.card.specs.Fresh.{freshOutcome}
+use Rattle.card.specs.Notifications.{silent, codeOf}
+use Rattle.card.specs.declared.Notification.{Notification}
+use Rattle.card.specs.declared.Kind.the-variants.{Silent}
+use Rattle.card.specs.Noticed.{JustOpened, silently, told}
+use Rattle.card.specs.declared.Phase.{Phase}
+use Rattle.card.specs.declared.Phase.the-variants.{Quiet, Trial, Back, Fallen}
 use Rattle.choice.specs.Choice.{pick, atMost, isBelow, isSame}
 use Rattle.tlv.specs.Tlv.{tagAt, lengthAt, afterLength, afterTag, headAt, expectOf, expectAt}
 use Rattle.fields.specs.Alone.{aloneAt}
@@ -26,13 +31,8 @@ use Rattle.install.specs.Parameters.{protocolsWithin, protocolsAt, numberAt, gr
 use Rattle.install.specs.Install.{prefixedOf, prefixedAt, namesAt, rightsAt, installOf}
 use Rattle.command.specs.Framing.{lengthWrong, classRight, classWrong, instructionWrong, parametersRight, parametersWrong, shapeRight, shapeWrong}
 use Rattle.command.specs.Requests.{fieldOf, dataWrong}
+use Rattle.manager.specs.Calls.{Call}
 use Rattle.manager.specs.Manager.{step}
-use Rattle.card.specs.Notifications.{silent, codeOf}
-use Rattle.card.specs.declared.Notification.{Notification}
-use Rattle.card.specs.declared.Kind.the-variants.{Silent}
-use Rattle.card.specs.Noticed.{JustOpened, silently, told}
-use Rattle.card.specs.declared.Phase.{Phase}
-use Rattle.card.specs.declared.Phase.the-variants.{Quiet, Trial, Back, Fallen}
 use Rattle.manager.specs.Calls.{Call.Tick, Call.Lost}
 use Rattle.demands.specs.Change.{enabledBytes, isTick}
 use Rattle.demands.specs.Inputs.{freshOf}
@@ -41,7 +41,7 @@ use Rattle.demands.specs.Engines.{Engine, reached, remembered, cardAfter
 use Rattle.demands.specs.Notified.{Notified, MeetsNotified}
 use Rattle.demands.specs.SilentEngines.{isLost, silentOn, SilenceCaught}
 use Rattle.demands.proofs.Engines.{reached-sound}
-use Rattle.demands.proofs.Notified.{every-call}
+use Rattle.demands.proofs.Notified.{calls-notify}
 
 -- an engine that is silent at a call where the enabled profile changes from 02 to F
 record Silence (e : Engine) (past : List Call) (call : Call) : Type 0 where
@@ -83,7 +83,7 @@ caught e past call s m = hears e past call s (m inputs (runs .made) past call)
 pub silence-caught : SilenceCaught
 silence-caught =
     record {
-      manager-notifies = λ x a past call. every-call _ call (reached-sound x a past);
+      manager-notifies = λ x a past call. calls-notify _ call (reached-sound x a past);
       silent-lost = caught _ _ _ (runs .lost);
       silent-tick = caught _ _ _ (runs .tick);
     }

@@ -12,13 +12,13 @@ use Rattle.card.specs.declared.Phase.the-variants.{Quiet}
 use Rattle.card.proofs.Sounds.{parts, whole, rephased}
 use Rattle.card.proofs.Outcomes.{decide-card}
 use Rattle.command.specs.Framing.{lengthWrong, classWrong, instructionWrong, parametersWrong, shapeWrong}
-use Rattle.demands.specs.Change.{tableWord}
 use Rattle.steps.specs.Asked.{Act.status, Act.keyed, Act.stored, Act.finished, Asked, Asked.on, Asked.statusOfAll, Asked.getData, Asked.tick, Asked.lost}
 use Rattle.steps.specs.Conditions.{cardRows}
 use Rattle.steps.specs.Steps.{stepOf, responseOf}
 use Rattle.manager.specs.Calls.{Call, Call.Command, Call.Keyed, Call.Stored, Call.Finished, Call.Tick, Call.Lost, asked}
 use Rattle.manager.specs.Table.{bufferShort, inCommand, valuesWrong, table}
 use Rattle.manager.specs.Manager.{step}
+use Rattle.demands.specs.Change.{tableWord}
 use Rattle.demands.specs.Small as statement
 use Rattle.demands.proofs.Words.{word-is}
 

@@ -7,11 +7,11 @@ use Rattle.status.specs.StatusWords.{isDone}
 use Rattle.card.specs.declared.Card.{Card}
 use Rattle.card.proofs.Outcomes.{decide-card, took}
 use Rattle.card.specs.Answers.{accepted}
-use Rattle.demands.specs.Change.{tableWord}
 use Rattle.steps.specs.Steps.{stepOf, responseOf}
 use Rattle.manager.specs.Calls.{Call, asked}
 use Rattle.manager.specs.Table.{table}
 use Rattle.manager.specs.Manager.{step, work}
+use Rattle.demands.specs.Change.{tableWord}
 use Rattle.demands.proofs.Words.{word-is}
 
 module _ (c : Card) (call : Call) where

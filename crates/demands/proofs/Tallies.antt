@@ -9,12 +9,12 @@ use lib.ListN.{length, set}
 use lib.Dec.{eqb}
 use borrow.Author.Tests.{not-true, eqb-true}
 use Rattle.byte_string.specs.Bytes.{sameBytes}
+use Rattle.byte_string.proofs.Alike.{same-true, same-self}
 use Rattle.isdp.specs.Aids.{aidOk, aidOf}
 use Rattle.isdp.specs.Place.{vacant, made, held, isFor, clash, placeOk}
 use Rattle.isdp.specs.declared.Isdp.{Isdp}
 use Rattle.isdp.proofs.Placed.{made-held, made-aid}
 use Rattle.isdp.proofs.Bools.{and-l, and-r, both, or-l, or-r}
-use Rattle.byte_string.proofs.Alike.{same-true, same-self}
 use Rattle.isdp.proofs.Alike.{clash-none}
 use Rattle.places.specs.Places.{at, quotas, allOf, anyOf, distinct}
 use Rattle.places.proofs.Lives.{Lives, Lives.ended, Lives.place}

@@ -11,11 +11,11 @@ use Rattle.card.specs.Fresh.{freshOk, freshOutcome}
 use Rattle.card.specs.declared.Card.{Card}
 use Rattle.card.proofs.Counts.{at-most-30, counted, steps-are, steps-unique}
 use Rattle.card.proofs.Outcomes.{decide-ticks, stopped}
-use Rattle.demands.specs.Change.{tableWord}
 use Rattle.steps.specs.Steps.{stepOf, responseOf}
 use Rattle.manager.specs.Calls.{Call, asked}
 use Rattle.manager.specs.Manager.{work, step}
 use Rattle.manager.proofs.Kept.{took-sound, step-sound}
+use Rattle.demands.specs.Change.{tableWord}
 use Rattle.demands.specs.Ticks as statement
 use Rattle.demands.proofs.Demand2.{fresh-taken, fresh-refused}
 

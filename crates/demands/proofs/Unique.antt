@@ -1,7 +1,7 @@
 -- Two answers meeting one promise are equal: each is what the promise names. Assumes nothing.
 use mathlib.Core.Path.{refl, sym, _∙_}
-use Rattle.card.specs.Answers.{handed}
 use Rattle.byte_string.specs.Put.{put}
+use Rattle.card.specs.Answers.{handed}
 use Rattle.demands.specs.Unique as statement
 
 pub one-answer : statement.OneAnswer

@@ -4,11 +4,11 @@ use mathlib.Core.Bool.{Bool}
 use Rattle.status.specs.StatusWords.{isDone}
 use Rattle.card.specs.declared.Card.{Card}
 use Rattle.card.proofs.Outcomes.{decided}
-use Rattle.demands.specs.Change.{tableWord}
 use Rattle.steps.specs.Steps.{stepOf, responseOf}
 use Rattle.manager.specs.Calls.{Call, asked}
 use Rattle.manager.specs.Table.{table}
 use Rattle.manager.specs.Manager.{step}
+use Rattle.demands.specs.Change.{tableWord}
 
 pub word-is : (c : Card) (call : Call) → step c call .status ≡ tableWord c call
 unfolding step

@@ -8,20 +8,20 @@ use mathlib.Core.Option.{some}
 use mathlib.Core.Bool.{Bool, true, false, not, cond, false≢true}
 use lib.ListN.{length}
 use borrow.Author.Tests.{ltb-false, leb-true}
-use Rattle.isdp.specs.Sizes.{leastAid}
-use Rattle.isdp.proofs.Bools.{and-l}
-use Rattle.manager.proofs.Kept.{part-ok}
+use Rattle.byte_string.specs.declared.Part.{Part}
+use Rattle.byte_string.specs.Bytes.{partOf}
 use Rattle.status.specs.StatusWords.{isDone}
 use Rattle.status.specs.Rows.{Row, row, wordOf}
 use Rattle.status.specs.declared.Status.{Status}
 use Rattle.status.specs.declared.Status.the-variants.{Unsound, LengthWrong, ClassWrong, InstructionWrong, ParametersWrong, DataWrong, Done}
 use Rattle.status.proofs.Tables.{passed, succeeds}
+use Rattle.isdp.specs.Sizes.{leastAid}
+use Rattle.isdp.proofs.Bools.{and-l}
 use Rattle.card.specs.Sound.{sound}
 use Rattle.card.specs.Answers.{Outcome, outcome, soundRow, settle, accepted}
 use Rattle.card.specs.declared.Card.{Card}
 use Rattle.card.proofs.Outcomes.{decided}
 use Rattle.tlv.specs.Encoding.{Bytes}
-use Rattle.byte_string.specs.declared.Part.{Part}
 use Rattle.command.specs.Grammar.{Wanted, Encodes, wantedOf, readAs}
 use Rattle.command.specs.Reading.{readOf}
 use Rattle.command.specs.Framing.{lengthWrong, classWrong, instructionWrong, parametersWrong, shapeWrong}
@@ -38,7 +38,7 @@ use Rattle.command.proofs.Written.{command-written}
 use Rattle.steps.specs.Asked.{Asked, Asked.on, Act.status}
 use Rattle.steps.specs.Conditions.{cardRows}
 use Rattle.steps.specs.Steps.{stepOf, responseOf, askedWork, successOf}
-use Rattle.byte_string.specs.Bytes.{partOf}
+use Rattle.manager.proofs.Kept.{part-ok}
 use Rattle.manager.specs.Calls.{Call.Command, requestAsks, asked}
 use Rattle.manager.specs.Table.{leastBuffer, rowsAfter, table}
 use Rattle.manager.specs.Manager.{step, work}

@@ -7,21 +7,18 @@ use mathlib.Core.Bool.{Bool, true, false, cond, _&&_, _||_, false≢true}
 use lib.ListN.{length, replicate}
 use lib.Dec.{leb}
 use borrow.Author.Tests.{le-leb, lt-leb}
+use Rattle.byte_string.specs.Bytes.{sameBytes}
 use Rattle.status.specs.StatusWords.{isDone}
 use Rattle.status.specs.declared.Status.{Status}
 use Rattle.status.specs.declared.Status.the-variants.{NotHeld, Done}
+use Rattle.status.specs.Rows.{wordOf}
+use Rattle.isdp.specs.Aids.{padded, noAid}
+use Rattle.isdp.specs.Place.{isFor, clash, zeros, placeOk}
+use Rattle.places.specs.Places.{seek, quotas, allOf, anyOf, countOf, distinct, allOff, enableAt}
 use Rattle.card.specs.Cards.{isQuiet}
 use Rattle.card.specs.declared.Card.{Card}
 use Rattle.card.proofs.Counts.{steps-are, steps-unique}
 use Rattle.card.proofs.Freshness.{fresh-sound}
-use Rattle.steps.specs.Steps.{responseOf}
-use Rattle.manager.specs.Calls.{Call, Call.Keyed, asked}
-use Rattle.manager.proofs.Kept.{step-sound, run-sound}
-use Rattle.status.specs.Rows.{wordOf}
-use Rattle.byte_string.specs.Bytes.{sameBytes}
-use Rattle.isdp.specs.Aids.{padded, noAid}
-use Rattle.isdp.specs.Place.{isFor, clash, zeros, placeOk}
-use Rattle.places.specs.Places.{seek, quotas, allOf, anyOf, countOf, distinct, allOff, enableAt}
 use Rattle.card.specs.Sound.{phaseOk, sound}
 use Rattle.card.specs.Clock.{tickOf, lostOf, confirmOf}
 use Rattle.card.specs.Steps.{stepTo, tickStep, lostStep, confirmStep}
@@ -40,6 +37,9 @@ use Rattle.install.specs.Install.{prefixedOf, prefixedAt, namesAt, rightsAt, in
 use Rattle.command.specs.Framing.{lengthWrong, classRight, classWrong, instructionWrong, parametersRight, parametersWrong, shapeRight, shapeWrong}
 use Rattle.command.specs.Requests.{fieldOf, dataWrong}
 use Rattle.responses.specs.Responses.{statusBody, statusRow, rowOf, rowsFrom, statusResponse, oneStatus, dataResponse, deletedResponse}
+use Rattle.steps.specs.Steps.{responseOf}
+use Rattle.manager.specs.Calls.{Call, Call.Keyed, asked}
+use Rattle.manager.proofs.Kept.{step-sound, run-sound}
 use Rattle.manager.specs.Manager.{step, run}
 use Rattle.demands.specs.Change.{isTick, confirms, ticksAmong, staysOpen, Opens, Opens.enables, tableWord}
 use Rattle.demands.specs.Inputs.{freshOf}

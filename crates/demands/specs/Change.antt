@@ -7,6 +7,7 @@ use mathlib.Core.Bool.{Bool, true, false, not, cond, _&&_, _||_}
 use lib.Dec.{ltb}
 use Rattle.status.specs.StatusWords.{isDone}
 use Rattle.status.specs.Rows.{wordOf}
+use Rattle.status.specs.declared.Status.{Status}
 use Rattle.isdp.specs.Aids.{aidOf, bytesOf}
 use Rattle.isdp.specs.LifeCycle.{isEnabled}
 use Rattle.places.specs.Places.{at}
@@ -14,7 +15,6 @@ use Rattle.card.specs.Cards.{isQuiet, enabledAid, onFallback}
 use Rattle.card.specs.Sound.{sound}
 use Rattle.card.specs.Clock.{outstanding}
 use Rattle.card.specs.declared.Card.{Card}
-use Rattle.status.specs.declared.Status.{Status}
 use Rattle.steps.specs.Asked.{Act.enable, Act.disable, Asked, Asked.unread, Asked.create, Asked.on, Asked.confirm, Asked.statusOfAll, Asked.getData, Asked.tick, Asked.lost}
 use Rattle.manager.specs.Calls.{Call, Call.Command, Call.Keyed, Call.Stored, Call.Finished, Call.Tick, Call.Lost, asked}
 use Rattle.manager.specs.Table.{table}

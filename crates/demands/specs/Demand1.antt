@@ -4,13 +4,13 @@ use Prim.Native.Nat.{ℕ}
 use mathlib.Core.Path.{_≡_}
 use mathlib.Core.List.{List, []}
 use mathlib.Core.Bool.{true, false}
+use Rattle.byte_string.specs.Put.{put}
 use Rattle.status.specs.StatusWords.{isDone}
 use Rattle.card.specs.Sound.{sound}
 use Rattle.card.specs.Notifications.{silent}
 use Rattle.card.specs.Answers.{Outcome}
 use Rattle.card.specs.Fresh.{zeroCard, freshOutcome}
 use Rattle.card.specs.declared.Card.{Card}
-use Rattle.byte_string.specs.Put.{put}
 use Rattle.manager.specs.Calls.{Call}
 use Rattle.manager.specs.Manager.{step}
 

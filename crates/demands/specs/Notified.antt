@@ -27,8 +27,8 @@ Notified c o = Noticed c (record { card = o .card; notification = o .notificatio
 
 -- either there is no notification, and the enabled AID and the last number are as they were; or a phase was just opened, and the
 -- notification has its kind, the next number, the EID and the AID of the profile then enabled
-abbrev pub EveryCall : Type 0
-EveryCall = (c : Card) (call : Call) → sound c ≡ true → Notified c (step c call)
+abbrev pub CallsNotify : Type 0
+CallsNotify = (c : Card) (call : Call) → sound c ≡ true → Notified c (step c call)
 
 -- the profile that a notification names; where there is none, the one that was known before
 abbrev pub namedBy : Kind → Aid → Aid → Aid
@@ -53,7 +53,7 @@ LastNamed =
     → enabledAid (run (freshOf x .card) calls) ≡ lastNamed (named (x .aid)) (exchanges (freshOf x .card) calls)
 
 pub record Notifying : Type 0 where
-  pub every-call : EveryCall
+  pub calls-notify : CallsNotify
   pub last-named : LastNamed
 
 -- an engine that is asked the same: at every card that it reaches from an accepted fresh
