@@ -11,6 +11,7 @@ pub mod Create
 pub mod Unique
 pub mod Small
 pub mod HypothesesMet
+pub mod CallLawsMet
 pub mod Frames
 pub mod Changes
 pub mod Named
