@@ -38,9 +38,9 @@ use Rattle.command.proofs.Written.{command-written}
 use Rattle.steps.specs.Asked.{Asked, Asked.on, Act.status}
 use Rattle.steps.specs.Conditions.{cardRows}
 use Rattle.steps.specs.Steps.{stepOf, responseOf, askedWork, successOf}
-use Rattle.manager.proofs.Kept.{part-ok}
+use Rattle.manager.proofs.Kept.{part-ok, rows-accepted}
 use Rattle.manager.specs.Calls.{Call.Command, requestAsks, asked}
-use Rattle.manager.specs.Table.{leastBuffer, rowsAfter, table}
+use Rattle.manager.specs.Table.{leastBuffer, rowsAfter}
 use Rattle.manager.specs.Manager.{step, work}
 use Rattle.manager.proofs.Readings.{not-read, asks-read, word-read}
 use Rattle.demands.specs.Written as statement
@@ -117,17 +117,17 @@ read-written s capacity r b q = command-written s capacity (wantedOf s r) b (ap 
 
 pub accepted-written : statement.AcceptedWritten
 accepted-written c verdict s room b e =
-    let p = passed (work c (Command verdict s room) .success) (table c (Command verdict s room)) refl (done-as c (Command verdict s room) true e) .1 in
-    let m = p .1 in
+    let call = Command verdict s room in
+    let p = rows-accepted c call (work c call .success) (done-as c call true e) in
     let r = done-read s (c .capacity) (passes-done s (c .capacity) record {
-      lengthRight = m .0;
-      classRight = m .1 .0;
-      instructionRight = m .1 .1 .0;
-      parametersRight = m .1 .1 .1 .0;
-      shapeRight = m .1 .1 .1 .1 .0;
-      dataRight = m .1 .1 .1 .1 .1 .0;
+      lengthRight = p .length;
+      classRight = p .class;
+      instructionRight = p .instruction;
+      parametersRight = p .parameters;
+      shapeRight = p .shape;
+      dataRight = p .values;
     }) in
-    (wantedOf s (r .0), (ltb-false room leastBuffer (p .0), read-written s (c .capacity) (r .0) b (r .1)))
+    (wantedOf s (r .0), (ltb-false room leastBuffer (p .buffer), read-written s (c .capacity) (r .0) b (r .1)))
 
 -- the words of the rows of reading
 reading-word : (a b c d e f : Bool) → isDone (wordOf Done (row a LengthWrong ∷ row b ClassWrong ∷ row c InstructionWrong ∷ row d ParametersWrong ∷ row e LengthWrong ∷ row f DataWrong ∷ [])) ≡ false
