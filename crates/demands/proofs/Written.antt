@@ -14,7 +14,7 @@ use Rattle.status.specs.StatusWords.{isDone}
 use Rattle.status.specs.Rows.{Row, row, wordOf}
 use Rattle.status.specs.declared.Status.{Status}
 use Rattle.status.specs.declared.Status.the-variants.{Unsound, LengthWrong, ClassWrong, InstructionWrong, ParametersWrong, DataWrong, Done}
-use Rattle.status.proofs.Tables.{passed, succeeds}
+use Rattle.status.proofs.Tables.{passed}
 use Rattle.isdp.specs.Sizes.{leastAid}
 use Rattle.isdp.proofs.Bools.{and-l}
 use Rattle.card.specs.Sound.{sound}
@@ -95,7 +95,7 @@ written-answered c verdict s room w h encoded =
     ap (λ (x : Status). settle c x (stepOf c (asked c (Command verdict s room))) (responseOf c (asked c (Command verdict s room)))) word
     ∙ ap (λ (x : Asked). outcome c (askedWork c x)) a
 
--- on a sound card its word is that of the card's rows, and where none of them refuses it takes its step
+-- on a sound card its word is that of the card's rows
 module _ (c : Card) (verdict : ℕ) (s : List ℕ) (room : ℕ) (wanted : Wanted) (e : sound c ≡ true) (h : leastBuffer ≤ room) (encoded : Encodes (c .capacity) wanted s) where
   abbrev asks : Asked
   asks = wantedAsks verdict wanted
@@ -105,11 +105,6 @@ module _ (c : Card) (verdict : ℕ) (s : List ℕ) (room : ℕ) (wanted : Wanted
       ap (λ (o : Outcome). o .status) (written-answered c verdict s room wanted h encoded)
       ∙ decided c (wordOf (successOf c asks) (soundRow c ∷ cardRows c asks)) (stepOf c asks) (responseOf c asks)
       ∙ past-sound c (successOf c asks) (cardRows c asks) e
-
-  pub written-taken : isDone (wordOf (successOf c asks) (cardRows c asks)) ≡ true → step c (Command verdict s room) ≡ accepted (successOf c asks) (stepOf c asks) (responseOf c asks)
-  written-taken d =
-      let w : wordOf (successOf c asks) (soundRow c ∷ cardRows c asks) ≡ successOf c asks = past-sound c (successOf c asks) (cardRows c asks) e ∙ succeeds (successOf c asks) (cardRows c asks) refl d in
-      written-answered c verdict s room wanted h encoded ∙ ap (λ (x : Status). settle c x (stepOf c asks) (responseOf c asks)) w
 
 -- one that was read was written
 read-written : (s : List ℕ) (capacity : ℕ) (r : Request) → Bytes s → reading.Read r ≡ readOf s capacity → Encodes capacity (wantedOf s r) s
