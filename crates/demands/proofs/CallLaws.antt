@@ -3,14 +3,14 @@
 use mathlib.Core.Path.{_≡_, refl, sym, subst}
 use Prim.Native.Nat.{ℕ}
 use mathlib.Core.List.{List, [], _∷_}
-use mathlib.Core.Bool.{Bool, true}
+use mathlib.Core.Bool.{true}
 use Rattle.status.specs.Rows.{wordOf}
 use Rattle.card.specs.Sound.{sound}
 use Rattle.card.specs.Answers.{Outcome, outcome}
 use Rattle.card.specs.declared.Card.{Card}
 use Rattle.fields.specs.Grammar as field
 use Rattle.command.specs.Grammar as written
-use Rattle.command.specs.Grammar.{Wanted}
+use Rattle.fields.specs.Grammar.{Wanted}
 use Rattle.steps.specs.Asked.{Act.keyed, Act.stored, Act.finished, Asked.tick, Asked.lost}
 use Rattle.steps.specs.Steps.{askedWork, innerWork}
 use Rattle.steps.specs.Laws.Create.{CreateAnswers}
@@ -58,16 +58,16 @@ module _ (c : Card) where
 pub every-call : EveryCall
 every-call =
     record {
-      create = λ v. lifted (written.create v) (λ c verdict. CreateAnswers c (v .aid) (v .quota)) (λ c verdict e. call-laws .create c (v .aid) (v .quota) e);
-      enable = λ aid. lifted (written.storeData (field.enable aid)) (λ c verdict. EnableAnswers c aid) (λ c verdict e. call-laws .enable c aid e);
-      disable = λ aid. lifted (written.storeData (field.disable aid)) (λ c verdict. DisableAnswers c aid) (λ c verdict e. call-laws .disable c aid e);
-      delete = λ aid. lifted (written.deletion (field.delete aid)) (λ c verdict. DeleteAnswers c aid) (λ c verdict e. call-laws .delete c aid e);
-      master-delete = λ aid. lifted (written.deletion (field.masterDelete aid)) (λ c verdict. MasterDeleteAnswers c aid verdict) (λ c verdict e. call-laws .master-delete c aid verdict e);
-      set-fall-back = λ aid. lifted (written.storeData (field.setFallBack aid)) (λ c verdict. SetFallBackAnswers c aid) (λ c verdict e. call-laws .set-fall-back c aid e);
-      confirmation = λ number. lifted (written.storeData (field.confirmation number)) (λ c verdict. ConfirmationAnswers c number) (λ c verdict e. call-laws .confirmation c number e);
-      status-of-all = λ life mark. lifted (written.getStatus (field.asked [] life mark)) (λ c verdict. StatusOfAllAnswers c life mark) (λ c verdict e. call-laws .status-of-all c life mark e);
-      status-of-one = λ first rest life mark. lifted (written.getStatus (field.asked (first ∷ rest) life mark)) (λ c verdict. StatusOfOneAnswers c (first ∷ rest) life mark) (λ c verdict e. call-laws .status-of-one c (first ∷ rest) life mark e);
-      get-data = lifted written.getData (λ c verdict. GetDataAnswers c) (λ c verdict e. call-laws .get-data c e);
+      create = λ v. lifted (written.create v) (λ c verdict. CreateAnswers c (v .aid) (v .quota)) (λ c verdict. call-laws .create c (v .aid) (v .quota));
+      enable = λ aid. lifted (written.storeData (field.enable aid)) (λ c verdict. EnableAnswers c aid) (λ c verdict. call-laws .enable c aid);
+      disable = λ aid. lifted (written.storeData (field.disable aid)) (λ c verdict. DisableAnswers c aid) (λ c verdict. call-laws .disable c aid);
+      delete = λ aid. lifted (written.deletion (field.delete aid)) (λ c verdict. DeleteAnswers c aid) (λ c verdict. call-laws .delete c aid);
+      master-delete = λ aid. lifted (written.deletion (field.masterDelete aid)) (λ c verdict. MasterDeleteAnswers c aid verdict) (λ c verdict. call-laws .master-delete c aid verdict);
+      set-fall-back = λ aid. lifted (written.storeData (field.setFallBack aid)) (λ c verdict. SetFallBackAnswers c aid) (λ c verdict. call-laws .set-fall-back c aid);
+      confirmation = λ number. lifted (written.storeData (field.confirmation number)) (λ c verdict. ConfirmationAnswers c number) (λ c verdict. call-laws .confirmation c number);
+      status-of-all = λ life mark. lifted (written.getStatus (field.asked [] life mark)) (λ c verdict. StatusOfAllAnswers c life mark) (λ c verdict. call-laws .status-of-all c life mark);
+      status-of-one = λ first rest life mark. lifted (written.getStatus (field.asked (first ∷ rest) life mark)) (λ c verdict. StatusOfOneAnswers c (first ∷ rest) life mark) (λ c verdict. call-laws .status-of-one c (first ∷ rest) life mark);
+      get-data = lifted written.getData (λ c verdict. GetDataAnswers c) (λ c verdict. call-laws .get-data c);
       keyed = λ aid c e. subst (KeyedAnswers c aid) (keyed-works c aid) (call-laws .keyed c aid e);
       stored = λ aid n c e. subst (StoredAnswers c aid n) (stored-works c aid n) (call-laws .stored c aid n e);
       finished = λ aid policy c e. subst (FinishedAnswers c aid policy) (finished-works c aid policy) (call-laws .finished c aid policy e);

@@ -17,7 +17,7 @@ use Rattle.isdp.specs.Aids.{padded}
 use Rattle.isdp.specs.LifeCycle.{disabled, enabled}
 use Rattle.isdp.specs.Place.{vacant, made, isFor, clash, zeros, placeOk}
 use Rattle.isdp.proofs.Bools.{and-l, and-r}
-use Rattle.places.specs.Places.{seek, quotas, allOf, anyOf, countOf, distinct, allOff, enableAt}
+use Rattle.places.specs.Places.{quotas, allOf, anyOf, countOf, distinct, allOff, enableAt}
 use Rattle.card.specs.Sound.{phaseOk, sound}
 use Rattle.card.specs.Clock.{tickOf}
 use Rattle.card.specs.Ticks.{stepsIn, ticksToCome}
@@ -25,25 +25,25 @@ use Rattle.card.specs.Steps.{tickStep}
 use Rattle.card.specs.Answers.{refused, accepted}
 use Rattle.card.specs.Fresh.{freshCard, freshOutcome}
 use Rattle.card.specs.declared.Card.{Card}
-use Rattle.card.specs.declared.Phase.the-variants.{Quiet, Trial}
+use Rattle.card.specs.declared.Phase.the-variants.{Trial}
 use Rattle.choice.specs.Choice.{pick, atMost, isBelow, isSame}
+use Rattle.tlv.specs.Lists.{closed, elementOf, restOf, listOf, listWithin, listAt, elementAt, listWrong}
 use Rattle.tlv.specs.Tlv.{tagAt, lengthAt, afterLength, afterTag, headAt, expectOf, expectAt}
 use Rattle.tlv.specs.Encoding.{window, Bytes}
-use Rattle.fields.specs.Alone.{aloneAt}
+use Rattle.reader.specs.Reader.{aloneAt}
 use Rattle.fields.specs.StoreData.{dgiAt, namedBy, confirmationAt, storeDataAt}
 use Rattle.fields.specs.Grammar.{confirmation}
 use Rattle.install.specs.Parameters.{protocolsWithin, protocolsAt, numberAt, grantOf, memoryAt, parametersAt}
 use Rattle.install.specs.Install.{prefixedOf, prefixedAt, namesAt, rightsAt, installOf}
-use Rattle.install.specs.Grammar.{Created}
+use Rattle.fields.specs.Grammar.{Created}
 use Rattle.command.specs.Framing.{lengthWrong, classRight, classWrong, instructionWrong, parametersRight, parametersWrong, shapeRight, shapeWrong}
 use Rattle.command.specs.Requests.{fieldOf, dataWrong}
 use Rattle.command.specs.Grammar as written
 use Rattle.command.specs.Grammar.{readAs, Encodes}
 use Rattle.command.specs.Reading.{readOf}
 use Rattle.command.proofs.Written.{command-written}
-use Rattle.manager.specs.Calls.{Call, Call.Command, Call.Tick}
+use Rattle.manager.specs.Calls.{Call.Command, Call.Tick}
 use Rattle.manager.specs.Manager.{step}
-use Rattle.demands.specs.OpeningAnswers.{OpeningAnswersMet}
 use Rattle.demands.specs.Demand1.{Demand1Met}
 use Rattle.demands.specs.Demand2.{Demand2Met}
 use Rattle.demands.specs.Ticks.{TicksMet}
@@ -51,7 +51,7 @@ use Rattle.demands.specs.Create.{SoundRequest, CreateMet}
 use Rattle.demands.specs.Confirmation.{ConfirmationMet}
 use Rattle.demands.proofs.Confirmation.{confirmation-taken}
 use Rattle.demands.proofs.Words.{word-is}
-use Rattle.demands.proofs.Create.{room-decides}
+use Rattle.demands.proofs.Create.{create-live}
 
 -- document 01's AIDs: F, and others
 abbrev aidEnding : ℕ → List ℕ
@@ -113,17 +113,17 @@ createBytes =
 abbrev asks : Created
 asks = record { aid = aidEnding 2; quota = 50 }
 
-abbrev smallBytes : List ℕ → Bool
+abbrev pub smallBytes : List ℕ → Bool
 smallBytes [] = true
 smallBytes (x ∷ xs) = ltb x 256 && smallBytes xs
 
-bytes-of : (s : List ℕ) → smallBytes s ≡ true → Bytes s
+pub bytes-of : (s : List ℕ) → smallBytes s ≡ true → Bytes s
 bytes-of [] e i = omega arith
 bytes-of (x ∷ xs) e zero = ltb-true x 256 (and-l _ _ e)
 bytes-of (x ∷ xs) e (suc i) = bytes-of xs (and-r (ltb x 256) _ e) i
 
 reads : (readAs createBytes (readOf createBytes 1000) ≡ some (written.create asks)) × (readAs createBytes (readOf createBytes 100) ≡ some (written.create asks))
-unfolding readOf wordOf window lengthWrong classRight classWrong instructionWrong parametersRight parametersWrong shapeRight shapeWrong fieldOf dataWrong pick atMost isBelow isSame tagAt lengthAt afterLength afterTag headAt expectOf expectAt protocolsWithin protocolsAt numberAt grantOf memoryAt parametersAt prefixedOf prefixedAt namesAt rightsAt installOf
+unfolding readOf wordOf window lengthWrong classRight classWrong instructionWrong parametersRight parametersWrong shapeRight shapeWrong fieldOf dataWrong pick atMost isBelow isSame tagAt lengthAt afterLength afterTag headAt expectOf expectAt closed elementOf restOf listOf listWithin listAt elementAt listWrong protocolsWithin protocolsAt numberAt grantOf memoryAt parametersAt prefixedOf prefixedAt namesAt rightsAt installOf
 reads = (refl, refl)
 
 encoded-in : (capacity : ℕ) → readAs createBytes (readOf createBytes capacity) ≡ some (written.create asks) → Encodes capacity (written.create asks) createBytes
@@ -145,43 +145,10 @@ create-met =
       asks-for = asks;
       card = freshOf 1000;
       request = r;
-      taken = room-decides (freshOf 1000) 0 createBytes 256 asks r;
+      taken = create-live (freshOf 1000) 0 createBytes 256 asks r;
       small = freshOf 100;
       request-small = t;
-      not-taken = room-decides (freshOf 100) 0 createBytes 256 asks t;
-    }
-
--- F, the fall-back, and 02, one of them enabled
-abbrev pair : ℕ → ℕ → Card
-pair first second =
-    record {
-      eid = eid;
-      capacity = 1000;
-      volatile = 0;
-      last = 0;
-      fallback = 0;
-      phase = Quiet;
-      places = made (aidEnding 1) first 100 0 ∷ made (aidEnding 2) second 100 1 ∷ replicate (mostPlaces - 2) vacant;
-    }
-
--- the DGI 3A03 or 3A04 with 02
-abbrev switchCall : ℕ → Call
-switchCall dgi = Command 0 (0x80 ∷ 0xE2 ∷ 0x88 ∷ 0x00 ∷ 0x0A ∷ 0x3A ∷ dgi ∷ 0x07 ∷ 0x4F ∷ 0x05 ∷ aidEnding 2) 256
-
-pub opening-answers-met : OpeningAnswersMet
-unfolding step accepted wordOf lengthWrong classRight classWrong instructionWrong parametersRight parametersWrong shapeRight shapeWrong fieldOf dataWrong pick atMost isBelow isSame tagAt lengthAt afterLength afterTag headAt expectOf expectAt aloneAt dgiAt namedBy storeDataAt sound phaseOk allOf placeOk zeros padded distinct anyOf clash isFor countOf quotas sameBytes seek
-opening-answers-met =
-    record {
-      card = pair enabled disabled;
-      enables = switchCall 0x03;
-      wanted = aidEnding 2;
-      asks-enable = refl;
-      enabled-done = refl;
-      other = pair disabled enabled;
-      disables = switchCall 0x04;
-      unwanted = aidEnding 2;
-      asks-disable = refl;
-      disabled-done = refl;
+      not-taken = create-live (freshOf 100) 0 createBytes 256 asks t;
     }
 
 -- the confirmations of 1 and 2 in bytes, read by a card in Trial whose outstanding number is 1
@@ -189,7 +156,7 @@ abbrev confirmBytes : ℕ → List ℕ
 confirmBytes n = 0x80 ∷ 0xE2 ∷ 0x89 ∷ 0x00 ∷ 0x07 ∷ 0x3A ∷ 0x08 ∷ 0x04 ∷ 0x4E ∷ 0x02 ∷ 0 ∷ n ∷ 0x00 ∷ []
 
 confirm-reads : (readAs (confirmBytes 1) (readOf (confirmBytes 1) 1000) ≡ some (written.storeData (confirmation 1))) × (readAs (confirmBytes 2) (readOf (confirmBytes 2) 1000) ≡ some (written.storeData (confirmation 2)))
-unfolding readOf wordOf window lengthWrong classRight classWrong instructionWrong parametersRight parametersWrong shapeRight shapeWrong fieldOf dataWrong pick atMost isBelow isSame tagAt lengthAt afterLength afterTag headAt expectOf expectAt aloneAt dgiAt namedBy confirmationAt storeDataAt
+unfolding readOf wordOf window lengthWrong classRight classWrong instructionWrong parametersRight parametersWrong shapeRight shapeWrong fieldOf dataWrong pick atMost isBelow isSame tagAt lengthAt afterLength afterTag headAt expectOf expectAt closed elementOf restOf listOf listWithin listAt elementAt listWrong aloneAt dgiAt namedBy confirmationAt storeDataAt
 confirm-reads = (refl, refl)
 
 trial-sound : sound trial ≡ true

@@ -24,8 +24,9 @@ use Rattle.card.specs.Noticed.{JustOpened, silently, told}
 use Rattle.card.specs.declared.Phase.{Phase}
 use Rattle.card.specs.declared.Phase.the-variants.{Quiet, Trial, Back, Fallen}
 use Rattle.choice.specs.Choice.{pick, atMost, isBelow, isSame}
+use Rattle.tlv.specs.Lists.{closed, elementOf, restOf, listOf, listWithin, listAt, elementAt, listWrong}
 use Rattle.tlv.specs.Tlv.{tagAt, lengthAt, afterLength, afterTag, headAt, expectOf, expectAt}
-use Rattle.fields.specs.Alone.{aloneAt}
+use Rattle.reader.specs.Reader.{aloneAt}
 use Rattle.fields.specs.StoreData.{dgiAt, confirmationAt, namedBy, storeDataAt}
 use Rattle.install.specs.Parameters.{protocolsWithin, protocolsAt, numberAt, grantOf, memoryAt, parametersAt}
 use Rattle.install.specs.Install.{prefixedOf, prefixedAt, namesAt, rightsAt, installOf}
@@ -55,7 +56,7 @@ record Runs : Type 0 where
   tick : Silence (silentOn isTick) (load 2 0 ++ enable 2 ∷ ticks 9) Tick
 
 runs : Runs
-unfolding reached remembered step wordOf sameBytes padded isFor clash zeros placeOk seek quotas allOf anyOf countOf distinct allOff enableAt phaseOk sound tickOf lostOf confirmOf tickStep lostStep confirmStep noticeSince accepted freshOutcome pick atMost isBelow isSame tagAt lengthAt afterLength afterTag headAt expectOf expectAt aloneAt dgiAt confirmationAt namedBy storeDataAt protocolsWithin protocolsAt numberAt grantOf memoryAt parametersAt prefixedOf prefixedAt namesAt rightsAt installOf lengthWrong classRight classWrong instructionWrong parametersRight parametersWrong shapeRight shapeWrong fieldOf dataWrong
+unfolding reached remembered step wordOf sameBytes padded isFor clash zeros placeOk seek quotas allOf anyOf countOf distinct allOff enableAt phaseOk sound tickOf lostOf confirmOf tickStep lostStep confirmStep noticeSince accepted freshOutcome pick atMost isBelow isSame tagAt lengthAt afterLength afterTag headAt expectOf expectAt closed elementOf restOf listOf listWithin listAt elementAt listWrong aloneAt dgiAt confirmationAt namedBy storeDataAt protocolsWithin protocolsAt numberAt grantOf memoryAt parametersAt prefixedOf prefixedAt namesAt rightsAt installOf lengthWrong classRight classWrong instructionWrong parametersRight parametersWrong shapeRight shapeWrong fieldOf dataWrong
 runs =
     record {
       made = refl;

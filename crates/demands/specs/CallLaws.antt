@@ -8,9 +8,11 @@ use Rattle.card.specs.Sound.{sound}
 use Rattle.card.specs.Answers.{Outcome}
 use Rattle.card.specs.declared.Card.{Card}
 use Rattle.fields.specs.Grammar as field
-use Rattle.install.specs.Grammar.{Created}
+use Rattle.fields.specs.Grammar.{Created}
 use Rattle.command.specs.Grammar as written
-use Rattle.command.specs.Grammar.{Wanted, Encodes}
+use Rattle.fields.specs.Grammar.{Wanted}
+use Rattle.command.specs.Grammar.{Encodes}
+use Rattle.steps.specs.Laws.Met.{aidEnding}
 use Rattle.steps.specs.Laws.Create.{CreateAnswers}
 use Rattle.steps.specs.Laws.Loading.{KeyedAnswers, StoredAnswers, FinishedAnswers}
 use Rattle.steps.specs.Laws.Change.{EnableAnswers, DisableAnswers}
@@ -54,3 +56,20 @@ pub record EveryCall : Type 0 where
   pub finished : (aid : List ℕ) (policy : ℕ) → CallLaw (Finished aid policy) (λ c. FinishedAnswers c aid policy)
   pub tick : CallLaw Tick TickAnswers
   pub lost : CallLaw Lost LostAnswers
+
+-- for a card of 1000 bytes some bytes write this
+abbrev pub IsWritten : Wanted → Type 0
+IsWritten w = (s : List ℕ) × Encodes 1000 w s
+
+-- each command is written, for the cards that meet the laws (`LawsMet`)
+pub record EveryCallMet : Type 0 where
+  pub create : IsWritten (written.create (record { aid = aidEnding 5; quota = 600 }))
+  pub enable : IsWritten (written.storeData (field.enable (aidEnding 2)))
+  pub disable : IsWritten (written.storeData (field.disable (aidEnding 2)))
+  pub delete : IsWritten (written.deletion (field.delete (aidEnding 2)))
+  pub master-delete : IsWritten (written.deletion (field.masterDelete (aidEnding 2)))
+  pub set-fall-back : IsWritten (written.storeData (field.setFallBack (aidEnding 2)))
+  pub confirmation : IsWritten (written.storeData (field.confirmation 1))
+  pub status-of-all : IsWritten (written.getStatus (field.asked [] true true))
+  pub status-of-one : IsWritten (written.getStatus (field.asked (aidEnding 2) true true))
+  pub get-data : IsWritten written.getData

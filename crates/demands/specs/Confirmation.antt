@@ -10,7 +10,8 @@ use Rattle.card.specs.Clock.{outstanding}
 use Rattle.card.specs.declared.Card.{Card}
 use Rattle.card.specs.declared.Phase.the-variants.{Quiet}
 use Rattle.fields.specs.Grammar.{confirmation}
-use Rattle.command.specs.Grammar.{Encodes, storeData}
+use Rattle.fields.specs.Grammar.{storeData}
+use Rattle.command.specs.Grammar.{Encodes}
 use Rattle.manager.specs.Calls.{Call, Call.Command}
 use Rattle.manager.specs.Table.{leastBuffer}
 use Rattle.manager.specs.Manager.{step}

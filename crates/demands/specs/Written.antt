@@ -13,7 +13,8 @@ use Rattle.card.specs.declared.Card.{Card}
 use Rattle.tlv.specs.Encoding.{Bytes}
 use Rattle.fields.specs.Grammar as field
 use Rattle.command.specs.Grammar as written
-use Rattle.command.specs.Grammar.{Wanted, Encodes}
+use Rattle.fields.specs.Grammar.{Wanted}
+use Rattle.command.specs.Grammar.{Encodes}
 use Rattle.steps.specs.Asked.{Act.enable, Act.disable, Act.delete, Act.masterDelete, Act.setFallBack, Act.status, Asked, Asked.create, Asked.on, Asked.confirm, Asked.statusOfAll, Asked.getData}
 use Rattle.steps.specs.Steps.{askedWork}
 use Rattle.manager.specs.Calls.{Call.Command}

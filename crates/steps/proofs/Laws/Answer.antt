@@ -7,12 +7,13 @@ use mathlib.Core.List.{List, [], _∷_}
 use mathlib.Core.Bool.{Bool, true, false, not, cond}
 use lib.ListN.{length, set, length-set}
 use lib.Dec.{eqb}
-use borrow.Author.Tests.{eqb-true, eq-eqb, ne-eqb}
+use borrow.Author.Tests.{eqb-true, eq-eqb, ne-eqb, not-false}
 use Rattle.status.specs.StatusWords.{isDone}
 use Rattle.status.specs.Rows.{wordOf}
 use Rattle.status.specs.declared.Status.{Status}
 use Rattle.status.specs.declared.Status.the-variants.{Done}
-use Rattle.status.proofs.Tables.{Passed, proper, passed, no-row}
+use Rattle.status.proofs.Tables as rows
+use Rattle.status.proofs.Tables.{proper, passed, no-row}
 use Rattle.isdp.specs.Sizes.{lastNumber}
 use Rattle.isdp.specs.Aids.{noAid}
 use Rattle.isdp.specs.LifeCycle.{enabled, isEnabled}
@@ -22,7 +23,7 @@ use Rattle.isdp.specs.declared.Isdp.{Isdp}
 use Rattle.places.specs.Places.{at, seek, enableAt}
 use Rattle.places.proofs.Lives.{enable-lives, lives-at, lives-length, enable-at, enable-one}
 use Rattle.places.proofs.Seeks.{enabled-at}
-use Rattle.card.specs.Cards.{placeOf, profileOf, withPlaces, withPhase}
+use Rattle.card.specs.Cards.{placeOf, inState, withPlaces, withPhase}
 use Rattle.card.specs.Clock.{nextOf, moved}
 use Rattle.card.specs.Sound.{sound}
 use Rattle.card.specs.Steps.{stepTo}
@@ -35,40 +36,69 @@ use Rattle.card.specs.declared.Phase.the-variants.{Quiet}
 use Rattle.card.proofs.Counts.{counted}
 use Rattle.card.proofs.Outcomes.{took}
 use Rattle.card.proofs.Sounds.{Sound, parts}
-use Rattle.steps.specs.Laws.Answer.{profileAt, Holds, Enabled, Answers, Still, OnPlace, onlyAt, replaced, rephased, entered}
+use Rattle.steps.specs.Asked.{Act, Asked, Asked.on}
+use Rattle.steps.specs.Conditions.{innerWrong, changeWrong, stateWrong, policyForbids, verdictWrong, noRoom, cardRows}
+use Rattle.steps.specs.Steps.{actStep, actResponse, stepOf, responseOf, askedWork, innerWork}
+use Rattle.steps.specs.Laws.Answer.{Result, profileAt, Holds, Enabled, Answers, Still, OnPlace, onlyAt, replaced, rephased, entered}
+use Rattle.steps.proofs.Rows.{Passed, named}
 use Rattle.steps.proofs.Opens.{only}
 use Rattle.steps.proofs.Laws.Places.{place-is, holds, set-places, trade-places}
 
 -- a call is taken exactly where its rows pass
 module _ (c : Card) (w : Work) where
-  pub work-passed : proper (w .rows) ≡ true → outcome c w .status ≡ Done → Passed (w .rows)
+  work-passed : proper (w .rows) ≡ true → outcome c w .status ≡ Done → rows.Passed (w .rows)
   work-passed p e =
       passed (w .success) (soundRow c ∷ w .rows) p (took c (wordOf (w .success) (soundRow c ∷ w .rows)) (w .step) (w .response) (ap isDone e) .0) .1
 
-  pub step-taken : sound c ≡ true → w .success ≡ Done → Passed (w .rows) → outcome c w ≡ accepted Done (w .step) (w .response)
+  step-taken : sound c ≡ true → w .success ≡ Done → rows.Passed (w .rows) → outcome c w ≡ accepted Done (w .step) (w .response)
   step-taken s d p =
       ap (λ (x : Status). settle c x (w .step) (w .response)) (no-row (w .success) (soundRow c ∷ w .rows) (ap not s, p) ∙ d)
 
--- the law of a call on one target, from its rows: they ask that the AID is held, and pass exactly where the law allows it
-pub on-target : (c : Card) (aid : List ℕ) (w : Work) (May : ℕ → Type 0) (Answered : ℕ → Outcome → Type 0) → sound c ≡ true → proper (w .rows) ≡ true → w .success ≡ Done
-    → (Passed (w .rows) → (held (profileOf c aid) ≡ true) × May (placeOf c aid))
-    → (Holds c aid (placeOf c aid) → May (placeOf c aid) → Passed (w .rows) × Answered (placeOf c aid) (accepted Done (w .step) (w .response)))
-    → OnPlace (Holds c aid) May Answered (outcome c w)
-on-target c aid w May Answered s p d f g =
-    let o = outcome c w in
-    record {
-      some-place = λ e. (placeOf c aid, holds c aid (f (work-passed c w p e) .0));
-      exactly =
-          λ t h.
-          let q = place-is c aid t (parts c s) h in
-          record {
-            only-where = λ e. subst May q (f (work-passed c w p e) .1);
-            where-may =
-                λ m.
-                let r = g (subst (Holds c aid) (sym q) h) (subst May (sym q) m) in
-                subst (λ (i : ℕ). Answered i o) q (subst (Answered (placeOf c aid)) (sym (step-taken c w s d (r .0))) (r .1));
-          };
-    }
+module _ (c : Card) (a : Asked) where
+  pub asked-passed : outcome c (askedWork c a) .status ≡ Done → Passed c a
+  asked-passed e = named c a (work-passed c (askedWork c a) refl e)
+
+  unnamed : Passed c a → rows.Passed (cardRows c a)
+  unnamed p = (p .change, (p .target, (p .already, (p .state, (p .policy, (p .verdict, (p .room, tt)))))))
+
+  pub asked-taken : sound c ≡ true → Passed c a → outcome c (askedWork c a) ≡ accepted Done (stepOf c a) (responseOf c a)
+  asked-taken s p = step-taken c (askedWork c a) s refl (unnamed p)
+
+-- a call on one target: its rows ask that the AID is held, so its place is the one that the search finds
+module _ (c : Card) (aid : List ℕ) (act : Act) (May : ℕ → Type 0) (Answered : ℕ → Outcome → Type 0) (s : sound c ≡ true) where
+  abbrev t : ℕ
+  t = placeOf c aid
+
+  target : (o : Outcome) → (o .status ≡ Done → Passed c (on aid act) × May t) → (Holds c aid t → May t → Answered t o) → OnPlace (Holds c aid) May Answered o
+  target o f g =
+      record {
+        some-place = λ e. (t, holds c aid (not-false _ (f e .0 .target)));
+        exactly =
+            λ i h.
+            let q = place-is c aid i (parts c s) h in
+            record {
+              only-where = λ e. subst May q (f e .1);
+              where-may = λ m. subst (λ (j : ℕ). Answered j o) q (g (subst (Holds c aid) (sym q) h) (subst May (sym q) m));
+            };
+      }
+
+  -- the law of a command, from its rows: they pass exactly where the law allows it
+  pub command-law : (Passed c (on aid act) → May t) → (Holds c aid t → May t → Passed c (on aid act) × Answered t (accepted Done (actStep c aid act) (actResponse c aid act))) → OnPlace (Holds c aid) May Answered (outcome c (askedWork c (on aid act)))
+  command-law f g =
+      target (outcome c (askedWork c (on aid act))) (λ e. let p = asked-passed c (on aid act) e in (p, f p))
+      (λ h m. let r = g h m in subst (Answered t) (sym (asked-taken c (on aid act) s (r .0))) (r .1))
+
+  -- of an inner call: the row of its values stands before them
+  pub inner-law : (innerWrong aid act ≡ false → Passed c (on aid act) → May t) → (Holds c aid t → May t → (innerWrong aid act ≡ false) × Passed c (on aid act) × Answered t (accepted Done (actStep c aid act) (actResponse c aid act))) → OnPlace (Holds c aid) May Answered (outcome c (innerWork c aid act))
+  inner-law f g =
+      target (outcome c (innerWork c aid act))
+      (λ e. let r = work-passed c (innerWork c aid act) refl e in let p = named c (on aid act) (r .1) in (p, f (r .0) p))
+      (λ h m. let r = g h m in subst (Answered t) (sym (step-taken c (innerWork c aid act) s refl (r .0, unnamed c (on aid act) (r .1)))) (r .2))
+
+-- the rows of a call whose target is held
+pub held-passes : (c : Card) (aid : List ℕ) (act : Act) → Holds c aid (placeOf c aid) → changeWrong c (on aid act) ≡ false → stateWrong c (on aid act) ≡ false → policyForbids c (on aid act) ≡ false → verdictWrong (on aid act) ≡ false → noRoom c (on aid act) ≡ false → Passed c (on aid act)
+held-passes c aid act h change state policy verdict room =
+    record { change = change; target = ap not (h .held-there); already = refl; state = state; policy = policy; verdict = verdict; room = room }
 
 -- no number, no notification
 pub no-notice : (c d : Card) → d .last ≡ c .last → noticeSince (c .last) d ≡ silent
@@ -80,46 +110,39 @@ pub none-to-come : (c : Card) → c .phase ≡ Quiet → ticksToCome c ≡ 0
 unfolding ticksToCome stepsIn
 none-to-come c e = rw e
 
+-- the answer of a step: the places, the notification and the ticks are left to show
+abbrev after : Card → Result → List Isdp → Card
+after c r l = inState c (r .last) (r .fallback) (r .phase) l
+
+pub answers : (c : Card) (r : Result) (l : List Isdp) (gone : Aid) → length l ≡ length (c .places) → ((i : ℕ) → at l i ≡ r .place i) → noticeSince (c .last) (after c r l) ≡ r .notification → ticksToCome (after c r l) ≡ r .ticks → Answers c r (accepted Done (stepTo c (after c r l) gone) (r .response))
+unfolding accepted
+answers c r l gone m f n q =
+    record {
+      status = refl;
+      eid = refl;
+      capacity = refl;
+      volatile = refl;
+      last = refl;
+      fallback = refl;
+      phase = refl;
+      as-many = m;
+      places = f;
+      response = refl;
+      notification = n;
+      ticks = q;
+    }
+
 module _ (c : Card) where
   pub still : (bytes : List ℕ) → sound c ≡ true → Still c bytes (accepted Done (stepTo c c noAid) bytes)
   unfolding accepted
   still bytes s = record { status = refl; card = refl; response = refl; notification = no-notice c c refl; ticks = counted c s }
 
   pub rewrites : (t : ℕ) (p : Isdp) (bytes : List ℕ) (ticks : ℕ) → t < length (c .places) → ticksToCome (withPlaces c (set (c .places) t p)) ≡ ticks → Answers c (replaced c (onlyAt c t p) bytes ticks) (accepted Done (stepTo c (withPlaces c (set (c .places) t p)) noAid) bytes)
-  unfolding accepted
   rewrites t p bytes ticks h q =
-      record {
-        status = refl;
-        eid = refl;
-        capacity = refl;
-        volatile = refl;
-        last = refl;
-        fallback = refl;
-        phase = refl;
-        as-many = length-set (c .places) t p;
-        places = set-places c t p h;
-        response = refl;
-        notification = no-notice c (withPlaces c (set (c .places) t p)) refl;
-        ticks = q;
-      }
+      answers c (replaced c (onlyAt c t p) bytes ticks) (set (c .places) t p) noAid (length-set (c .places) t p) (set-places c t p h) (no-notice c (withPlaces c (set (c .places) t p)) refl) q
 
   pub rephases : (p : Phase) (ticks : ℕ) → ticksToCome (withPhase c p) ≡ ticks → Answers c (rephased c p ticks) (accepted Done (stepTo c (withPhase c p) noAid) [])
-  unfolding accepted
-  rephases p ticks q =
-      record {
-        status = refl;
-        eid = refl;
-        capacity = refl;
-        volatile = refl;
-        last = refl;
-        fallback = refl;
-        phase = refl;
-        as-many = refl;
-        places = λ i. refl;
-        response = refl;
-        notification = no-notice c (withPhase c p) refl;
-        ticks = q;
-      }
+  rephases p ticks q = answers c (rephased c p ticks) (c .places) noAid refl (λ i. refl) (no-notice c (withPhase c p) refl) q
 
 -- the next number is another one
 new-case : (n : ℕ) (b : Bool) → eqb n lastNumber ≡ b → cond b 0 (n + 1) ≡ n → ⊥
@@ -135,29 +158,15 @@ module _ (c : Card) (t : ℕ) (h : t < length (c .places)) where
       let one = enable-one (c .places) t h in
       only (enableAt (c .places) t) (seek isEnabled (enableAt (c .places) t)) t one (enabled-at (enableAt (c .places) t) one) (eq-eqb _ _ (enable-at (c .places) t h))
 
-  named : at (enableAt (c .places) t) t .aid ≡ profileAt c t .aid
-  named = ap (λ (p : Isdp). p .aid) (lives-at (enable-lives (c .places) t) t)
+  same-aid : at (enableAt (c .places) t) t .aid ≡ profileAt c t .aid
+  same-aid = ap (λ (p : Isdp). p .aid) (lives-at (enable-lives (c .places) t) t)
 
   notice : (p : Phase) → noticeSince (c .last) (moved c t p) ≡ record { kind = kindOf p; number = nextOf (c .last); eid = c .eid; aid = profileAt c t .aid }
   unfolding noticeSince
   notice p =
       rw (new-number (c .last))
-      (ap (λ (a : Aid). record { kind = kindOf p; number = nextOf (c .last); eid = c .eid; aid = a }) (ap (λ (i : ℕ). at (enableAt (c .places) t) i .aid) found ∙ named))
+      (ap (λ (a : Aid). record { kind = kindOf p; number = nextOf (c .last); eid = c .eid; aid = a }) (ap (λ (i : ℕ). at (enableAt (c .places) t) i .aid) found ∙ same-aid))
 
   pub enters : (e : ℕ) (p : Phase) (ticks : ℕ) → Sound c → Enabled c e → ticksToCome (moved c t p) ≡ ticks → Answers c (entered c e t p (kindOf p) ticks) (accepted Done (stepTo c (moved c t p) noAid) [])
-  unfolding accepted
   enters e p ticks s v q =
-      record {
-        status = refl;
-        eid = refl;
-        capacity = refl;
-        volatile = refl;
-        last = refl;
-        fallback = refl;
-        phase = refl;
-        as-many = lives-length (enable-lives (c .places) t);
-        places = trade-places c e t s v h;
-        response = refl;
-        notification = notice p;
-        ticks = q;
-      }
+      answers c (entered c e t p (kindOf p) ticks) (enableAt (c .places) t) noAid (lives-length (enable-lives (c .places) t)) (trade-places c e t s v h) (notice p) q

@@ -1,8 +1,8 @@
 -- Enable and disable: the rows are the law's conditions, and a DISABLED profile is enabled over the enabled one, which is one. Assumes nothing.
-use mathlib.Core.Path.{_≡_, refl, ap, subst, _∙_}
+use mathlib.Core.Path.{_≡_, refl, subst, _∙_}
 use Prim.Native.Nat.{ℕ, _+_}
 use mathlib.Core.List.{[]}
-use mathlib.Core.Bool.{Bool, true, false, not, cond}
+use mathlib.Core.Bool.{Bool, true, false, cond}
 use lib.Dec.{eqb}
 use borrow.Author.Tests.{eqb-true, eqb-false, eq-eqb, ne-eqb, not-true, not-false}
 use Rattle.status.specs.declared.Status.the-variants.{Done}
@@ -28,10 +28,10 @@ use Rattle.steps.specs.Laws.Answer.{profileAt, Holds, Enabled, OnPlace}
 use Rattle.steps.specs.Laws.Change.{TrialEntered, MayEnable, EnableLaw, MayDisable, DisableLaw}
 use Rattle.steps.proofs.Kept.{quietly}
 use Rattle.steps.proofs.Opens.{only, opens, enabled-life, fallback-life}
-use Rattle.steps.proofs.Laws.Answer.{on-target, enters}
+use Rattle.steps.proofs.Laws.Answer.{command-law, held-passes, enters}
 
 -- the enabled place is one
-pub enabled-is : (c : Card) (e : ℕ) → Sound c → Enabled c e → enabledPlace c ≡ e
+enabled-is : (c : Card) (e : ℕ) → Sound c → Enabled c e → enabledPlace c ≡ e
 enabled-is c e s v = only (c .places) (enabledPlace c) e (s .roles .one) (enabled-at (c .places) (s .roles .one)) (eq-eqb _ _ v)
 
 ticks-case : (b : Bool) → wait + wait + cond b 0 wait ≡ cond b 20 30
@@ -48,34 +48,26 @@ trial c t s d =
 pub enable-law : EnableLaw
 enable-law c aid s e v =
     subst (λ (i : ℕ). OnPlace (Holds c aid) (MayEnable c i) (TrialEntered c i) (outcome c (askedWork c (on aid enable)))) (enabled-is c e (parts c s) v)
-    (on-target c aid (askedWork c (on aid enable)) (MayEnable c (enabledPlace c)) (TrialEntered c (enabledPlace c)) s refl refl
-    (λ p. (
-      not-false _ (p .1 .0),
-      record { none-open = quietly (c .phase) (p .0); is-disabled = eqb-true _ _ (not-false _ (p .1 .1 .1 .0)); enabled-allows = p .1 .1 .1 .1 .0 },
-    ))
-    (λ h m. (
-      (rw (m .none-open), (ap not (h .held-there), (refl, (rw (m .is-disabled), (m .enabled-allows, (refl, (refl, tt))))))),
-      trial c (placeOf c aid) s (m .is-disabled),
-    )))
+    (command-law c aid enable (MayEnable c (enabledPlace c)) (TrialEntered c (enabledPlace c)) s
+    (λ p. record { none-open = quietly (c .phase) (p .change); is-disabled = eqb-true _ _ (not-false _ (p .state)); enabled-allows = p .policy })
+    (λ h m. (held-passes c aid enable h (rw (m .none-open)) (rw (m .is-disabled)) (m .enabled-allows) refl refl, trial c (placeOf c aid) s (m .is-disabled))))
 
 pub disable-law : DisableLaw
 disable-law c aid s =
     let t = placeOf c aid in
     let w = parts c s in
-    on-target c aid (askedWork c (on aid disable)) (MayDisable c) (λ i. TrialEntered c i (c .fallback)) s refl refl
+    command-law c aid disable (MayDisable c) (λ i. TrialEntered c i (c .fallback)) s
     (λ p.
-    let h = not-false _ (p .1 .1 .1 .0) in (
-      not-false _ (p .1 .0),
-      record {
-        none-open = quietly (c .phase) (p .0);
-        is-enabled = eqb-true _ _ (and-l (isEnabled (profileOf c aid)) _ h);
-        not-fallback = eqb-false _ _ (not-true _ (and-r (isEnabled (profileOf c aid)) _ h));
-        allows = p .1 .1 .1 .1 .0;
-      },
-    ))
+    let h = not-false _ (p .state) in
+    record {
+      none-open = quietly (c .phase) (p .change);
+      is-enabled = eqb-true _ _ (and-l (isEnabled (profileOf c aid)) _ h);
+      not-fallback = eqb-false _ _ (not-true _ (and-r (isEnabled (profileOf c aid)) _ h));
+      allows = p .policy;
+    })
     (λ h m.
     let n = ne-eqb t (c .fallback) (m .not-fallback) in (
-      (rw (m .none-open), (ap not (h .held-there), (refl, (rw (m .is-enabled, n), (m .allows, (refl, (refl, tt))))))),
+      held-passes c aid disable h (rw (m .none-open)) (rw (m .is-enabled, n)) (m .allows) refl refl,
       subst (λ (i : ℕ). TrialEntered c i (c .fallback) (accepted Done (stepTo c (opened c (c .fallback)) noAid) [])) (enabled-is c t w (m .is-enabled))
           (trial c (c .fallback) s (fallback-life c t w (eq-eqb _ _ (m .is-enabled)) n)),
     ))

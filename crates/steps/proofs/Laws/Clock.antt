@@ -30,7 +30,7 @@ use Rattle.steps.specs.Steps.{askedWork}
 use Rattle.steps.specs.Laws.Answer.{profileAt, Enabled, Answers, Still, rephased, entered}
 use Rattle.steps.specs.Laws.Clock.{furtherWait, FallenEntered, TickedIn, TickLaw, LostLaw}
 use Rattle.steps.proofs.Opens.{only}
-use Rattle.steps.proofs.Laws.Answer.{step-taken, none-to-come, still, rephases, enters}
+use Rattle.steps.proofs.Laws.Answer.{asked-taken, none-to-come, still, rephases, enters}
 
 -- the fall-back is enabled exactly where it is at the enabled place
 on-case : (c : Card) (e : ℕ) (b : Bool) → eqb e (c .fallback) ≡ b → (d : Bool) → onFallback c ≡ d → Sound c → Enabled c e → d ≡ b
@@ -99,7 +99,7 @@ module _ (c : Card) (e : ℕ) (s : sound c ≡ true) (v : Enabled c e) where
 pub tick-law : TickLaw
 unfolding tickStep tickOf accepted
 tick-law c s =
-    let r = step-taken c (askedWork c tick) s refl (refl, (refl, (refl, (refl, (refl, (refl, (refl, tt))))))) in
+    let r = asked-taken c tick s (record { change = refl; target = refl; already = refl; state = refl; policy = refl; verdict = refl; room = refl }) in
     record {
       status = ap (λ (o : Outcome). o .status) r;
       ticked = λ e v. subst (TickedIn (c .phase) c e) (sym r) (ticked c e s v (c .phase) refl (parts c s .phased) (tick-sound c s));
@@ -124,7 +124,7 @@ pub lost-law : LostLaw
 unfolding lostStep accepted
 lost-law c s =
     let w = parts c s in
-    let r = step-taken c (askedWork c lost) s refl (refl, (refl, (refl, (refl, (refl, (refl, (refl, tt))))))) in
+    let r = asked-taken c lost s (record { change = refl; target = refl; already = refl; state = refl; policy = refl; verdict = refl; room = refl }) in
     let nothing : lostOf c ≡ c → Still c [] (outcome c (askedWork c lost)) = λ q. subst (Still c []) (sym r) (rw q (still c [] s)) in
     record {
       status = ap (λ (o : Outcome). o .status) r;

@@ -1,7 +1,7 @@
 -- Confirmation, phase by phase: two rows are left, and the change closes with the previous profile deleted or not. Assumes nothing.
 use mathlib.Core.Path.{_≡_, refl, sym, ap, subst, _∙_}
 use Prim.Native.Nat.{ℕ}
-use mathlib.Core.List.{[], _∷_}
+use mathlib.Core.List.{List, [], _∷_}
 use mathlib.Core.Bool.{Bool, true, false, not, cond}
 use lib.ListN.{set, length-set}
 use lib.Dec.{eqb}
@@ -32,7 +32,7 @@ use Rattle.steps.specs.Steps.{askedWork}
 use Rattle.steps.specs.Laws.Answer.{profileAt, element, Answers, Exactly, rephased}
 use Rattle.steps.specs.Laws.Confirmation.{closedWithout, trialConfirmed, ConfirmedIn, ConfirmationLaw}
 use Rattle.steps.proofs.Laws.Places.{set-places}
-use Rattle.steps.proofs.Laws.Answer.{work-passed, step-taken, no-notice, none-to-come, rephases}
+use Rattle.steps.proofs.Laws.Answer.{asked-passed, asked-taken, no-notice, none-to-come, answers, rephases}
 
 gone-bytes : (p : Isdp) → held p ≡ true → deletedResponse (p .aid) ≡ element 0x80 (element 0x4F (aidOf p))
 unfolding deletedResponse
@@ -52,20 +52,9 @@ module _ (c : Card) (s : Sound c) where
       → Answers c (cond b (closedWithout c previous) (rephased c Quiet 0)) (accepted Done (stepTo c (cond b (withChange c (c .last) Quiet (set (c .places) previous vacant)) (withPhase c Quiet)) (cond b (profileAt c previous .aid) noAid)) (deletedResponse (cond b (profileAt c previous .aid) noAid)))
   unfolding accepted deletedResponse
   trial-case previous true d =
-      record {
-        status = refl;
-        eid = refl;
-        capacity = refl;
-        volatile = refl;
-        last = refl;
-        fallback = refl;
-        phase = refl;
-        as-many = length-set (c .places) previous vacant;
-        places = set-places c previous vacant (within (c .places) previous (nonzero _ 30 d));
-        response = gone-bytes (profileAt c previous) (there previous d);
-        notification = no-notice c (withChange c (c .last) Quiet (set (c .places) previous vacant)) refl;
-        ticks = none-to-come (withChange c (c .last) Quiet (set (c .places) previous vacant)) refl;
-      }
+      let l = set (c .places) previous vacant in
+      let a = answers c (closedWithout c previous) l (profileAt c previous .aid) (length-set (c .places) previous vacant) (set-places c previous vacant (within (c .places) previous (nonzero _ 30 d))) (no-notice c (withChange c (c .last) Quiet l) refl) (none-to-come (withChange c (c .last) Quiet l) refl) in
+      subst (λ (x : List ℕ). Answers c (closedWithout c previous) (accepted Done (stepTo c (withChange c (c .last) Quiet l) (profileAt c previous .aid)) x)) (sym (gone-bytes (profileAt c previous) (there previous d))) a
   trial-case previous false d = closes
 
 module _ (c : Card) (number : ℕ) (s : sound c ≡ true) where
@@ -76,13 +65,12 @@ module _ (c : Card) (number : ℕ) (s : sound c ≡ true) where
   -- in an open phase the number decides
   exactly : (p : Phase) (n : ℕ) (Answered : Outcome → Type 0) → c .phase ≡ p → isQuiet p ≡ false → outstanding p number ≡ eqb number n → Answered (accepted Done (stepTo c (confirmIn p c) (goneIn p c)) (deletedResponse (goneIn p c))) → Exactly (number ≡ n) Answered (outcome c (askedWork c (confirm number)))
   exactly p n Answered e o q a =
-      let w = askedWork c (confirm number) in
       let f : outstanding (c .phase) number ≡ eqb number n = ap (λ (x : Phase). outstanding x number) e ∙ q in
       record {
-        only-where = λ d. eqb-true _ _ (sym f ∙ not-false _ (work-passed c w refl d .1 .0));
+        only-where = λ d. eqb-true _ _ (sym f ∙ not-false _ (asked-passed c (confirm number) d .target));
         where-may =
             λ m.
-            let r = step-taken c w s refl (ap isQuiet e ∙ o, (ap not (f ∙ eq-eqb _ _ m), (refl, (refl, (refl, (refl, (refl, tt))))))) in
+            let r = asked-taken c (confirm number) s (record { change = ap isQuiet e ∙ o; target = ap not (f ∙ eq-eqb _ _ m); already = refl; state = refl; policy = refl; verdict = refl; room = refl }) in
             subst Answered (sym (r ∙ by-phase p e)) a;
       }
 

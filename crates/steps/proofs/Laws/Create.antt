@@ -8,7 +8,6 @@ use mathlib.Core.Bool.{Bool, true, false, not, cond, false≢true}
 use lib.ListN.{length}
 use lib.Dec.{ltb}
 use borrow.Author.Tests.{ltb-true, lt-ltb, leb-true, le-leb, not-true, not-false}
-use Rattle.status.proofs.Tables.{Passed}
 use Rattle.isdp.specs.Sizes.{mostPlaces}
 use Rattle.isdp.specs.LifeCycle.{selectable}
 use Rattle.isdp.specs.Place.{held, made}
@@ -21,13 +20,12 @@ use Rattle.card.specs.Sound.{sound}
 use Rattle.card.specs.declared.Card.{Card}
 use Rattle.card.proofs.Sounds.{parts}
 use Rattle.steps.specs.Asked.{Asked.create}
-use Rattle.steps.specs.Conditions.{cardRows}
-use Rattle.steps.specs.Steps.{askedWork}
 use Rattle.steps.specs.Laws.Answer.{Holds, Answers, onlyAt, replaced}
 use Rattle.steps.specs.Laws.Create.{LowestFree, MayCreate, CreateLaw}
+use Rattle.steps.proofs.Rows.{Passed}
 use Rattle.steps.proofs.Kept.{quietly}
 use Rattle.steps.proofs.Laws.Places.{place-is, holds}
-use Rattle.steps.proofs.Laws.Answer.{work-passed, step-taken, none-to-come, rewrites}
+use Rattle.steps.proofs.Laws.Answer.{asked-passed, asked-taken, none-to-come, rewrites}
 
 -- a search passes over no place that passes its test
 lower-case : (t : Isdp → Bool) (p : Isdp) (ps : List Isdp) (i : ℕ) (b : Bool) → t p ≡ b → i < cond b 0 (suc (seek t ps)) → ((j : ℕ) → j < seek t ps → t (at ps j) ≡ false) → t (at (p ∷ ps) i) ≡ false
@@ -53,27 +51,35 @@ missed-case c aid true e n = absurd (n (placeOf c aid) (holds c aid e))
 missed-case c aid false e n = refl
 
 module _ (c : Card) (aid : List ℕ) (quota : ℕ) (s : sound c ≡ true) where
-  rows-say : Passed (cardRows c (create aid quota)) → (freePlace c < length (c .places)) × MayCreate c aid quota
+  rows-say : Passed c (create aid quota) → (freePlace c < length (c .places)) × MayCreate c aid quota
   rows-say p =
       let w = parts c s in
       let f = w .sizes .full in
       let m = w .placed .room in
-      let r = p .1 .1 .1 .1 .1 .1 .0 in
+      let r = p .room in
       let k = ltb-true (freePlace c) mostPlaces (not-false _ (or-l (not (ltb (freePlace c) mostPlaces)) _ r)) in
       let q = leb-true quota (freeIn c) (not-false _ (or-r (not (ltb (freePlace c) mostPlaces)) _ r)) in (
         omega arith,
         record {
-          none-open = quietly (c .phase) (p .0);
-          not-held = λ i h. false≢true (sym (p .1 .1 .0) ∙ rw (place-is c aid i w h) (h .held-there));
+          none-open = quietly (c .phase) (p .change);
+          not-held = λ i h. false≢true (sym (p .already) ∙ rw (place-is c aid i w h) (h .held-there));
           room = omega arith;
         },
       )
 
-  rows-pass : freePlace c < length (c .places) → MayCreate c aid quota → Passed (cardRows c (create aid quota))
+  rows-pass : freePlace c < length (c .places) → MayCreate c aid quota → Passed c (create aid quota)
   rows-pass k m =
       let f = parts c s .sizes .full in
       let r = m .room in
-      (rw (m .none-open), (refl, (missed-case c aid (held (profileOf c aid)) refl (m .not-held), (refl, (refl, (refl, (rw (lt-ltb (freePlace c) mostPlaces (omega arith), le-leb quota (freeIn c) (omega arith)), tt)))))))
+      record {
+        change = rw (m .none-open);
+        target = refl;
+        already = missed-case c aid (held (profileOf c aid)) refl (m .not-held);
+        state = refl;
+        policy = refl;
+        verdict = refl;
+        room = rw (lt-ltb (freePlace c) mostPlaces (omega arith), le-leb quota (freeIn c) (omega arith));
+      }
 
   lowest-free : freePlace c < length (c .places) → LowestFree c (freePlace c)
   lowest-free k =
@@ -84,19 +90,18 @@ module _ (c : Card) (aid : List ℕ) (quota : ℕ) (s : sound c ≡ true) where
 
 pub create-law : CreateLaw
 create-law c aid quota s =
-    let w = askedWork c (create aid quota) in
     record {
-      some-place = λ e. (freePlace c, lowest-free c aid quota s (rows-say c aid quota s (work-passed c w refl e) .0));
+      some-place = λ e. (freePlace c, lowest-free c aid quota s (rows-say c aid quota s (asked-passed c (create aid quota) e) .0));
       exactly =
           λ t h.
           let q = place-found c aid quota s t h in
           let k = h .a-place in
           record {
-            only-where = λ e. rows-say c aid quota s (work-passed c w refl e) .1;
+            only-where = λ e. rows-say c aid quota s (asked-passed c (create aid quota) e) .1;
             where-may =
                 λ m.
                 let new = made aid selectable quota 0 in
-                let r = step-taken c w s refl (rows-pass c aid quota s (omega arith) m) in
+                let r = asked-taken c (create aid quota) s (rows-pass c aid quota s (omega arith) m) in
                 subst (Answers c (replaced c (onlyAt c t new) (0x00 ∷ []) 0)) (sym r)
                 (rw q (rewrites c t new (0x00 ∷ []) 0 k (none-to-come _ (m .none-open))));
           };

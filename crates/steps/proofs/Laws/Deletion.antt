@@ -1,5 +1,5 @@
 -- Delete and master delete: the rows that look at the card are the law's conditions, and the place is cleared in Quiet. Assumes nothing.
-use mathlib.Core.Path.{_≡_, refl, ap}
+use mathlib.Core.Path.{_≡_, refl}
 use Prim.Native.Nat.{ℕ}
 use mathlib.Core.List.{List, [], _∷_}
 use mathlib.Core.Bool.{false, not}
@@ -15,13 +15,12 @@ use Rattle.card.specs.Steps.{stepTo}
 use Rattle.card.specs.Answers.{accepted}
 use Rattle.card.specs.declared.Card.{Card}
 use Rattle.card.specs.declared.Phase.the-variants.{Quiet}
-use Rattle.steps.specs.Asked.{Act.delete, Act.masterDelete, Asked.on}
-use Rattle.steps.specs.Steps.{askedWork}
+use Rattle.steps.specs.Asked.{Act.delete, Act.masterDelete}
 use Rattle.steps.specs.Laws.Answer.{Holds}
 use Rattle.steps.specs.Laws.Deletion.{MayDelete, MayMasterDelete, Deleted, DeleteLaw, MasterDeleteLaw}
 use Rattle.steps.proofs.Kept.{quietly}
 use Rattle.steps.proofs.Laws.Places.{held-within}
-use Rattle.steps.proofs.Laws.Answer.{on-target, none-to-come, rewrites}
+use Rattle.steps.proofs.Laws.Answer.{command-law, held-passes, none-to-come, rewrites}
 
 module _ (c : Card) (aid : List ℕ) where
   abbrev t : ℕ
@@ -40,24 +39,12 @@ module _ (c : Card) (aid : List ℕ) where
 
 pub delete-law : DeleteLaw
 delete-law c aid s =
-    on-target c aid (askedWork c (on aid delete)) (MayDelete c) (Deleted c) s refl refl
-    (λ p.
-    let d = state c aid (p .1 .1 .1 .0) in
-    (not-false _ (p .1 .0), record { none-open = quietly (c .phase) (p .0); is-disabled = d .0; not-fallback = d .1; allows = p .1 .1 .1 .1 .0 }))
-    (λ h m. (
-      (rw (m .none-open), (ap not (h .held-there), (refl, (stated c aid (m .is-disabled) (m .not-fallback), (m .allows, (refl, (refl, tt))))))),
-      clears c aid h (m .none-open),
-    ))
+    command-law c aid delete (MayDelete c) (Deleted c) s
+    (λ p. let d = state c aid (p .state) in record { none-open = quietly (c .phase) (p .change); is-disabled = d .0; not-fallback = d .1; allows = p .policy })
+    (λ h m. (held-passes c aid delete h (rw (m .none-open)) (stated c aid (m .is-disabled) (m .not-fallback)) (m .allows) refl refl, clears c aid h (m .none-open)))
 
 pub master-delete-law : MasterDeleteLaw
 master-delete-law c aid verdict s =
-    on-target c aid (askedWork c (on aid (masterDelete verdict))) (MayMasterDelete c verdict) (Deleted c) s refl refl
-    (λ p.
-    let d = state c aid (p .1 .1 .1 .0) in (
-      not-false _ (p .1 .0),
-      record { none-open = quietly (c .phase) (p .0); is-disabled = d .0; not-fallback = d .1; verified = eqb-true _ _ (not-false _ (p .1 .1 .1 .1 .1 .0)) },
-    ))
-    (λ h m. (
-      (rw (m .none-open), (ap not (h .held-there), (refl, (stated c aid (m .is-disabled) (m .not-fallback), (refl, (rw (m .verified), (refl, tt))))))),
-      clears c aid h (m .none-open),
-    ))
+    command-law c aid (masterDelete verdict) (MayMasterDelete c verdict) (Deleted c) s
+    (λ p. let d = state c aid (p .state) in record { none-open = quietly (c .phase) (p .change); is-disabled = d .0; not-fallback = d .1; verified = eqb-true _ _ (not-false _ (p .verdict)) })
+    (λ h m. (held-passes c aid (masterDelete verdict) h (rw (m .none-open)) (stated c aid (m .is-disabled) (m .not-fallback)) refl (rw (m .verified)) refl, clears c aid h (m .none-open)))

@@ -14,50 +14,32 @@ use Rattle.card.specs.Answers.{accepted}
 use Rattle.card.specs.declared.Card.{Card}
 use Rattle.card.specs.declared.Phase.the-variants.{Quiet}
 use Rattle.card.proofs.Sounds.{parts}
-use Rattle.status.proofs.Tables.{Passed}
 use Rattle.steps.specs.Asked.{Act.setFallBack, Asked.on}
-use Rattle.steps.specs.Conditions.{cardRows}
-use Rattle.steps.specs.Steps.{askedWork}
 use Rattle.steps.specs.Laws.Answer.{Holds, Answers, Still}
 use Rattle.steps.specs.Laws.FallBack.{MayBeFallBack, fallsBackTo, SetFallBackLaw}
+use Rattle.steps.proofs.Rows.{Passed}
 use Rattle.steps.proofs.Kept.{quietly}
 use Rattle.steps.proofs.Laws.Places.{place-is}
-use Rattle.steps.proofs.Laws.Answer.{on-target, step-taken, no-notice, none-to-come, still}
+use Rattle.steps.proofs.Laws.Answer.{asked-taken, command-law, held-passes, no-notice, none-to-come, answers, still}
 
 falls-back : (c : Card) (t : ℕ) → c .phase ≡ Quiet → Answers c (fallsBackTo c t) (accepted Done (stepTo c (withFallback c t) noAid) [])
-unfolding accepted
 falls-back c t q =
-    record {
-      status = refl;
-      eid = refl;
-      capacity = refl;
-      volatile = refl;
-      last = refl;
-      fallback = refl;
-      phase = refl;
-      as-many = refl;
-      places = λ i. refl;
-      response = refl;
-      notification = no-notice c (withFallback c t) refl;
-      ticks = none-to-come (withFallback c t) q;
-    }
+    answers c (fallsBackTo c t) (c .places) noAid refl (λ i. refl) (no-notice c (withFallback c t) refl) (none-to-come (withFallback c t) q)
 
-passes : (c : Card) (aid : List ℕ) → Holds c aid (placeOf c aid) → MayBeFallBack c (placeOf c aid) → Passed (cardRows c (on aid setFallBack))
-passes c aid h m =
-    (rw (m .none-open), (ap not (h .held-there), (refl, (ap not (m .disabled-or-enabled), (refl, (refl, (refl, tt)))))))
+passes : (c : Card) (aid : List ℕ) → Holds c aid (placeOf c aid) → MayBeFallBack c (placeOf c aid) → Passed c (on aid setFallBack)
+passes c aid h m = held-passes c aid setFallBack h (rw (m .none-open)) (ap not (m .disabled-or-enabled)) refl refl refl
 
 pub set-fall-back-law : SetFallBackLaw
 set-fall-back-law c aid s =
-    let w = askedWork c (on aid setFallBack) in
     record {
       target =
-          on-target c aid w (MayBeFallBack c) (λ t. Answers c (fallsBackTo c t)) s refl refl
-          (λ p. (not-false _ (p .1 .0), record { none-open = quietly (c .phase) (p .0); disabled-or-enabled = not-false _ (p .1 .1 .1 .0) }))
+          command-law c aid setFallBack (MayBeFallBack c) (λ t. Answers c (fallsBackTo c t)) s
+          (λ p. record { none-open = quietly (c .phase) (p .change); disabled-or-enabled = not-false _ (p .state) })
           (λ h m. (passes c aid h m, falls-back c (placeOf c aid) (m .none-open)));
       holder =
           λ q h.
           let e = place-is c aid (c .fallback) (parts c s) h in
           let m : MayBeFallBack c (c .fallback) = record { none-open = q; disabled-or-enabled = parts c s .roles .resort } in
-          let r = step-taken c w s refl (passes c aid (subst (Holds c aid) (sym e) h) (subst (MayBeFallBack c) (sym e) m)) in
+          let r = asked-taken c (on aid setFallBack) s (passes c aid (subst (Holds c aid) (sym e) h) (subst (MayBeFallBack c) (sym e) m)) in
           subst (Still c []) (sym r) (rw e (still c [] s));
     }

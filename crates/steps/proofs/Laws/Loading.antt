@@ -28,12 +28,11 @@ use Rattle.card.specs.declared.Phase.the-variants.{Quiet, Trial, Back, Fallen}
 use Rattle.card.proofs.Counts.{counted}
 use Rattle.card.proofs.Sounds.{Sound, parts, whole}
 use Rattle.steps.specs.Asked.{Act.keyed, Act.stored, Act.finished}
-use Rattle.steps.specs.Steps.{innerWork}
 use Rattle.steps.proofs.Inner.{parted, keyed-at, stored-at, finished-at}
 use Rattle.steps.specs.Laws.Answer.{profileAt, Holds}
 use Rattle.steps.specs.Laws.Loading.{Loaded, MayStore, MayFinish, KeyedLaw, StoredLaw, FinishedLaw}
 use Rattle.steps.proofs.Laws.Places.{held-within}
-use Rattle.steps.proofs.Laws.Answer.{on-target, rewrites}
+use Rattle.steps.proofs.Laws.Answer.{inner-law, held-passes, rewrites}
 
 -- the clock looks at no place but whether the fall-back is enabled
 clock-case : (c : Card) (l : List Isdp) (p : Phase) → isEnabled (at l (c .fallback)) ≡ isEnabled (profileAt c (c .fallback)) → ticksIn p (withPlaces c l) ≡ ticksIn p c
@@ -77,10 +76,11 @@ module _ (c : Card) (aid : List ℕ) (s : sound c ≡ true) where
 pub keyed-law : KeyedLaw
 keyed-law c aid s =
     let i = placeOf c aid in
-    on-target c aid (innerWork c aid keyed) (λ j. profileAt c j .life ≡ selectable) (Loaded c (λ j. withLife (profileAt c j) personalized)) s refl refl
-    (λ p. (not-false _ (p .1 .1 .0), eqb-true _ _ (not-false _ (p .1 .1 .1 .1 .0))))
+    inner-law c aid keyed (λ j. profileAt c j .life ≡ selectable) (Loaded c (λ j. withLife (profileAt c j) personalized)) s
+    (λ v p. eqb-true _ _ (not-false _ (p .state)))
     (λ h m. (
-      (ap not (aid-ok c aid s selectable h m refl), (refl, (ap not (h .held-there), (refl, (rw m, (refl, (refl, (refl, tt)))))))),
+      ap not (aid-ok c aid s selectable h m refl),
+      held-passes c aid keyed h refl (rw m) refl refl refl,
       loads c i (withLife (profileAt c i) personalized) (inside c aid s h) (sym (off c aid s selectable m refl)) (keyed-at c i (parts c s) m),
     ))
 
@@ -88,15 +88,13 @@ pub stored-law : StoredLaw
 stored-law c aid n s =
     let i = placeOf c aid in
     let p = profileOf c aid in
-    on-target c aid (innerWork c aid (stored n)) (MayStore c n) (Loaded c (λ j. withUsed (profileAt c j) (profileAt c j .used + n))) s refl refl
-    (λ r. (
-      not-false _ (r .1 .1 .0),
-      record { is-personalized = eqb-true _ _ (not-false _ (r .1 .1 .1 .1 .0)); fits = leb-true (p .used + n) (p .quota) (not-false _ (r .1 .1 .1 .1 .1 .1 .1 .0)) },
-    ))
+    inner-law c aid (stored n) (MayStore c n) (Loaded c (λ j. withUsed (profileAt c j) (profileAt c j .used + n))) s
+    (λ v r. record { is-personalized = eqb-true _ _ (not-false _ (r .state)); fits = leb-true (p .used + n) (p .quota) (not-false _ (r .room)) })
     (λ h m.
     let e = m .is-personalized in
     let f = le-leb (p .used + n) (p .quota) (m .fits) in (
-      (ap not (aid-ok c aid s personalized h e refl), (refl, (ap not (h .held-there), (refl, (rw e, (refl, (refl, (ap not f, tt)))))))),
+      ap not (aid-ok c aid s personalized h e refl),
+      held-passes c aid (stored n) h refl (rw e) refl refl (ap not f),
       loads c i (withUsed p (p .used + n)) (inside c aid s h) refl (stored-at c i (p .used + n) (parts c s) e f),
     ))
 
@@ -104,15 +102,17 @@ pub finished-law : FinishedLaw
 finished-law c aid policy s =
     let i = placeOf c aid in
     let p = profileOf c aid in
-    on-target c aid (innerWork c aid (finished policy)) (MayFinish c policy) (Loaded c (λ j. withPolicy (withLife (profileAt c j) disabled) policy)) s refl refl
-    (λ r.
-    let a = not-false _ (r .1 .1 .1 .1 .0) in
-    let k = ltb-true 0 (p .used) (and-r (eqb (p .life) personalized) _ a) in (
-      not-false _ (r .1 .1 .0),
-      record { legal = and-r (aidOk aid) _ (not-false _ (r .0)); is-personalized = eqb-true _ _ (and-l (eqb (p .life) personalized) _ a); used-over-0 = k },
-    ))
+    inner-law c aid (finished policy) (MayFinish c policy) (Loaded c (λ j. withPolicy (withLife (profileAt c j) disabled) policy)) s
+    (λ v r.
+    let a = not-false _ (r .state) in
+    record {
+      legal = and-r (aidOk aid) _ (not-false _ v);
+      is-personalized = eqb-true _ _ (and-l (eqb (p .life) personalized) _ a);
+      used-over-0 = ltb-true 0 (p .used) (and-r (eqb (p .life) personalized) _ a);
+    })
     (λ h m.
     let e = m .is-personalized in (
-      (rw (aid-ok c aid s personalized h e refl, m .legal), (refl, (ap not (h .held-there), (refl, (rw (e, lt-ltb 0 (p .used) (m .used-over-0)), (refl, (refl, (refl, tt)))))))),
+      rw (aid-ok c aid s personalized h e refl, m .legal),
+      held-passes c aid (finished policy) h refl (rw (e, lt-ltb 0 (p .used) (m .used-over-0))) refl refl refl,
       loads c i (finish p policy) (inside c aid s h) (sym (off c aid s personalized e refl)) (finished-at c i policy (parts c s) e (m .legal)),
     ))

@@ -6,7 +6,6 @@ use native.Mathlib.Omega.{arith}
 use mathlib.Core.List.{List, [], _∷_, _++_, append-assoc, append-nil}
 use mathlib.Core.Bool.{Bool, true, not, cond}
 use lib.ListN.{length}
-use borrow.Author.Tests.{not-false}
 use Rattle.isdp.specs.Place.{held}
 use Rattle.isdp.specs.declared.Isdp.{Isdp}
 use Rattle.places.specs.Places.{at}
@@ -14,10 +13,9 @@ use Rattle.card.specs.Cards.{placeOf}
 use Rattle.card.specs.declared.Card.{Card}
 use Rattle.responses.specs.Responses.{markOf, statusBody, statusRow, rowOf, rowsFrom, statusResponse, oneStatus, dataResponse}
 use Rattle.steps.specs.Asked.{Act.status, Asked.on, Asked.statusOfAll, Asked.getData}
-use Rattle.steps.specs.Steps.{askedWork}
 use Rattle.steps.specs.Laws.Answer.{profileAt, Still}
 use Rattle.steps.specs.Laws.Reports.{statusAt, statusBelow, StatusOfAllLaw, StatusOfOneLaw, GetDataLaw}
-use Rattle.steps.proofs.Laws.Answer.{on-target, step-taken, still}
+use Rattle.steps.proofs.Laws.Answer.{asked-taken, command-law, held-passes, still}
 
 -- the row of one place
 row-is : (c : Card) (life mark : Bool) (k : ℕ) → rowOf (profileAt c k) (markOf (c .fallback) k) life mark ≡ cond (held (profileAt c k)) (statusAt c life mark k) []
@@ -47,20 +45,16 @@ one-bytes c t life mark h = row-is c life mark t ∙ rw h
 
 pub status-of-all-law : StatusOfAllLaw
 status-of-all-law c life mark s =
-    subst (Still c (statusBelow c life mark (length (c .places)))) (sym (step-taken c (askedWork c (statusOfAll life mark)) s refl (refl, (refl, (refl, (refl, (refl, (refl, (refl, tt)))))))))
-    (rw (all-bytes c life mark) (still c (statusBelow c life mark (length (c .places))) s))
+    let bytes = statusBelow c life mark (length (c .places)) in
+    subst (Still c bytes) (sym (asked-taken c (statusOfAll life mark) s (record { change = refl; target = refl; already = refl; state = refl; policy = refl; verdict = refl; room = refl }))) (rw (all-bytes c life mark) (still c bytes s))
 
 pub status-of-one-law : StatusOfOneLaw
 status-of-one-law c aid life mark s =
-    on-target c aid (askedWork c (on aid (status life mark))) (λ t. Unit {0}) (λ t. Still c (statusAt c life mark t)) s refl refl
-    (λ p. (not-false _ (p .1 .0), tt))
-    (λ h m. (
-      (refl, (ap not (h .held-there), (refl, (refl, (refl, (refl, (refl, tt))))))),
-      rw (one-bytes c (placeOf c aid) life mark (h .held-there)) (still c (statusAt c life mark (placeOf c aid)) s),
-    ))
+    let t = placeOf c aid in
+    command-law c aid (status life mark) (λ i. Unit {0}) (λ i. Still c (statusAt c life mark i)) s
+    (λ p. tt)
+    (λ h m. (held-passes c aid (status life mark) h refl refl refl refl refl, rw (one-bytes c t life mark (h .held-there)) (still c (statusAt c life mark t) s)))
 
 pub get-data-law : GetDataLaw
 unfolding dataResponse
-get-data-law c s =
-    subst (Still c _) (sym (step-taken c (askedWork c getData) s refl (refl, (refl, (refl, (refl, (refl, (refl, (refl, tt)))))))))
-    (still c (dataResponse c) s)
+get-data-law c s = subst (Still c _) (sym (asked-taken c getData s (record { change = refl; target = refl; already = refl; state = refl; policy = refl; verdict = refl; room = refl }))) (still c (dataResponse c) s)

@@ -1,0 +1,51 @@
+-- Bytes of each command, read back by computing: what is read was so written.
+use mathlib.Core.Path.{_≡_, refl}
+use Prim.Native.Nat.{ℕ}
+use mathlib.Core.List.{List, [], _∷_, _++_}
+use mathlib.Core.Bool.{true}
+use mathlib.Core.Option.{some}
+use Rattle.status.specs.Rows.{wordOf}
+use Rattle.choice.specs.Choice.{pick, atMost, isBelow, isSame}
+use Rattle.tlv.specs.Lists.{closed, elementOf, restOf, listOf, listWithin, listAt, elementAt, listWrong}
+use Rattle.tlv.specs.Tlv.{tagAt, lengthAt, afterLength, afterTag, headAt, expectOf, expectAt}
+use Rattle.tlv.specs.Encoding.{window}
+use Rattle.reader.specs.Reader.{aloneAt}
+use Rattle.fields.specs.Delete.{verificationAt, deletionAt}
+use Rattle.fields.specs.GetStatus.{tagsAt, listingAt}
+use Rattle.fields.specs.StoreData.{dgiAt, namedBy, confirmationAt, storeDataAt}
+use Rattle.fields.specs.Grammar as field
+use Rattle.install.specs.Parameters.{protocolsWithin, protocolsAt, numberAt, grantOf, memoryAt, parametersAt}
+use Rattle.install.specs.Install.{prefixedOf, prefixedAt, namesAt, rightsAt, installOf}
+use Rattle.command.specs.Framing.{lengthWrong, classRight, classWrong, instructionWrong, parametersRight, parametersWrong, shapeRight, shapeWrong}
+use Rattle.command.specs.Requests.{fieldOf, dataWrong}
+use Rattle.command.specs.Reading.{readOf}
+use Rattle.command.specs.Grammar as written
+use Rattle.fields.specs.Grammar.{Wanted}
+use Rattle.command.specs.Grammar.{readAs}
+use Rattle.command.proofs.Written.{command-written}
+use Rattle.steps.specs.Laws.Met.{aidEnding}
+use Rattle.demands.specs.CallLaws.{IsWritten, EveryCallMet}
+use Rattle.demands.proofs.HypothesesMet.{smallBytes, bytes-of}
+
+is-written : (s : List ℕ) (w : Wanted) → smallBytes s ≡ true → readAs s (readOf s 1000) ≡ some w → IsWritten w
+is-written s w b e = (s, command-written s 1000 w (bytes-of s b) e)
+
+-- a DGI with an AID, a deletion
+abbrev storing : ℕ → List ℕ
+storing dgi = 0x80 ∷ 0xE2 ∷ 0x88 ∷ 0x00 ∷ 0x0A ∷ 0x3A ∷ dgi ∷ 0x07 ∷ 0x4F ∷ 0x05 ∷ aidEnding 2
+
+pub every-call-met : EveryCallMet
+unfolding readOf wordOf window lengthWrong classRight classWrong instructionWrong parametersRight parametersWrong shapeRight shapeWrong fieldOf dataWrong pick atMost isBelow isSame tagAt lengthAt afterLength afterTag headAt expectOf expectAt closed elementOf restOf listOf listWithin listAt elementAt listWrong aloneAt verificationAt deletionAt tagsAt listingAt dgiAt namedBy confirmationAt storeDataAt protocolsWithin protocolsAt numberAt grantOf memoryAt parametersAt prefixedOf prefixedAt namesAt rightsAt installOf
+every-call-met =
+    record {
+      create = is-written (0x80 ∷ 0xE6 ∷ 0x0C ∷ 0x00 ∷ 0x22 ∷ 5 ∷ (aidEnding 2 ++ 5 ∷ (aidEnding 2 ++ 5 ∷ (aidEnding 5 ++ 1 ∷ 0x80 ∷ 0x0C ∷ 0xC9 ∷ 4 ∷ 0x81 ∷ 2 ∷ 3 ∷ 0x70 ∷ 0xEF ∷ 4 ∷ 0x83 ∷ 2 ∷ 0x02 ∷ 0x58 ∷ 0 ∷ [])))) _ refl refl;
+      enable = is-written (storing 0x03) _ refl refl;
+      disable = is-written (storing 0x04) _ refl refl;
+      delete = is-written (0x80 ∷ 0xE4 ∷ 0x00 ∷ 0x40 ∷ 0x07 ∷ 0x4F ∷ 0x05 ∷ aidEnding 2) _ refl refl;
+      master-delete = is-written (0x80 ∷ 0xE4 ∷ 0x00 ∷ 0x40 ∷ 0x19 ∷ 0x4F ∷ 0x05 ∷ (aidEnding 2 ++ 0xB6 ∷ 0x0D ∷ 0x42 ∷ 1 ∷ 1 ∷ 0x45 ∷ 1 ∷ 2 ∷ 0x5F ∷ 0x20 ∷ 1 ∷ 3 ∷ 0x93 ∷ 1 ∷ 4 ∷ 0x9E ∷ 1 ∷ 0x55 ∷ [])) _ refl refl;
+      set-fall-back = is-written (storing 0x05) _ refl refl;
+      confirmation = is-written (0x80 ∷ 0xE2 ∷ 0x89 ∷ 0x00 ∷ 0x07 ∷ 0x3A ∷ 0x08 ∷ 0x04 ∷ 0x4E ∷ 0x02 ∷ 0 ∷ 1 ∷ 0x00 ∷ []) _ refl refl;
+      status-of-all = is-written (0x80 ∷ 0xF2 ∷ 0x40 ∷ 0x02 ∷ 0x02 ∷ 0x4F ∷ 0x00 ∷ 0x00 ∷ []) _ refl refl;
+      status-of-one = is-written (0x80 ∷ 0xF2 ∷ 0x40 ∷ 0x02 ∷ 0x07 ∷ 0x4F ∷ 0x05 ∷ aidEnding 2) _ refl refl;
+      get-data = is-written (0x80 ∷ 0xCA ∷ 0xFF ∷ 0x21 ∷ 0x00 ∷ []) _ refl refl;
+    }
