@@ -9,7 +9,6 @@ use Rattle.card.specs.Sound.{sound}
 use Rattle.card.specs.Answers.{Outcome, outcome}
 use Rattle.card.specs.declared.Card.{Card}
 use Rattle.fields.specs.Grammar as field
-use Rattle.command.specs.Grammar as written
 use Rattle.fields.specs.Grammar.{Wanted}
 use Rattle.steps.specs.Asked.{Act.keyed, Act.stored, Act.finished, Asked.tick, Asked.lost}
 use Rattle.steps.specs.Steps.{askedWork, innerWork}
@@ -58,16 +57,16 @@ module _ (c : Card) where
 pub every-call : EveryCall
 every-call =
     record {
-      create = λ v. lifted (written.create v) (λ c verdict. CreateAnswers c (v .aid) (v .quota)) (λ c verdict. call-laws .create c (v .aid) (v .quota));
-      enable = λ aid. lifted (written.storeData (field.enable aid)) (λ c verdict. EnableAnswers c aid) (λ c verdict. call-laws .enable c aid);
-      disable = λ aid. lifted (written.storeData (field.disable aid)) (λ c verdict. DisableAnswers c aid) (λ c verdict. call-laws .disable c aid);
-      delete = λ aid. lifted (written.deletion (field.delete aid)) (λ c verdict. DeleteAnswers c aid) (λ c verdict. call-laws .delete c aid);
-      master-delete = λ aid. lifted (written.deletion (field.masterDelete aid)) (λ c verdict. MasterDeleteAnswers c aid verdict) (λ c verdict. call-laws .master-delete c aid verdict);
-      set-fall-back = λ aid. lifted (written.storeData (field.setFallBack aid)) (λ c verdict. SetFallBackAnswers c aid) (λ c verdict. call-laws .set-fall-back c aid);
-      confirmation = λ number. lifted (written.storeData (field.confirmation number)) (λ c verdict. ConfirmationAnswers c number) (λ c verdict. call-laws .confirmation c number);
-      status-of-all = λ life mark. lifted (written.getStatus (field.asked [] life mark)) (λ c verdict. StatusOfAllAnswers c life mark) (λ c verdict. call-laws .status-of-all c life mark);
-      status-of-one = λ first rest life mark. lifted (written.getStatus (field.asked (first ∷ rest) life mark)) (λ c verdict. StatusOfOneAnswers c (first ∷ rest) life mark) (λ c verdict. call-laws .status-of-one c (first ∷ rest) life mark);
-      get-data = lifted written.getData (λ c verdict. GetDataAnswers c) (λ c verdict. call-laws .get-data c);
+      create = λ v. lifted (field.create v) (λ c verdict. CreateAnswers c (v .aid) (v .quota)) (λ c verdict. call-laws .create c (v .aid) (v .quota));
+      enable = λ aid. lifted (field.storeData (field.enable aid)) (λ c verdict. EnableAnswers c aid) (λ c verdict. call-laws .enable c aid);
+      disable = λ aid. lifted (field.storeData (field.disable aid)) (λ c verdict. DisableAnswers c aid) (λ c verdict. call-laws .disable c aid);
+      delete = λ aid. lifted (field.deletion (field.delete aid)) (λ c verdict. DeleteAnswers c aid) (λ c verdict. call-laws .delete c aid);
+      master-delete = λ aid. lifted (field.deletion (field.masterDelete aid)) (λ c verdict. MasterDeleteAnswers c aid verdict) (λ c verdict. call-laws .master-delete c aid verdict);
+      set-fall-back = λ aid. lifted (field.storeData (field.setFallBack aid)) (λ c verdict. SetFallBackAnswers c aid) (λ c verdict. call-laws .set-fall-back c aid);
+      confirmation = λ number. lifted (field.storeData (field.confirmation number)) (λ c verdict. ConfirmationAnswers c number) (λ c verdict. call-laws .confirmation c number);
+      status-of-all = λ life mark. lifted (field.getStatus (field.asked [] life mark)) (λ c verdict. StatusOfAllAnswers c life mark) (λ c verdict. call-laws .status-of-all c life mark);
+      status-of-one = λ first rest life mark. lifted (field.getStatus (field.asked (first ∷ rest) life mark)) (λ c verdict. StatusOfOneAnswers c (first ∷ rest) life mark) (λ c verdict. call-laws .status-of-one c (first ∷ rest) life mark);
+      get-data = lifted field.getData (λ c verdict. GetDataAnswers c) (λ c verdict. call-laws .get-data c);
       keyed = λ aid c e. subst (KeyedAnswers c aid) (keyed-works c aid) (call-laws .keyed c aid e);
       stored = λ aid n c e. subst (StoredAnswers c aid n) (stored-works c aid n) (call-laws .stored c aid n e);
       finished = λ aid policy c e. subst (FinishedAnswers c aid policy) (finished-works c aid policy) (call-laws .finished c aid policy e);

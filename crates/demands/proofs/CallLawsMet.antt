@@ -1,4 +1,4 @@
--- Bytes of each command, read back by computing: what is read was so written.
+-- Bytes of each command, read back by computing: what is read was so field.
 use mathlib.Core.Path.{_≡_, refl}
 use Prim.Native.Nat.{ℕ}
 use mathlib.Core.List.{List, [], _∷_, _++_}
@@ -19,7 +19,6 @@ use Rattle.install.specs.Install.{prefixedOf, prefixedAt, namesAt, rightsAt, in
 use Rattle.command.specs.Framing.{lengthWrong, classRight, classWrong, instructionWrong, parametersRight, parametersWrong, shapeRight, shapeWrong}
 use Rattle.command.specs.Requests.{fieldOf, dataWrong}
 use Rattle.command.specs.Reading.{readOf}
-use Rattle.command.specs.Grammar as written
 use Rattle.fields.specs.Grammar.{Wanted}
 use Rattle.command.specs.Grammar.{readAs}
 use Rattle.command.proofs.Written.{command-written}

@@ -19,7 +19,7 @@ use Rattle.card.specs.Cards.{isQuiet, profileOf, freePlace, freeIn}
 use Rattle.card.specs.declared.Card.{Card}
 use Rattle.card.proofs.Sounds.{parts}
 use Rattle.fields.specs.Grammar.{Created}
-use Rattle.command.specs.Grammar as written
+use Rattle.fields.specs.Grammar as written
 use Rattle.steps.specs.Asked.{Asked.create}
 use Rattle.steps.specs.Conditions.{cardRows}
 use Rattle.steps.specs.Steps.{successOf}

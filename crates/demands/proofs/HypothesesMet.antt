@@ -38,7 +38,7 @@ use Rattle.install.specs.Install.{prefixedOf, prefixedAt, namesAt, rightsAt, in
 use Rattle.fields.specs.Grammar.{Created}
 use Rattle.command.specs.Framing.{lengthWrong, classRight, classWrong, instructionWrong, parametersRight, parametersWrong, shapeRight, shapeWrong}
 use Rattle.command.specs.Requests.{fieldOf, dataWrong}
-use Rattle.command.specs.Grammar as written
+use Rattle.fields.specs.Grammar as written
 use Rattle.command.specs.Grammar.{readAs, Encodes}
 use Rattle.command.specs.Reading.{readOf}
 use Rattle.command.proofs.Written.{command-written}
@@ -123,7 +123,7 @@ bytes-of (x ∷ xs) e zero = ltb-true x 256 (and-l _ _ e)
 bytes-of (x ∷ xs) e (suc i) = bytes-of xs (and-r (ltb x 256) _ e) i
 
 reads : (readAs createBytes (readOf createBytes 1000) ≡ some (written.create asks)) × (readAs createBytes (readOf createBytes 100) ≡ some (written.create asks))
-unfolding readOf wordOf window lengthWrong classRight classWrong instructionWrong parametersRight parametersWrong shapeRight shapeWrong fieldOf dataWrong pick atMost isBelow isSame tagAt lengthAt afterLength afterTag headAt expectOf expectAt closed elementOf restOf listOf listWithin listAt elementAt listWrong protocolsWithin protocolsAt numberAt grantOf memoryAt parametersAt prefixedOf prefixedAt namesAt rightsAt installOf
+unfolding readOf wordOf window lengthWrong classRight classWrong instructionWrong parametersRight parametersWrong shapeRight shapeWrong fieldOf dataWrong pick atMost isBelow isSame tagAt lengthAt afterLength afterTag headAt expectOf expectAt closed elementOf restOf listOf listWithin listAt elementAt listWrong protocolsWithin protocolsAt numberAt grantOf memoryAt parametersAt prefixedOf prefixedAt namesAt rightsAt installOf aloneAt
 reads = (refl, refl)
 
 encoded-in : (capacity : ℕ) → readAs createBytes (readOf createBytes capacity) ≡ some (written.create asks) → Encodes capacity (written.create asks) createBytes

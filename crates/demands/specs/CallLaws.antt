@@ -9,7 +9,6 @@ use Rattle.card.specs.Answers.{Outcome}
 use Rattle.card.specs.declared.Card.{Card}
 use Rattle.fields.specs.Grammar as field
 use Rattle.fields.specs.Grammar.{Created}
-use Rattle.command.specs.Grammar as written
 use Rattle.fields.specs.Grammar.{Wanted}
 use Rattle.command.specs.Grammar.{Encodes}
 use Rattle.steps.specs.Laws.Met.{aidEnding}
@@ -39,18 +38,18 @@ abbrev pub CallLaw : Call → (Card → Outcome → Type 0) → Type 0
 CallLaw call Answered = (c : Card) → sound c ≡ true → Answered c (step c call)
 
 pub record EveryCall : Type 0 where
-  pub create : (v : Created) → WrittenLaw (written.create v) (λ c verdict. CreateAnswers c (v .aid) (v .quota))
-  pub enable : (aid : List ℕ) → WrittenLaw (written.storeData (field.enable aid)) (λ c verdict. EnableAnswers c aid)
-  pub disable : (aid : List ℕ) → WrittenLaw (written.storeData (field.disable aid)) (λ c verdict. DisableAnswers c aid)
-  pub delete : (aid : List ℕ) → WrittenLaw (written.deletion (field.delete aid)) (λ c verdict. DeleteAnswers c aid)
-  pub master-delete : (aid : List ℕ) → WrittenLaw (written.deletion (field.masterDelete aid)) (λ c verdict. MasterDeleteAnswers c aid verdict)
-  pub set-fall-back : (aid : List ℕ) → WrittenLaw (written.storeData (field.setFallBack aid)) (λ c verdict. SetFallBackAnswers c aid)
-  pub confirmation : (number : ℕ) → WrittenLaw (written.storeData (field.confirmation number)) (λ c verdict. ConfirmationAnswers c number)
+  pub create : (v : Created) → WrittenLaw (field.create v) (λ c verdict. CreateAnswers c (v .aid) (v .quota))
+  pub enable : (aid : List ℕ) → WrittenLaw (field.storeData (field.enable aid)) (λ c verdict. EnableAnswers c aid)
+  pub disable : (aid : List ℕ) → WrittenLaw (field.storeData (field.disable aid)) (λ c verdict. DisableAnswers c aid)
+  pub delete : (aid : List ℕ) → WrittenLaw (field.deletion (field.delete aid)) (λ c verdict. DeleteAnswers c aid)
+  pub master-delete : (aid : List ℕ) → WrittenLaw (field.deletion (field.masterDelete aid)) (λ c verdict. MasterDeleteAnswers c aid verdict)
+  pub set-fall-back : (aid : List ℕ) → WrittenLaw (field.storeData (field.setFallBack aid)) (λ c verdict. SetFallBackAnswers c aid)
+  pub confirmation : (number : ℕ) → WrittenLaw (field.storeData (field.confirmation number)) (λ c verdict. ConfirmationAnswers c number)
   -- 4F is empty
-  pub status-of-all : (life mark : Bool) → WrittenLaw (written.getStatus (field.asked [] life mark)) (λ c verdict. StatusOfAllAnswers c life mark)
+  pub status-of-all : (life mark : Bool) → WrittenLaw (field.getStatus (field.asked [] life mark)) (λ c verdict. StatusOfAllAnswers c life mark)
   -- 4F is an AID
-  pub status-of-one : (first : ℕ) (rest : List ℕ) (life mark : Bool) → WrittenLaw (written.getStatus (field.asked (first ∷ rest) life mark)) (λ c verdict. StatusOfOneAnswers c (first ∷ rest) life mark)
-  pub get-data : WrittenLaw written.getData (λ c verdict. GetDataAnswers c)
+  pub status-of-one : (first : ℕ) (rest : List ℕ) (life mark : Bool) → WrittenLaw (field.getStatus (field.asked (first ∷ rest) life mark)) (λ c verdict. StatusOfOneAnswers c (first ∷ rest) life mark)
+  pub get-data : WrittenLaw field.getData (λ c verdict. GetDataAnswers c)
   pub keyed : (aid : List ℕ) → CallLaw (Keyed aid) (λ c. KeyedAnswers c aid)
   pub stored : (aid : List ℕ) (n : ℕ) → CallLaw (Stored aid n) (λ c. StoredAnswers c aid n)
   pub finished : (aid : List ℕ) (policy : ℕ) → CallLaw (Finished aid policy) (λ c. FinishedAnswers c aid policy)
@@ -63,13 +62,13 @@ IsWritten w = (s : List ℕ) × Encodes 1000 w s
 
 -- each command is written, for the cards that meet the laws (`LawsMet`)
 pub record EveryCallMet : Type 0 where
-  pub create : IsWritten (written.create (record { aid = aidEnding 5; quota = 600 }))
-  pub enable : IsWritten (written.storeData (field.enable (aidEnding 2)))
-  pub disable : IsWritten (written.storeData (field.disable (aidEnding 2)))
-  pub delete : IsWritten (written.deletion (field.delete (aidEnding 2)))
-  pub master-delete : IsWritten (written.deletion (field.masterDelete (aidEnding 2)))
-  pub set-fall-back : IsWritten (written.storeData (field.setFallBack (aidEnding 2)))
-  pub confirmation : IsWritten (written.storeData (field.confirmation 1))
-  pub status-of-all : IsWritten (written.getStatus (field.asked [] true true))
-  pub status-of-one : IsWritten (written.getStatus (field.asked (aidEnding 2) true true))
-  pub get-data : IsWritten written.getData
+  pub create : IsWritten (field.create (record { aid = aidEnding 5; quota = 600 }))
+  pub enable : IsWritten (field.storeData (field.enable (aidEnding 2)))
+  pub disable : IsWritten (field.storeData (field.disable (aidEnding 2)))
+  pub delete : IsWritten (field.deletion (field.delete (aidEnding 2)))
+  pub master-delete : IsWritten (field.deletion (field.masterDelete (aidEnding 2)))
+  pub set-fall-back : IsWritten (field.storeData (field.setFallBack (aidEnding 2)))
+  pub confirmation : IsWritten (field.storeData (field.confirmation 1))
+  pub status-of-all : IsWritten (field.getStatus (field.asked [] true true))
+  pub status-of-one : IsWritten (field.getStatus (field.asked (aidEnding 2) true true))
+  pub get-data : IsWritten field.getData

@@ -12,7 +12,6 @@ use Rattle.card.specs.Answers.{outcome}
 use Rattle.card.specs.declared.Card.{Card}
 use Rattle.tlv.specs.Encoding.{Bytes}
 use Rattle.fields.specs.Grammar as field
-use Rattle.command.specs.Grammar as written
 use Rattle.fields.specs.Grammar.{Wanted}
 use Rattle.command.specs.Grammar.{Encodes}
 use Rattle.steps.specs.Asked.{Act.enable, Act.disable, Act.delete, Act.masterDelete, Act.setFallBack, Act.status, Asked, Asked.create, Asked.on, Asked.confirm, Asked.statusOfAll, Asked.getData}
@@ -39,11 +38,11 @@ listedAsks (first ∷ rest) life shown = on (first ∷ rest) (status life shown)
 
 -- what a written command asks of the card
 abbrev pub wantedAsks : ℕ → Wanted → Asked
-wantedAsks verdict (written.create v) = create (v .aid) (v .quota)
-wantedAsks verdict (written.storeData v) = storedAsks v
-wantedAsks verdict (written.deletion v) = deletedAsks verdict v
-wantedAsks verdict (written.getStatus v) = listedAsks (v .who) (v .life) (v .fallBackShown)
-wantedAsks verdict written.getData = getData
+wantedAsks verdict (field.create v) = create (v .aid) (v .quota)
+wantedAsks verdict (field.storeData v) = storedAsks v
+wantedAsks verdict (field.deletion v) = deletedAsks verdict v
+wantedAsks verdict (field.getStatus v) = listedAsks (v .who) (v .life) (v .fallBackShown)
+wantedAsks verdict field.getData = getData
 
 -- the answer to a written command is the outcome of what was written: the card's rows of the table, the step and the response of that
 abbrev pub WrittenAnswered : Type 0
