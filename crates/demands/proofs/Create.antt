@@ -1,7 +1,7 @@
 -- Create is live: where every row before the last passes, the word is decided by the last row, and its search for a free place fails
 -- exactly where no place is free. By induction over the places. Assumes nothing.
 use mathlib.Core.Path.{_≡_, refl, sym, ap, _∙_}
-use Prim.Native.Nat.{ℕ, zero, suc, _<_}
+use Prim.Native.Nat.{ℕ, suc}
 use native.Mathlib.Omega.{arith}
 use mathlib.Core.List.{List, [], _∷_}
 use mathlib.Core.Bool.{Bool, true, false, not, cond, _||_, false≢true}
@@ -28,6 +28,7 @@ use Rattle.steps.specs.Conditions.{cardRows}
 use Rattle.steps.specs.Steps.{stepOf, responseOf, successOf}
 use Rattle.manager.specs.Calls.{Call.Command}
 use Rattle.manager.specs.Manager.{step}
+use Rattle.steps.proofs.Laws.Create.{lower}
 use Rattle.demands.specs.Create.{SoundRequest, RoomDecides, Filled, CreateLive}
 use Rattle.demands.proofs.Written.{written-word, written-taken}
 
@@ -44,17 +45,6 @@ pub found-any : (t : Isdp → Bool) (l : List Isdp) → ltb (seek t l) (length l
 unfolding seek anyOf
 found-any t [] = refl
 found-any t (p ∷ ps) = found-case t ps (t p) (found-any t ps)
-
-lower-case : (t : Isdp → Bool) (p : Isdp) (ps : List Isdp) (i : ℕ) (b : Bool) → t p ≡ b → i < cond b 0 (suc (seek t ps)) → ((j : ℕ) → j < seek t ps → t (at ps j) ≡ false) → t (at (p ∷ ps) i) ≡ false
-lower-case t p ps i true e h f = absurd (omega arith)
-lower-case t p ps zero false e h f = e
-lower-case t p ps (suc i) false e h f = f i (omega arith)
-
--- and no lower one
-pub lower : (t : Isdp → Bool) (l : List Isdp) (i : ℕ) → i < seek t l → t (at l i) ≡ false
-unfolding seek
-lower t [] i h = absurd (omega arith)
-lower t (p ∷ ps) i h = lower-case t p ps i (t p) refl h (lower t ps)
 
 -- an AID that no place bears is not held
 missed : (l : List Isdp) (aid : List ℕ) (b : Bool) → ltb (seek (isFor aid) l) (length l) ≡ b → b ≡ false → held (at l (seek (isFor aid) l)) ≡ false
