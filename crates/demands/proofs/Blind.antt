@@ -29,7 +29,8 @@ use Rattle.card.specs.declared.Phase.the-variants.{Quiet, Trial, Back, Fallen}
 use Rattle.steps.specs.Asked.{Act, Act.enable, Act.disable, Act.delete, Act.masterDelete, Act.setFallBack, Act.status, Act.keyed, Act.stored, Act.finished, Asked, Asked.unread, Asked.create, Asked.on, Asked.confirm, Asked.statusOfAll, Asked.getData, Asked.tick, Asked.lost}
 use Rattle.steps.specs.Conditions.{cardRows}
 use Rattle.steps.specs.Steps.{stepOf, actStep, responseOf, actResponse}
-use Rattle.demands.proofs.Others.{held-within, free-other, tick-lives, lost-lives}
+use Rattle.steps.proofs.Laws.Places.{held-within}
+use Rattle.demands.proofs.Others.{free-other, tick-lives, lost-lives}
 use Rattle.demands.proofs.Uses.{useAt, reuseAt, use-at, use-other, set-other, set-used, set-over, reuse-moved, enabled-reuse, place-reuse, free-reuse, drops-reuse, tick-reuse, lost-reuse, ticks-reuse, status-reuse, one-reuse, room-reuse, data-reuse, notice-reuse}
 
 -- the cards are equal, or place i still bears the AID and they differ in its used bytes

@@ -1,10 +1,11 @@
 -- The answer to a written command is the outcome of what was written, and that of an inner call or a report the outcome of its work, so each
 -- is told by its law. Assumes nothing.
-use mathlib.Core.Path.{_≡_, refl, sym, subst}
+use mathlib.Core.Path.{_≡_, refl, sym, subst, _∙_}
 use Prim.Native.Nat.{ℕ}
 use mathlib.Core.List.{List, [], _∷_}
-use mathlib.Core.Bool.{true}
+use mathlib.Core.Bool.{Bool, true, false, not, cond}
 use Rattle.status.specs.Rows.{wordOf}
+use Rattle.status.specs.declared.Status.the-variants.{Unsound, Done}
 use Rattle.card.specs.Sound.{sound}
 use Rattle.card.specs.Answers.{Outcome, outcome}
 use Rattle.card.specs.declared.Card.{Card}
@@ -24,7 +25,8 @@ use Rattle.steps.proofs.Laws.{call-laws}
 use Rattle.manager.specs.Calls.{Call.Keyed, Call.Stored, Call.Finished, Call.Tick, Call.Lost}
 use Rattle.manager.specs.Manager.{step}
 use Rattle.demands.specs.Written.{wantedAsks}
-use Rattle.demands.specs.CallLaws.{WrittenLaw, EveryCall}
+use Rattle.demands.specs.CallLaws.{WrittenLaw, EveryCall, ReportsTaken}
+use Rattle.demands.proofs.Words.{word-is}
 use Rattle.demands.proofs.Written.{written-answered}
 
 -- a law of what was written
@@ -73,3 +75,13 @@ every-call =
       tick = λ c e. subst (TickAnswers c) (tick-works c) (call-laws .tick c e);
       lost = λ c e. subst (LostAnswers c) (lost-works c) (call-laws .lost c e);
     }
+
+-- the one row that looks at the card
+sound-case : (b : Bool) → cond (not b) Unsound Done ≡ cond b Done Unsound
+sound-case true = refl
+sound-case false = refl
+
+pub reports-taken : ReportsTaken
+unfolding wordOf
+reports-taken =
+    record { tick = λ c. word-is c Tick ∙ sound-case (sound c); lost = λ c. word-is c Lost ∙ sound-case (sound c) }

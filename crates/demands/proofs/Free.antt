@@ -42,12 +42,13 @@ use Rattle.steps.proofs.Kept.{Legal}
 use Rattle.manager.specs.Calls.{Call, asked, askedOf}
 use Rattle.manager.specs.Manager.{step, run, work}
 use Rattle.manager.proofs.Kept.{rows-accepted, legal, step-sound}
+use Rattle.steps.proofs.Laws.Places.{held-within}
 use Rattle.demands.specs.Inputs.{Inputs, freshOf}
 use Rattle.demands.specs.Said.{said, Exchange, exchanges}
 use Rattle.demands.specs.Free.{Made, without, afterConfirm, afterAct, afterAsked, madeAfter, history, room, first, FreeIsCounted}
 use Rattle.demands.proofs.Words.{done-as}
 use Rattle.demands.proofs.Taken.{hands-back, takes-step}
-use Rattle.demands.proofs.Others.{held-within, tick-lives, lost-lives}
+use Rattle.demands.proofs.Others.{tick-lives, lost-lives}
 use Rattle.demands.proofs.Tallies.{sumMade, sumHeld, Tally, lives-tally, alike-tally, made-weight, create-tally, delete-tally, tally-room, bears-own}
 
 -- no step changes the capacity

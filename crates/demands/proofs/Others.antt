@@ -2,7 +2,6 @@
 -- other step sets one place: the target's, a free one, or at confirmation the previous one. Assumes nothing.
 use mathlib.Core.Path.{_≡_, refl, ap, sym, _∙_}
 use Prim.Native.Nat.{ℕ, zero, suc, _<_}
-use native.Mathlib.Omega.{arith}
 use mathlib.Core.List.{List, [], _∷_}
 use mathlib.Core.Bool.{Bool, true, false, _&&_, false≢true}
 use lib.ListN.{length, set}
@@ -29,6 +28,7 @@ use Rattle.steps.specs.Asked.{Act, Act.enable, Act.disable, Act.delete, Act.mas
 use Rattle.steps.specs.Steps.{stepOf, actStep, responseOf}
 use Rattle.manager.specs.Calls.{asked}
 use Rattle.manager.specs.Manager.{step, work}
+use Rattle.steps.proofs.Laws.Places.{held-within}
 use Rattle.demands.specs.Others.{AsItWas, targets, leaves, leavesIn, OthersUntouched, SaveTheDeletion}
 use Rattle.demands.proofs.Taken.{hands-back, takes-step}
 
@@ -60,12 +60,7 @@ module _ (c : Card) where
       (λ q. choose From (onFallback c) _ _ (λ e. lives-same (c .places)) (λ e. enable-lives (c .places) (c .fallback)))
       (λ q. lives-same (c .places))
 
--- a held place is within the list, and no search for a free one finds it
-pub held-within : (l : List Isdp) (i : ℕ) → held (at l i) ≡ true → i < length l
-held-within [] i h = absurd (false≢true h)
-held-within (p ∷ ps) zero h = omega arith
-held-within (p ∷ ps) (suc i) h = let k = held-within ps i h in omega arith
-
+-- no search for a free place finds a held one
 pub not-found : (t : Isdp → Bool) (l : List Isdp) (i : ℕ) → i < length l → t (at l i) ≡ false → seek t l ≡ i → ⊥
 not-found t l i h n e = false≢true (sym n ∙ rw e at (seek-below t l (rw e h)))
 

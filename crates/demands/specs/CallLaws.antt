@@ -3,7 +3,8 @@
 use Prim.Native.Nat.{ℕ, _≤_}
 use mathlib.Core.Path.{_≡_}
 use mathlib.Core.List.{List, [], _∷_}
-use mathlib.Core.Bool.{Bool, true}
+use mathlib.Core.Bool.{Bool, true, cond}
+use Rattle.status.specs.declared.Status.the-variants.{Unsound, Done}
 use Rattle.card.specs.Sound.{sound}
 use Rattle.card.specs.Answers.{Outcome}
 use Rattle.card.specs.declared.Card.{Card}
@@ -55,6 +56,14 @@ pub record EveryCall : Type 0 where
   pub finished : (aid : List ℕ) (policy : ℕ) → CallLaw (Finished aid policy) (λ c. FinishedAnswers c aid policy)
   pub tick : CallLaw Tick TickAnswers
   pub lost : CallLaw Lost LostAnswers
+
+-- "Tick and lost are refused only by 6F 00.": 90 00 on every sound card
+abbrev pub RefusedOnlyUnsound : Call → Type 0
+RefusedOnlyUnsound call = (c : Card) → step c call .status ≡ cond (sound c) Done Unsound
+
+pub record ReportsTaken : Type 0 where
+  pub tick : RefusedOnlyUnsound Tick
+  pub lost : RefusedOnlyUnsound Lost
 
 -- for a card of 1000 bytes some bytes write this
 abbrev pub IsWritten : Wanted → Type 0
