@@ -16,7 +16,7 @@ use Rattle.places.proofs.Lives.{enable-at, enable-other, off-disabled, within}
 use Rattle.card.specs.Cards.{isQuiet, onFallback}
 use Rattle.card.specs.Sound.{sound}
 use Rattle.card.specs.Clock.{tickIn, tickOf}
-use Rattle.card.specs.Ticks.{stepsIn, ticksToCome, ticksIn, ticksByPhase, StepsTo, StepsTo.quiet, StepsTo.ticked}
+use Rattle.card.specs.Ticks.{stepsIn, ticksToCome, ticksIn, ticksByPhase, StepsTo, StepsTo.quiet, StepsTo.ticked, TicksCounted}
 use Rattle.card.specs.declared.Card.{Card}
 use Rattle.card.specs.declared.Phase.{Phase}
 use Rattle.card.specs.declared.Phase.the-variants.{Quiet, Trial, Back, Fallen}
@@ -101,3 +101,6 @@ steps-unique (quiet e) (quiet f) = refl
 steps-unique (quiet e) (ticked f y) = absurd (false≢true (sym f ∙ e))
 steps-unique (ticked e x) (quiet f) = absurd (false≢true (sym e ∙ f))
 steps-unique (ticked e x) (ticked f y) = ap suc (steps-unique x y)
+
+pub ticks-counted : TicksCounted
+ticks-counted = record { counted = counted; steps-are = steps-are; steps-unique = steps-unique; at-most-30 = at-most-30 }

@@ -11,7 +11,7 @@ use Rattle.places.specs.Places.{at, allOff, enableAt}
 use Rattle.places.proofs.Lives.{enable-lives, lives-at}
 use Rattle.card.specs.Cards.{isQuiet, onFallback, withPhase}
 use Rattle.card.specs.Clock.{nextOf, moved, fallen, tickIn, tickOf, lostOf}
-use Rattle.card.specs.Policies.{repolicy, withPolicies}
+use Rattle.card.specs.Policies.{repolicy, withPolicies, NoPolicyAsked}
 use Rattle.card.specs.declared.Card.{Card}
 use Rattle.card.specs.declared.Phase.{Phase}
 use Rattle.card.specs.declared.Phase.the-variants.{Quiet, Trial, Back, Fallen}
@@ -49,11 +49,11 @@ tick-case bs c (Back l n) =
     (split bs (ltb 1 l) (withPhase c (Back (l - 1) n)) (cond (onFallback c) (withPhase c Quiet) (fallen c)))
 tick-case bs c (Fallen l n) = split bs (ltb 1 l) (withPhase c (Fallen (l - 1) n)) (withPhase c Quiet)
 
-pub tick-blind : (bs : List ℕ) (c : Card) → tickOf (withPolicies bs c) ≡ withPolicies bs (tickOf c)
+tick-blind : (bs : List ℕ) (c : Card) → tickOf (withPolicies bs c) ≡ withPolicies bs (tickOf c)
 unfolding tickOf
 tick-blind bs c = tick-case bs c (c .phase)
 
-pub lost-blind : (bs : List ℕ) (c : Card) → lostOf (withPolicies bs c) ≡ withPolicies bs (lostOf c)
+lost-blind : (bs : List ℕ) (c : Card) → lostOf (withPolicies bs c) ≡ withPolicies bs (lostOf c)
 unfolding lostOf
 lost-blind bs c =
     rw (life-blind bs (c .places) (c .fallback), enable-blind bs (c .places) (c .fallback), split bs (onFallback c) c (fallen c))
@@ -74,12 +74,21 @@ tick-keeps j c (Back l n) =
     (λ b. choose (Keeps j c) (onFallback c) _ _ (λ e. refl) (λ e. moved-keeps (c .places) (c .fallback) j))
 tick-keeps j c (Fallen l n) = choose (Keeps j c) (ltb 1 l) _ _ (λ b. refl) (λ b. refl)
 
-pub tick-deletes-nothing : (c : Card) (j : ℕ) → at (tickOf c .places) j .aid .len ≡ at (c .places) j .aid .len
+tick-deletes-nothing : (c : Card) (j : ℕ) → at (tickOf c .places) j .aid .len ≡ at (c .places) j .aid .len
 unfolding tickOf
 tick-deletes-nothing c j = tick-keeps j c (c .phase)
 
-pub lost-deletes-nothing : (c : Card) (j : ℕ) → at (lostOf c .places) j .aid .len ≡ at (c .places) j .aid .len
+lost-deletes-nothing : (c : Card) (j : ℕ) → at (lostOf c .places) j .aid .len ≡ at (c .places) j .aid .len
 unfolding lostOf
 lost-deletes-nothing c j =
     choose (Keeps j c) (isQuiet (c .phase)) _ _
     (λ q. choose (Keeps j c) (onFallback c) _ _ (λ e. refl) (λ e. moved-keeps (c .places) (c .fallback) j)) (λ q. refl)
+
+pub no-policy-asked : NoPolicyAsked
+no-policy-asked =
+    record {
+      tick-blind = tick-blind;
+      lost-blind = lost-blind;
+      tick-deletes-nothing = tick-deletes-nothing;
+      lost-deletes-nothing = lost-deletes-nothing;
+    }

@@ -1,10 +1,11 @@
 -- Document 01, 'Steps': the ticks still to come "equals the count of the tick rule's steps to Quiet from the card handed back".
-use Prim.Native.Nat.{ℕ, zero, suc, _+_}
+use Prim.Native.Nat.{ℕ, zero, suc, _+_, _≤_}
 use mathlib.Core.Path.{_≡_}
 use mathlib.Core.Bool.{true, false, cond}
 use lib.Dec.{eqb}
 use Rattle.isdp.specs.Sizes.{wait}
 use Rattle.card.specs.Cards.{isQuiet, onFallback}
+use Rattle.card.specs.Sound.{sound}
 use Rattle.card.specs.Clock.{tickOf}
 use Rattle.card.specs.declared.Card.{Card}
 use Rattle.card.specs.declared.Phase.{Phase}
@@ -33,3 +34,10 @@ ticksIn (Fallen left number) c = left
 
 unfoldable pub ticksByPhase : Card → ℕ
 ticksByPhase c = ticksIn (c .phase) c
+
+-- of a sound card: the closed form is the count, the count is the one without a bound, there is no other, and it is at most 30
+pub record TicksCounted : Type 0 where
+  pub counted : (c : Card) → sound c ≡ true → ticksToCome c ≡ ticksByPhase c
+  pub steps-are : (c : Card) → sound c ≡ true → StepsTo c (ticksToCome c)
+  pub steps-unique : {c : Card} {m n : ℕ} → StepsTo c m → StepsTo c n → m ≡ n
+  pub at-most-30 : (c : Card) → sound c ≡ true → ticksByPhase c ≤ 30

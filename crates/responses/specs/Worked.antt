@@ -1,0 +1,38 @@
+-- Document 01, 'Responses': responses worked by hand from the tables of 000. EID and figures that the bytes do not show are any.
+use Prim.Native.Nat.{ℕ}
+use mathlib.Core.Path.{_≡_}
+use mathlib.Core.List.{List, [], _∷_}
+use mathlib.Core.Bool.{true, false}
+use Rattle.isdp.specs.Aids.{named, noAid}
+use Rattle.isdp.specs.LifeCycle.{disabled, enabled}
+use Rattle.isdp.specs.Place.{vacant, made}
+use Rattle.card.specs.Cards.{withPlaces}
+use Rattle.card.specs.Fresh.{freshCard}
+use Rattle.card.specs.declared.Card.{Card}
+use Rattle.responses.specs.Responses.{statusResponse, oneStatus, dataResponse, deletedResponse}
+
+abbrev pub aidEnding : ℕ → List ℕ
+aidEnding n = 0xA0 ∷ 0x00 ∷ 0x00 ∷ 0x00 ∷ n ∷ []
+
+-- a card of one profile, and one with a free place between two held ones
+abbrev pub one : List ℕ → ℕ → Card
+one eid figure = freshCard eid (aidEnding 1) figure figure figure figure
+
+abbrev pub gap : List ℕ → ℕ → Card
+gap eid figure =
+    withPlaces (one eid figure)
+    (made (aidEnding 1) enabled figure figure ∷ vacant ∷ made (aidEnding 2) disabled figure figure ∷ [])
+
+pub record Worked (eid : List ℕ) (figure : ℕ) : Type 0 where
+  -- example 1: "80 F2 40 02 02 4F 00 00 gives E3 0E 4F 05 A0 00 00 00 01 9F 70 01 3F 53 01 01"
+  pub example-1 : statusResponse (one eid figure) true true ≡ 0xE3 ∷ 0x0E ∷ 0x4F ∷ 0x05 ∷ 0xA0 ∷ 0x00 ∷ 0x00 ∷ 0x00 ∷ 0x01 ∷ 0x9F ∷ 0x70 ∷ 0x01 ∷ 0x3F ∷ 0x53 ∷ 0x01 ∷ 0x01 ∷ []
+  -- an empty 5C leaves the AID only
+  pub aid-only : statusResponse (one eid figure) false false ≡ 0xE3 ∷ 0x07 ∷ 0x4F ∷ 0x05 ∷ 0xA0 ∷ 0x00 ∷ 0x00 ∷ 0x00 ∷ 0x01 ∷ []
+  -- a free place has no row, and the profile that is not the fall-back has 53 00
+  pub two-rows : statusResponse (gap eid figure) false true ≡ 0xE3 ∷ 0x0A ∷ 0x4F ∷ 0x05 ∷ 0xA0 ∷ 0x00 ∷ 0x00 ∷ 0x00 ∷ 0x01 ∷ 0x53 ∷ 0x01 ∷ 0x01 ∷ 0xE3 ∷ 0x0A ∷ 0x4F ∷ 0x05 ∷ 0xA0 ∷ 0x00 ∷ 0x00 ∷ 0x00 ∷ 0x02 ∷ 0x53 ∷ 0x01 ∷ 0x00 ∷ []
+  pub named-row : oneStatus (gap eid figure) 2 true true ≡ 0xE3 ∷ 0x0E ∷ 0x4F ∷ 0x05 ∷ 0xA0 ∷ 0x00 ∷ 0x00 ∷ 0x00 ∷ 0x02 ∷ 0x9F ∷ 0x70 ∷ 0x01 ∷ 0x1F ∷ 0x53 ∷ 0x01 ∷ 0x00 ∷ []
+  -- capacity 1,048,576 and quota 66,051 leave 0E FD FD; the volatile figure is 0A 0B 0C 0D
+  pub data-figures : dataResponse (freshCard eid (aidEnding 1) 1048576 66051 figure 168496141) ≡ 0xFF ∷ 0x21 ∷ 0x0F ∷ 0x81 ∷ 0x01 ∷ 0x01 ∷ 0x82 ∷ 0x04 ∷ 0x00 ∷ 0x0E ∷ 0xFD ∷ 0xFD ∷ 0x83 ∷ 0x04 ∷ 0x0A ∷ 0x0B ∷ 0x0C ∷ 0x0D ∷ []
+  pub nothing-deleted : deletedResponse noAid ≡ []
+  -- the true length, though Table 63 prints 16
+  pub one-deleted : deletedResponse (named (aidEnding 2)) ≡ 0x80 ∷ 0x07 ∷ 0x4F ∷ 0x05 ∷ 0xA0 ∷ 0x00 ∷ 0x00 ∷ 0x00 ∷ 0x02 ∷ []
