@@ -8,29 +8,23 @@ use mathlib.Core.Bool.{Bool, true, false, not, cond, _||_, false≢true}
 use lib.ListN.{length}
 use lib.Dec.{ltb, leb}
 use borrow.Author.Tests.{leb-true, leb-false, ltb-true, ltb-false, lt-ltb, le-ltb}
-use Rattle.status.specs.StatusWords.{isDone}
 use Rattle.status.specs.Rows.{wordOf}
 use Rattle.status.specs.declared.Status.the-variants.{Done, NoRoom}
 use Rattle.isdp.specs.Sizes.{mostPlaces}
 use Rattle.isdp.specs.Place.{held, isFor}
 use Rattle.isdp.specs.declared.Isdp.{Isdp}
 use Rattle.places.specs.Places.{at, seek, isFree, anyOf}
-use Rattle.places.proofs.Seeks.{past, seek-below}
+use Rattle.places.proofs.Seeks.{past}
 use Rattle.card.specs.Cards.{isQuiet, profileOf, freePlace, freeIn}
-use Rattle.card.specs.Answers.{Outcome}
 use Rattle.card.specs.declared.Card.{Card}
 use Rattle.card.proofs.Sounds.{parts}
-use Rattle.card.proofs.Outcomes.{accepted-card}
 use Rattle.install.specs.Grammar.{Created}
 use Rattle.command.specs.Grammar as written
 use Rattle.steps.specs.Asked.{Asked.create}
 use Rattle.steps.specs.Conditions.{cardRows}
-use Rattle.steps.specs.Steps.{stepOf, responseOf, successOf}
-use Rattle.manager.specs.Calls.{Call.Command}
-use Rattle.manager.specs.Manager.{step}
-use Rattle.steps.proofs.Laws.Create.{lower}
-use Rattle.demands.specs.Create.{SoundRequest, RoomDecides, Filled, CreateLive}
-use Rattle.demands.proofs.Written.{written-word, written-taken}
+use Rattle.steps.specs.Steps.{successOf}
+use Rattle.demands.specs.Create.{SoundRequest, CreateLive}
+use Rattle.demands.proofs.Written.{written-word}
 
 next-case : (a b : ℕ) (t : Bool) → ltb a b ≡ t → ltb (suc a) (suc b) ≡ t
 next-case a b true e = let h = ltb-true a b e in lt-ltb (suc a) (suc b) (omega arith)
@@ -41,7 +35,7 @@ found-case : (t : Isdp → Bool) (ps : List Isdp) (b : Bool) → ltb (seek t ps)
 found-case t ps true r = lt-ltb 0 (suc (length ps)) (omega arith)
 found-case t ps false r = next-case (seek t ps) (length ps) (anyOf t ps) r
 
-pub found-any : (t : Isdp → Bool) (l : List Isdp) → ltb (seek t l) (length l) ≡ anyOf t l
+found-any : (t : Isdp → Bool) (l : List Isdp) → ltb (seek t l) (length l) ≡ anyOf t l
 unfolding seek anyOf
 found-any t [] = refl
 found-any t (p ∷ ps) = found-case t ps (t p) (found-any t ps)
@@ -71,21 +65,5 @@ module _ (c : Card) (verdict : ℕ) (s : List ℕ) (room : ℕ) (v : Created) (r
       let h = missed l (v .aid) (ltb (seek (isFor (v .aid)) l) (length l)) refl (found-any (isFor (v .aid)) l ∙ r .not-held) in
       rows-word c (v .aid) (v .quota) (r .card-quiet) h f
 
-  filled : anyOf isFree (c .places) ≡ true → ltb (freeIn c) (v .quota) ≡ false → Filled c v (step c (Command verdict s room) .card)
-  filled free fits =
-      let a = create (v .aid) (v .quota) in
-      let k = ltb-true (freePlace c) (length (c .places)) (found-any isFree (c .places) ∙ free) in
-      let d : isDone (wordOf (successOf c a) (cardRows c a)) ≡ true = ap isDone card-word ∙ rw (free, fits) in
-      record {
-        place = freePlace c;
-        there = k;
-        free = seek-below isFree (c .places) k;
-        lowest = lower isFree (c .places);
-        new = ap (λ (o : Outcome). o .card) (written-taken c verdict s room (written.create v) (r .card-sound) (r .buffer-long) (r .encoded) d) ∙ accepted-card (successOf c a) (stepOf c a) (responseOf c a);
-      }
-
-pub room-decides : RoomDecides
-room-decides c verdict s room v r = written-word c verdict s room (written.create v) (r .card-sound) (r .buffer-long) (r .encoded) ∙ card-word c verdict s room v r
-
 pub create-live : CreateLive
-create-live = record { room-decides = room-decides; lowest-filled = filled }
+create-live c verdict s room v r = written-word c verdict s room (written.create v) (r .card-sound) (r .buffer-long) (r .encoded) ∙ card-word c verdict s room v r

@@ -157,7 +157,7 @@ calm : (c : Card) → Closed c (withPhase c Quiet)
 calm c = record { quiet = refl; enabled = λ i. refl; named = λ i e. refl; fallback = refl; last = refl }
 
 -- a place rewritten that is not enabled then: those that are keep their AIDs
-pub enabled-named : (x : Isdp) → isEnabled x ≡ false → (l : List Isdp) (q i : ℕ) → isEnabled (at (set l q x) i) ≡ true → at (set l q x) i .aid ≡ at l i .aid
+enabled-named : (x : Isdp) → isEnabled x ≡ false → (l : List Isdp) (q i : ℕ) → isEnabled (at (set l q x) i) ≡ true → at (set l q x) i .aid ≡ at l i .aid
 enabled-named x n [] q i e = refl
 enabled-named x n (p ∷ ps) zero zero e = absurd (false≢true (sym n ∙ e))
 enabled-named x n (p ∷ ps) zero (suc i) e = refl

@@ -17,7 +17,7 @@ use Rattle.isdp.specs.Aids.{padded}
 use Rattle.isdp.specs.LifeCycle.{disabled, enabled}
 use Rattle.isdp.specs.Place.{vacant, made, isFor, clash, zeros, placeOk}
 use Rattle.isdp.proofs.Bools.{and-l, and-r}
-use Rattle.places.specs.Places.{seek, quotas, allOf, anyOf, countOf, distinct, allOff, enableAt}
+use Rattle.places.specs.Places.{quotas, allOf, anyOf, countOf, distinct, allOff, enableAt}
 use Rattle.card.specs.Sound.{phaseOk, sound}
 use Rattle.card.specs.Clock.{tickOf}
 use Rattle.card.specs.Ticks.{stepsIn, ticksToCome}
@@ -25,7 +25,7 @@ use Rattle.card.specs.Steps.{tickStep}
 use Rattle.card.specs.Answers.{refused, accepted}
 use Rattle.card.specs.Fresh.{freshCard, freshOutcome}
 use Rattle.card.specs.declared.Card.{Card}
-use Rattle.card.specs.declared.Phase.the-variants.{Quiet, Trial}
+use Rattle.card.specs.declared.Phase.the-variants.{Trial}
 use Rattle.choice.specs.Choice.{pick, atMost, isBelow, isSame}
 use Rattle.tlv.specs.Tlv.{tagAt, lengthAt, afterLength, afterTag, headAt, expectOf, expectAt}
 use Rattle.tlv.specs.Encoding.{window, Bytes}
@@ -41,9 +41,8 @@ use Rattle.command.specs.Grammar as written
 use Rattle.command.specs.Grammar.{readAs, Encodes}
 use Rattle.command.specs.Reading.{readOf}
 use Rattle.command.proofs.Written.{command-written}
-use Rattle.manager.specs.Calls.{Call, Call.Command, Call.Tick}
+use Rattle.manager.specs.Calls.{Call.Command, Call.Tick}
 use Rattle.manager.specs.Manager.{step}
-use Rattle.demands.specs.OpeningAnswers.{OpeningAnswersMet}
 use Rattle.demands.specs.Demand1.{Demand1Met}
 use Rattle.demands.specs.Demand2.{Demand2Met}
 use Rattle.demands.specs.Ticks.{TicksMet}
@@ -51,7 +50,7 @@ use Rattle.demands.specs.Create.{SoundRequest, CreateMet}
 use Rattle.demands.specs.Confirmation.{ConfirmationMet}
 use Rattle.demands.proofs.Confirmation.{confirmation-taken}
 use Rattle.demands.proofs.Words.{word-is}
-use Rattle.demands.proofs.Create.{room-decides}
+use Rattle.demands.proofs.Create.{create-live}
 
 -- document 01's AIDs: F, and others
 abbrev aidEnding : ℕ → List ℕ
@@ -145,43 +144,10 @@ create-met =
       asks-for = asks;
       card = freshOf 1000;
       request = r;
-      taken = room-decides (freshOf 1000) 0 createBytes 256 asks r;
+      taken = create-live (freshOf 1000) 0 createBytes 256 asks r;
       small = freshOf 100;
       request-small = t;
-      not-taken = room-decides (freshOf 100) 0 createBytes 256 asks t;
-    }
-
--- F, the fall-back, and 02, one of them enabled
-abbrev pair : ℕ → ℕ → Card
-pair first second =
-    record {
-      eid = eid;
-      capacity = 1000;
-      volatile = 0;
-      last = 0;
-      fallback = 0;
-      phase = Quiet;
-      places = made (aidEnding 1) first 100 0 ∷ made (aidEnding 2) second 100 1 ∷ replicate (mostPlaces - 2) vacant;
-    }
-
--- the DGI 3A03 or 3A04 with 02
-abbrev switchCall : ℕ → Call
-switchCall dgi = Command 0 (0x80 ∷ 0xE2 ∷ 0x88 ∷ 0x00 ∷ 0x0A ∷ 0x3A ∷ dgi ∷ 0x07 ∷ 0x4F ∷ 0x05 ∷ aidEnding 2) 256
-
-pub opening-answers-met : OpeningAnswersMet
-unfolding step accepted wordOf lengthWrong classRight classWrong instructionWrong parametersRight parametersWrong shapeRight shapeWrong fieldOf dataWrong pick atMost isBelow isSame tagAt lengthAt afterLength afterTag headAt expectOf expectAt aloneAt dgiAt namedBy storeDataAt sound phaseOk allOf placeOk zeros padded distinct anyOf clash isFor countOf quotas sameBytes seek
-opening-answers-met =
-    record {
-      card = pair enabled disabled;
-      enables = switchCall 0x03;
-      wanted = aidEnding 2;
-      asks-enable = refl;
-      enabled-done = refl;
-      other = pair disabled enabled;
-      disables = switchCall 0x04;
-      unwanted = aidEnding 2;
-      asks-disable = refl;
-      disabled-done = refl;
+      not-taken = create-live (freshOf 100) 0 createBytes 256 asks t;
     }
 
 -- the confirmations of 1 and 2 in bytes, read by a card in Trial whose outstanding number is 1

@@ -3,13 +3,12 @@ pub mod Words
 pub mod Demand1
 pub mod Demand2
 pub mod Ticks
-pub mod OpeningAnswers
 pub mod Written
 pub mod CallLaws
 pub mod Confirmation
 pub mod Create
 pub mod Unique
-pub mod Small
+pub mod WhileOpen
 pub mod HypothesesMet
 pub mod CallLawsMet
 pub mod Frames

@@ -14,7 +14,7 @@ use Rattle.status.specs.StatusWords.{isDone}
 use Rattle.status.specs.Rows.{Row, row, wordOf}
 use Rattle.status.specs.declared.Status.{Status}
 use Rattle.status.specs.declared.Status.the-variants.{Unsound, LengthWrong, ClassWrong, InstructionWrong, ParametersWrong, DataWrong, Done}
-use Rattle.status.proofs.Tables.{passed, succeeds}
+use Rattle.status.proofs.Tables.{passed}
 use Rattle.isdp.specs.Sizes.{leastAid}
 use Rattle.isdp.proofs.Bools.{and-l}
 use Rattle.card.specs.Sound.{sound}
@@ -38,9 +38,9 @@ use Rattle.command.proofs.Written.{command-written}
 use Rattle.steps.specs.Asked.{Asked, Asked.on, Act.status}
 use Rattle.steps.specs.Conditions.{cardRows}
 use Rattle.steps.specs.Steps.{stepOf, responseOf, askedWork, successOf}
-use Rattle.manager.proofs.Kept.{part-ok}
+use Rattle.manager.proofs.Kept.{part-ok, rows-accepted}
 use Rattle.manager.specs.Calls.{Call.Command, requestAsks, asked}
-use Rattle.manager.specs.Table.{leastBuffer, rowsAfter, table}
+use Rattle.manager.specs.Table.{leastBuffer, rowsAfter}
 use Rattle.manager.specs.Manager.{step, work}
 use Rattle.manager.proofs.Readings.{not-read, asks-read, word-read}
 use Rattle.demands.specs.Written as statement
@@ -95,7 +95,7 @@ written-answered c verdict s room w h encoded =
     ap (λ (x : Status). settle c x (stepOf c (asked c (Command verdict s room))) (responseOf c (asked c (Command verdict s room)))) word
     ∙ ap (λ (x : Asked). outcome c (askedWork c x)) a
 
--- on a sound card its word is that of the card's rows, and where none of them refuses it takes its step
+-- on a sound card its word is that of the card's rows
 module _ (c : Card) (verdict : ℕ) (s : List ℕ) (room : ℕ) (wanted : Wanted) (e : sound c ≡ true) (h : leastBuffer ≤ room) (encoded : Encodes (c .capacity) wanted s) where
   abbrev asks : Asked
   asks = wantedAsks verdict wanted
@@ -106,28 +106,23 @@ module _ (c : Card) (verdict : ℕ) (s : List ℕ) (room : ℕ) (wanted : Wanted
       ∙ decided c (wordOf (successOf c asks) (soundRow c ∷ cardRows c asks)) (stepOf c asks) (responseOf c asks)
       ∙ past-sound c (successOf c asks) (cardRows c asks) e
 
-  pub written-taken : isDone (wordOf (successOf c asks) (cardRows c asks)) ≡ true → step c (Command verdict s room) ≡ accepted (successOf c asks) (stepOf c asks) (responseOf c asks)
-  written-taken d =
-      let w : wordOf (successOf c asks) (soundRow c ∷ cardRows c asks) ≡ successOf c asks = past-sound c (successOf c asks) (cardRows c asks) e ∙ succeeds (successOf c asks) (cardRows c asks) refl d in
-      written-answered c verdict s room wanted h encoded ∙ ap (λ (x : Status). settle c x (stepOf c asks) (responseOf c asks)) w
-
 -- one that was read was written
 read-written : (s : List ℕ) (capacity : ℕ) (r : Request) → Bytes s → reading.Read r ≡ readOf s capacity → Encodes capacity (wantedOf s r) s
 read-written s capacity r b q = command-written s capacity (wantedOf s r) b (ap (readAs s) (sym q))
 
 pub accepted-written : statement.AcceptedWritten
 accepted-written c verdict s room b e =
-    let p = passed (work c (Command verdict s room) .success) (table c (Command verdict s room)) refl (done-as c (Command verdict s room) true e) .1 in
-    let m = p .1 in
+    let call = Command verdict s room in
+    let p = rows-accepted c call (work c call .success) (done-as c call true e) in
     let r = done-read s (c .capacity) (passes-done s (c .capacity) record {
-      lengthRight = m .0;
-      classRight = m .1 .0;
-      instructionRight = m .1 .1 .0;
-      parametersRight = m .1 .1 .1 .0;
-      shapeRight = m .1 .1 .1 .1 .0;
-      dataRight = m .1 .1 .1 .1 .1 .0;
+      lengthRight = p .length;
+      classRight = p .class;
+      instructionRight = p .instruction;
+      parametersRight = p .parameters;
+      shapeRight = p .shape;
+      dataRight = p .values;
     }) in
-    (wantedOf s (r .0), (ltb-false room leastBuffer (p .0), read-written s (c .capacity) (r .0) b (r .1)))
+    (wantedOf s (r .0), (ltb-false room leastBuffer (p .buffer), read-written s (c .capacity) (r .0) b (r .1)))
 
 -- the words of the rows of reading
 reading-word : (a b c d e f : Bool) → isDone (wordOf Done (row a LengthWrong ∷ row b ClassWrong ∷ row c InstructionWrong ∷ row d ParametersWrong ∷ row e LengthWrong ∷ row f DataWrong ∷ [])) ≡ false

@@ -1,16 +1,14 @@
 -- Document 01, 'Steps': "Freed places and room are used again: 6A 84 answers a sound request exactly when no place is free or the quota
--- exceeds free"; otherwise "the lowest free place" is filled.
-use Prim.Native.Nat.{ℕ, _≤_, _<_}
+-- exceeds free". What an accepted create does is in the law of its call (CallLaws).
+use Prim.Native.Nat.{ℕ, _≤_}
 use mathlib.Core.Path.{_≡_}
 use mathlib.Core.List.{List}
 use mathlib.Core.Bool.{true, false, not, cond, _||_}
-use lib.ListN.{length, set}
 use lib.Dec.{ltb}
 use Rattle.status.specs.declared.Status.the-variants.{Done, NoRoom}
-use Rattle.isdp.specs.LifeCycle.{selectable}
-use Rattle.isdp.specs.Place.{made, isFor}
-use Rattle.places.specs.Places.{at, isFree, anyOf}
-use Rattle.card.specs.Cards.{isQuiet, freeIn, withPlaces}
+use Rattle.isdp.specs.Place.{isFor}
+use Rattle.places.specs.Places.{isFree, anyOf}
+use Rattle.card.specs.Cards.{isQuiet, freeIn}
 use Rattle.card.specs.Sound.{sound}
 use Rattle.card.specs.declared.Card.{Card}
 use Rattle.install.specs.Grammar.{Created}
@@ -28,31 +26,11 @@ pub record SoundRequest (c : Card) (s : List ℕ) (room : ℕ) (v : Created) : T
   pub not-held : anyOf (isFor (v .aid)) (c .places) ≡ false
 
 -- 6A 84 exactly when no place is free or the quota exceeds free, otherwise 90 00
-abbrev pub RoomDecides : Type 0
-RoomDecides =
+abbrev pub CreateLive : Type 0
+CreateLive =
     (c : Card) (verdict : ℕ) (s : List ℕ) (room : ℕ) (v : Created)
     → SoundRequest c s room v
     → step c (Command verdict s room) .status ≡ cond (not (anyOf isFree (c .places)) || ltb (freeIn c) (v .quota)) NoRoom Done
-
--- the lowest free place holds the new profile, and nothing else is new
-pub record Filled (c : Card) (v : Created) (d : Card) : Type 0 where
-  pub place : ℕ
-  pub there : place < length (c .places)
-  pub free : isFree (at (c .places) place) ≡ true
-  pub lowest : (i : ℕ) → i < place → isFree (at (c .places) i) ≡ false
-  pub new : d ≡ withPlaces c (set (c .places) place (made (v .aid) selectable (v .quota) 0))
-
-abbrev pub LowestFilled : Type 0
-LowestFilled =
-    (c : Card) (verdict : ℕ) (s : List ℕ) (room : ℕ) (v : Created)
-    → SoundRequest c s room v
-    → anyOf isFree (c .places) ≡ true
-    → ltb (freeIn c) (v .quota) ≡ false
-    → Filled c v (step c (Command verdict s room) .card)
-
-pub record CreateLive : Type 0 where
-  pub room-decides : RoomDecides
-  pub lowest-filled : LowestFilled
 
 -- some create is so written, and taken on one card and not on another
 pub record CreateMet : Type 0 where

@@ -2,8 +2,8 @@
 -- give[s], and nothing further changes. From a fresh card on, exactly one profile is enabled and exactly one is the fall-back."
 -- The table, the steps and the responses are the definitions of the crates below. `step` is defined by them, so the fields `first-row`,
 -- `only-first-row`, `otherwise`, `only-otherwise`, `takes` and `answered` hold by that definition: they say how it is to be read, and would
--- hold of a wrong table too. What document 01 asks of each call is pinned by the law of each call, by `Written`, `Notified`, `StatusTable`
--- and `Examples`; the fields on fresh and on soundness say more than the definition.
+-- hold of a wrong table too. What document 01 asks of each call is pinned by `CallLaws`, `Written`, `Notified`, `StatusTable` and
+-- `Examples`; the fields on fresh and on soundness say more than the definition.
 use Prim.Native.Nat.{ℕ, _<_}
 use mathlib.Core.Path.{_≡_}
 use mathlib.Core.List.{List, [], _∷_, _++_}

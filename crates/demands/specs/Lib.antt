@@ -3,12 +3,11 @@
 pub mod Demand1
 pub mod Demand2
 pub mod Ticks
-pub mod OpeningAnswers
 pub mod Written
 pub mod CallLaws
 pub mod Create
 pub mod Unique
-pub mod Small
+pub mod WhileOpen
 pub mod Change
 pub mod Confirmation
 pub mod Inputs

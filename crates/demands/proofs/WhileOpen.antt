@@ -1,32 +1,21 @@
--- The fall-back set to where it is leaves the record as it is, and a refusal hands it back; of the table's rows only that of an open change
--- looks at the phase, and the calls that are allowed do not meet it. Assumes nothing.
+-- Of the table's rows only that of an open change looks at the phase, and the calls that are allowed do not meet it. Assumes nothing.
 use mathlib.Core.Path.{_≡_, refl, ap, sym, _∙_}
 use mathlib.Core.List.{List, _∷_}
 use mathlib.Core.Bool.{Bool, true, not}
 use Rattle.status.specs.Rows.{Row, row, wordOf}
 use Rattle.status.specs.declared.Status.the-variants.{Unsound, BufferShort, LengthWrong, ClassWrong, InstructionWrong, ParametersWrong, DataWrong, Done}
-use Rattle.card.specs.Cards.{withFallback, withPhase}
+use Rattle.card.specs.Cards.{withPhase}
 use Rattle.card.specs.Sound.{sound}
 use Rattle.card.specs.declared.Card.{Card}
 use Rattle.card.specs.declared.Phase.the-variants.{Quiet}
 use Rattle.card.proofs.Sounds.{parts, whole, rephased}
-use Rattle.card.proofs.Outcomes.{decide-card}
 use Rattle.command.specs.Framing.{lengthWrong, classWrong, instructionWrong, parametersWrong, shapeWrong}
 use Rattle.steps.specs.Asked.{Act.status, Act.keyed, Act.stored, Act.finished, Asked, Asked.on, Asked.statusOfAll, Asked.getData, Asked.tick, Asked.lost}
 use Rattle.steps.specs.Conditions.{cardRows}
-use Rattle.steps.specs.Steps.{stepOf, responseOf}
-use Rattle.manager.specs.Calls.{Call, Call.Command, Call.Keyed, Call.Stored, Call.Finished, Call.Tick, Call.Lost, asked}
+use Rattle.manager.specs.Calls.{Call, Call.Command, Call.Keyed, Call.Stored, Call.Finished, Call.Tick, Call.Lost}
 use Rattle.manager.specs.Table.{bufferShort, inCommand, valuesWrong, table}
-use Rattle.manager.specs.Manager.{step}
-use Rattle.demands.specs.Change.{tableWord}
-use Rattle.demands.specs.Small as statement
+use Rattle.demands.specs.WhileOpen as statement
 use Rattle.demands.proofs.Words.{word-is}
-
-pub holder-named : statement.HolderNamed
-unfolding step
-holder-named c call aid e h =
-    decide-card (λ d. d ≡ c) c (tableWord c call) (stepOf c (asked c call)) (responseOf c (asked c call))
-    (λ done. ap (λ (a : Asked). stepOf c a .card) e ∙ ap (withFallback c) h) refl
 
 -- the values of a call are the same on the same card in Quiet
 values-same : (c : Card) (call : Call) → valuesWrong c call ≡ valuesWrong (withPhase c Quiet) call

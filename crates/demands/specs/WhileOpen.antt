@@ -1,23 +1,15 @@
--- Document 01, two short promises: "Naming the holder changes nothing", and which calls an open change never refuses.
+-- Document 01, 'Status words': which calls an open change never refuses.
 use Prim.Native.Nat.{ℕ}
 use mathlib.Core.Path.{_≡_}
 use mathlib.Core.List.{List}
 use mathlib.Core.Bool.{Bool, true}
-use Rattle.card.specs.Cards.{placeOf, withPhase}
+use Rattle.card.specs.Cards.{withPhase}
 use Rattle.card.specs.Sound.{sound}
 use Rattle.card.specs.declared.Card.{Card}
 use Rattle.card.specs.declared.Phase.the-variants.{Quiet}
-use Rattle.steps.specs.Asked.{Act.setFallBack, Act.status, Act.keyed, Act.stored, Act.finished, Asked, Asked.on, Asked.statusOfAll, Asked.getData, Asked.tick, Asked.lost}
+use Rattle.steps.specs.Asked.{Act.status, Act.keyed, Act.stored, Act.finished, Asked, Asked.on, Asked.statusOfAll, Asked.getData, Asked.tick, Asked.lost}
 use Rattle.manager.specs.Calls.{Call, asked}
 use Rattle.manager.specs.Manager.{step}
-
--- set fall-back names the profile that is the fall-back: the card after is the card before, whole
-abbrev pub HolderNamed : Type 0
-HolderNamed =
-    (c : Card) (call : Call) (aid : List ℕ)
-    → asked c call ≡ on aid setFallBack
-    → placeOf c aid ≡ c .fallback
-    → step c call .card ≡ c
 
 -- a call that asks this has, whether a change is open or not, the status that it has on the same card in Quiet
 abbrev pub Allowed : Asked → Type 0
