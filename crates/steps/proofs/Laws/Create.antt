@@ -33,7 +33,7 @@ lower-case t p ps i true e h f = absurd (omega arith)
 lower-case t p ps zero false e h f = e
 lower-case t p ps (suc i) false e h f = f i (omega arith)
 
-pub lower : (t : Isdp → Bool) (l : List Isdp) (i : ℕ) → i < seek t l → t (at l i) ≡ false
+lower : (t : Isdp → Bool) (l : List Isdp) (i : ℕ) → i < seek t l → t (at l i) ≡ false
 unfolding seek
 lower t [] i h = absurd (omega arith)
 lower t (p ∷ ps) i h = lower-case t p ps i (t p) refl h (lower t ps)
