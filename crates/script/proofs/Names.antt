@@ -13,7 +13,7 @@ use Rattle.text.proofs.HexLaws.{hex-fits, hex-full, hex-wrong, spelled-length}
 use Rattle.choice.proofs.Branches.{on-test, on-lt}
 use Rattle.isdp.specs.Aids.{padded}
 use Rattle.isdp.proofs.Bytes.{pad-whole}
-use Rattle.script.specs.Fields.{placeWith}
+use Rattle.script.specs.Colons.{placeWith}
 use Rattle.script.specs.Records.{recordWith}
 
 pub hex-taken : (s : List ℕ) (room n : ℕ) → Bytes n ≡ hexReadOf s room → (n ≡ length (spelled s)) × ((n ≤ room) × (spelled s ≡ hexLeft s room))

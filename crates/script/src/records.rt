@@ -3,9 +3,9 @@ use crate::arguments::MOST;
 use crate::arguments::Reason;
 use crate::arguments::Value;
 use crate::arguments::next_value;
-use crate::parted::Phased;
-use crate::parted::read_phase;
-use crate::parted::read_place;
+use crate::colons::Phased;
+use crate::colons::read_phase;
+use crate::colons::read_place;
 use card::Card;
 use card::Phase;
 use isdp::Isdp;
@@ -17,7 +17,7 @@ ghost use mathlib.Core.Path.{_≡_};
 ghost use Prim.Native.Nat.{_≤_};
 ghost use Rattle.isdp.specs.Sizes.{mostPlaces};
 ghost use mathlib.Core.List.{[]};
-ghost use Rattle.script.specs.Records.{phaseAt, headAt, notHeld, placesOn, noRecord, recordWith, recordAt, recordOf};
+ghost use Rattle.script.specs.Records.{phaseAt, headAt, notHeld, placesOn, noRecord, recordWith, recordAt};
 
 pub enum PhaseRead {
     Is { phase: Phase, next: usize },
@@ -188,7 +188,7 @@ fn record_with(s: &[u8], at: usize, eid: [u8; 16]) -> Record
     }
 }
 
-// The words after `card`.
+// The record of the words after `card`.
 pub fn record_at(s: &[u8], at: usize) -> Record
     ensures { λ r. ⌜ r ≡ recordAt (now (s .entry)) at ⌝ }
 {
@@ -206,14 +206,4 @@ pub fn record_at(s: &[u8], at: usize) -> Record
             no_record(Reason::BadHex)
         }
     }
-}
-
-// The record of a line that `read_line` found to be a `card` line.
-pub fn read_record(s: &[u8]) -> Record
-    ensures { λ r. ⌜ r ≡ recordOf (now (s .entry)) ⌝ }
-{
-    let Word::Span { from: _, to } = next_word(s, 0) else {
-        return no_record(Reason::WordsMissing);
-    };
-    record_at(s, to)
 }

@@ -18,15 +18,15 @@ use Rattle.isdp.specs.Place.{vacant}
 use Rattle.card.specs.declared.Phase.the-variants.{Quiet, Trial, Back, Fallen}
 use Rattle.script.specs.Ascii.{ascii}
 use Rattle.script.specs.Arguments.{most32, most16, most8, onNumber}
-use Rattle.script.specs.declared.parted.Field.{Field}
-use Rattle.script.specs.declared.parted.Field.the-variants as field
-use Rattle.script.specs.declared.parted.Open.{Open}
-use Rattle.script.specs.declared.parted.Open.the-variants as opened
-use Rattle.script.specs.declared.parted.Phased.{Phased}
-use Rattle.script.specs.declared.parted.Phased.the-variants as phased
-use Rattle.script.specs.declared.parted.Sizes.{Sizes}
-use Rattle.script.specs.declared.parted.Sizes.the-variants as sizes
-use Rattle.script.specs.declared.parted.Placed.{Placed}
+use Rattle.script.specs.declared.colons.Field.{Field}
+use Rattle.script.specs.declared.colons.Field.the-variants as field
+use Rattle.script.specs.declared.colons.Open.{Open}
+use Rattle.script.specs.declared.colons.Open.the-variants as opened
+use Rattle.script.specs.declared.colons.Phased.{Phased}
+use Rattle.script.specs.declared.colons.Phased.the-variants as phased
+use Rattle.script.specs.declared.colons.Sizes.{Sizes}
+use Rattle.script.specs.declared.colons.Sizes.the-variants as sizes
+use Rattle.script.specs.declared.colons.Placed.{Placed}
 
 -- `:`
 abbrev pub colon : ℕ
@@ -55,40 +55,40 @@ onRead hexread.NoRoom x f = x
 onRead hexread.Wrong x f = x
 
 -- the next field is a number, and this is the place of the field after it
-unfoldable pub numberAt : ℕ → List ℕ → ℕ → Field
-numberAt most w at =
+unfoldable pub numberField : ℕ → List ℕ → ℕ → Field
+numberField most w at =
     onWord (fieldAt colon w at) field.Wrong λ a e.
     onNumber (decimalOf most (part w a e)) field.Wrong λ n. field.Is n (e + 1)
 
 -- LEFT:NUMBER
-unfoldable pub openAt : List ℕ → ℕ → Open
-openAt w at =
-    onField (numberAt most8 w at) opened.Wrong λ left b.
-    onField (numberAt most16 w b) opened.Wrong λ number c.
+unfoldable pub openFields : List ℕ → ℕ → Open
+openFields w at =
+    onField (numberField most8 w at) opened.Wrong λ left b.
+    onField (numberField most16 w b) opened.Wrong λ number c.
     pick (atMost c (length w)) opened.Wrong (opened.Is left number)
 
 -- PREVIOUS:LEFT:NUMBER
-unfoldable pub trialAt : List ℕ → ℕ → Phased
-trialAt w at =
-    onField (numberAt most8 w at) phased.Wrong λ previous b.
-    onOpen (openAt w b) phased.Wrong λ left number. phased.Is (Trial previous left number)
+unfoldable pub trialFields : List ℕ → ℕ → Phased
+trialFields w at =
+    onField (numberField most8 w at) phased.Wrong λ previous b.
+    onOpen (openFields w b) phased.Wrong λ left number. phased.Is (Trial previous left number)
 
 -- PHASE
-unfoldable pub spelledPhase : List ℕ → Phased
-spelledPhase w =
+unfoldable pub phaseWord : List ℕ → Phased
+phaseWord w =
     pick (sameOf w (ascii "Q")) (phased.Is Quiet)
     (onWord (fieldAt colon w 0) phased.Wrong λ a e.
-    pick (sameOf (part w a e) (ascii "T")) (trialAt w (e + 1))
-    (onOpen (openAt w (e + 1)) phased.Wrong λ left number.
+    pick (sameOf (part w a e) (ascii "T")) (trialFields w (e + 1))
+    (onOpen (openFields w (e + 1)) phased.Wrong λ left number.
     pick (sameOf (part w a e) (ascii "B")) (phased.Is (Back left number))
     (pick (sameOf (part w a e) (ascii "F")) (phased.Is (Fallen left number)) phased.Wrong)))
 
 -- QUOTA:USED:POLICY
-unfoldable pub sizesAt : List ℕ → ℕ → Sizes
-sizesAt w at =
-    onField (numberAt most32 w at) sizes.Wrong λ quota b.
-    onField (numberAt most32 w b) sizes.Wrong λ used c.
-    onField (numberAt most8 w c) sizes.Wrong λ policy d.
+unfoldable pub sizesFields : List ℕ → ℕ → Sizes
+sizesFields w at =
+    onField (numberField most32 w at) sizes.Wrong λ quota b.
+    onField (numberField most32 w b) sizes.Wrong λ used c.
+    onField (numberField most8 w c) sizes.Wrong λ policy d.
     pick (atMost d (length w)) sizes.Wrong (sizes.Are quota used policy)
 
 abbrev pub noPlace : Placed
@@ -99,12 +99,12 @@ unfoldable pub placeWith : List ℕ → ℕ → List ℕ → ℕ → Placed
 placeWith w at aid len =
     onWord (fieldAt colon w at) noPlace λ a e.
     onByte (hexByteOf (part w a e)) noPlace λ life.
-    onSizes (sizesAt w (e + 1)) noPlace λ quota used policy.
+    onSizes (sizesFields w (e + 1)) noPlace λ quota used policy.
     record { ok = true; place = record { aid = aid; len = len; life = life; quota = quota; used = used; policy = policy } }
 
 -- PLACE
-unfoldable pub spelledPlace : List ℕ → Placed
-spelledPlace w =
+unfoldable pub placeWord : List ℕ → Placed
+placeWord w =
     pick (sameOf w (ascii "-")) (record { ok = true; place = vacant })
     (onWord (fieldAt colon w 0) noPlace λ a e.
     onRead (hexReadOf (part w a e) mostAid) noPlace λ n. placeWith w (e + 1) (padded (spelled (part w a e))) n)

@@ -12,7 +12,7 @@ use text::next_field;
 use text::read_hex;
 use text::same;
 ghost use mathlib.Core.Path.{_≡_};
-ghost use Rattle.script.specs.Fields.{numberAt, openAt, trialAt, spelledPhase, sizesAt, placeWith, spelledPlace, noPlace};
+ghost use Rattle.script.specs.Colons.{numberField, openFields, trialFields, phaseWord, sizesFields, placeWith, placeWord, noPlace};
 
 // `next` is the place of the field after it.
 pub enum Field {
@@ -21,7 +21,7 @@ pub enum Field {
 }
 
 fn next_number(w: &[u8], at: usize, most: u32) -> Field
-    ensures { λ r. ⌜ r ≡ numberAt most (now (w .entry)) at ⌝ }
+    ensures { λ r. ⌜ r ≡ numberField most (now (w .entry)) at ⌝ }
 {
     let Word::Span { from, to } = next_field(w, at, b':') else {
         return Field::Wrong;
@@ -39,7 +39,7 @@ pub enum Open {
 
 // LEFT:NUMBER, and nothing after it.
 fn open_at(w: &[u8], at: usize) -> Open
-    ensures { λ r. ⌜ r ≡ openAt (now (w .entry)) at ⌝ }
+    ensures { λ r. ⌜ r ≡ openFields (now (w .entry)) at ⌝ }
 {
     let Field::Is { n: left, next: b } = next_number(w, at, 255) else {
         return Open::Wrong;
@@ -63,7 +63,7 @@ pub enum Phased {
 
 // PREVIOUS:LEFT:NUMBER.
 fn trial_at(w: &[u8], at: usize) -> Phased
-    ensures { λ r. ⌜ r ≡ trialAt (now (w .entry)) at ⌝ }
+    ensures { λ r. ⌜ r ≡ trialFields (now (w .entry)) at ⌝ }
 {
     let Field::Is { n, next } = next_number(w, at, 255) else {
         return Phased::Wrong;
@@ -79,7 +79,7 @@ fn trial_at(w: &[u8], at: usize) -> Phased
 }
 
 pub fn read_phase(w: &[u8]) -> Phased
-    ensures { λ r. ⌜ r ≡ spelledPhase (now (w .entry)) ⌝ }
+    ensures { λ r. ⌜ r ≡ phaseWord (now (w .entry)) ⌝ }
 {
     if same(w, b"Q") {
         return Phased::Is(Phase::Quiet);
@@ -109,7 +109,7 @@ pub enum Sizes {
 
 // QUOTA:USED:POLICY, and nothing after it.
 fn sizes_at(w: &[u8], at: usize) -> Sizes
-    ensures { λ r. ⌜ r ≡ sizesAt (now (w .entry)) at ⌝ }
+    ensures { λ r. ⌜ r ≡ sizesFields (now (w .entry)) at ⌝ }
 {
     let Field::Is { n: quota, next: b } = next_number(w, at, MOST) else {
         return Sizes::Wrong;
@@ -173,7 +173,7 @@ fn place_with(w: &[u8], at: usize, aid: [u8; 16], len: usize) -> Placed
 }
 
 pub fn read_place(w: &[u8]) -> Placed
-    ensures { λ r. ⌜ r ≡ spelledPlace (now (w .entry)) ⌝ }
+    ensures { λ r. ⌜ r ≡ placeWord (now (w .entry)) ⌝ }
 {
     if same(w, b"-") {
         let place = Isdp::none();

@@ -1,12 +1,12 @@
--- `parted::read_place` meets its contract: what `read_hex` leaves in sixteen zeros is the AID with zeros after it, by `aid-read`.
+-- `colons::read_place` meets its contract: what `read_hex` leaves in sixteen zeros is the AID with zeros after it, by `aid-read`.
 use mathlib.Core.Path.{refl, sym, _∙_}
 use Rattle.text.proofs.WordLists.{field-inside}
-use Rattle.choice.proofs.Branches.{yes!, no! }
-use Rattle.script.specs.Fields.{spelledPlace}
+use Rattle.choice.proofs.Branches.{yes!, no!}
+use Rattle.script.specs.Colons.{placeWord}
 use Rattle.script.proofs.Names.{aid-read, place-as}
 use borrow.Author.Needs.{needs}
-use Rattle.script.proofs.parted.read_place.Statement.{statement}
-use Rattle.script.proofs.parted.read_place.Tie as tie
+use Rattle.script.proofs.colons.read_place.Statement.{statement}
+use Rattle.script.proofs.colons.read_place.Tie as tie
 
 slice-aggregate-same : tie.Need-slice-aggregate-same
 slice-aggregate-same c = search needs
@@ -18,7 +18,7 @@ none-requires : tie.Need-none-requires
 none-requires c κs = search needs
 
 returns : tie.Need-returns
-unfolding spelledPlace
+unfolding placeWord
 returns c = yes! _ (sym (c .before .before .same .ensures) ∙ c .before .if1 .taken) (rw (c .none .ensures) refl)
 
 next-field-requires : tie.Need-next-field-requires
@@ -34,7 +34,7 @@ no-place-requires : tie.Need-no-place-requires
 no-place-requires c κs = search needs
 
 returns-2 : tie.Need-returns-2
-unfolding spelledPlace
+unfolding placeWord
 returns-2 c = no! _ (sym (c .before .before .before .before .before .same .ensures) ∙ c .before .before .before .before .if1 .left) (rw (← (sym (c .before .enum-told .given .1) ∙ c .before .before .before .next-field .ensures)) (c .no-place .ensures))
 
 sub-read-hex : tie.Need-sub-read-hex
@@ -74,15 +74,15 @@ no-place-requires-3 : tie.Need-no-place-requires-3
 no-place-requires-3 c κs = search needs
 
 returns-3 : tie.Need-returns-3
-unfolding spelledPlace
+unfolding placeWord
 returns-3 c = no! _ (sym (c .before .before .before .before .before .before .before .before .before .before .before .before .before .same .ensures) ∙ c .before .before .before .before .before .before .before .before .before .before .before .before .if1 .left) (rw (← (sym (c .before .before .before .before .before .before .before .before .before .from .given .1) ∙ c .before .before .before .before .before .before .before .before .before .before .before .next-field .ensures)) (rw (← (sym (c .before .before .n .given .1) ∙ c .before .before .before .before .before .read-hex .ensures .0)) (c .place-with .ensures ∙ place-as _ _ _ (aid-read _ _ _ (sym (c .before .before .n .given .1) ∙ c .before .before .before .before .before .read-hex .ensures .0) (c .before .before .before .before .before .read-hex .ensures .1)))))
 
 returns-4 : tie.Need-returns-4
-unfolding spelledPlace
+unfolding placeWord
 returns-4 c = no! _ (sym (c .before .before .before .before .before .before .before .before .before .before .before .before .same .ensures) ∙ c .before .before .before .before .before .before .before .before .before .before .before .if1 .left) (rw (← (sym (c .before .before .before .before .before .before .before .before .from .given .1) ∙ c .before .before .before .before .before .before .before .before .before .before .next-field .ensures)) (rw (← (sym (c .before .enum-told2 .given .1) ∙ c .before .before .before .before .read-hex .ensures .0)) (c .no-place2 .ensures)))
 
 returns-5 : tie.Need-returns-5
-unfolding spelledPlace
+unfolding placeWord
 returns-5 c = no! _ (sym (c .before .before .before .before .before .before .before .before .before .before .before .before .same .ensures) ∙ c .before .before .before .before .before .before .before .before .before .before .before .if1 .left) (rw (← (sym (c .before .before .before .before .before .before .before .before .from .given .1) ∙ c .before .before .before .before .before .before .before .before .before .before .next-field .ensures)) (rw (← (sym (c .before .enum-told3 .given .1) ∙ c .before .before .before .before .read-hex .ensures .0)) (c .no-place3 .ensures)))
 
 pub read-place-spec : {M : Type 1} → statement M

@@ -1,10 +1,10 @@
--- `parted::place_with` meets its contract: the state, then `sizes_at` after it.
+-- `colons::place_with` meets its contract: the state, then `sizes_at` after it.
 use mathlib.Core.Path.{refl, sym, _∙_}
 use Rattle.text.proofs.WordLists.{field-inside}
-use Rattle.script.specs.Fields.{placeWith}
+use Rattle.script.specs.Colons.{placeWith}
 use borrow.Author.Needs.{needs}
-use Rattle.script.proofs.parted.place_with.Statement.{statement}
-use Rattle.script.proofs.parted.place_with.Tie as tie
+use Rattle.script.proofs.colons.place_with.Statement.{statement}
+use Rattle.script.proofs.colons.place_with.Tie as tie
 
 next-field-requires : tie.Need-next-field-requires
 next-field-requires c κs = search needs

@@ -1,9 +1,9 @@
--- `parted::trial_at` meets its contract: the first number, and `open_at` after it.
+-- `colons::trial_at` meets its contract: the first number, and `open_at` after it.
 use mathlib.Core.Path.{refl, sym, _∙_}
-use Rattle.script.specs.Fields.{trialAt}
+use Rattle.script.specs.Colons.{trialFields}
 use borrow.Author.Needs.{needs}
-use Rattle.script.proofs.parted.trial_at.Statement.{statement}
-use Rattle.script.proofs.parted.trial_at.Tie as tie
+use Rattle.script.proofs.colons.trial_at.Statement.{statement}
+use Rattle.script.proofs.colons.trial_at.Tie as tie
 
 next-number-requires : tie.Need-next-number-requires
 next-number-requires c κs = search needs
@@ -15,7 +15,7 @@ enum-told : tie.Need-enum-told
 enum-told c = search needs
 
 returns : tie.Need-returns
-unfolding trialAt
+unfolding trialFields
 returns c = rw (← (sym (c .enum-told .given .1) ∙ c .before .before .next-number .ensures)) refl
 
 open-at-requires : tie.Need-open-at-requires
@@ -28,14 +28,14 @@ enum-told-2 : tie.Need-enum-told-2
 enum-told-2 c = search needs
 
 returns-2 : tie.Need-returns-2
-unfolding trialAt
+unfolding trialFields
 returns-2 c = rw (← (sym (c .before .before .before .before .n .given .1) ∙ c .before .before .before .before .before .before .next-number .ensures)) (rw (← (sym (c .enum-told2 .given .1) ∙ c .before .before .open-at .ensures)) refl)
 
 cast-t9 : tie.Need-cast-t9
 cast-t9 c = search needs
 
 returns-3 : tie.Need-returns-3
-unfolding trialAt
+unfolding trialFields
 returns-3 c = rw (← (sym (c .before .before .before .before .before .n .given .1) ∙ c .before .before .before .before .before .before .before .next-number .ensures)) (rw (← (sym (c .before .left .given .1) ∙ c .before .before .before .open-at .ensures)) refl)
 
 pub trial-at-spec : {M : Type 1} → statement M

@@ -1,11 +1,11 @@
--- `parted::read_phase` meets its contract: each exit names the letter that it found.
+-- `colons::read_phase` meets its contract: each exit names the letter that it found.
 use mathlib.Core.Path.{refl, sym, _∙_}
 use Rattle.text.proofs.WordLists.{field-inside}
-use Rattle.choice.proofs.Branches.{yes!, no! }
-use Rattle.script.specs.Fields.{spelledPhase}
+use Rattle.choice.proofs.Branches.{yes!, no!}
+use Rattle.script.specs.Colons.{phaseWord}
 use borrow.Author.Needs.{needs}
-use Rattle.script.proofs.parted.read_phase.Statement.{statement}
-use Rattle.script.proofs.parted.read_phase.Tie as tie
+use Rattle.script.proofs.colons.read_phase.Statement.{statement}
+use Rattle.script.proofs.colons.read_phase.Tie as tie
 
 slice-aggregate-same : tie.Need-slice-aggregate-same
 slice-aggregate-same c = search needs
@@ -14,7 +14,7 @@ same-requires : tie.Need-same-requires
 same-requires c κs = search needs
 
 returns : tie.Need-returns
-unfolding spelledPhase
+unfolding phaseWord
 returns c = yes! _ (sym (c .before .same .ensures) ∙ c .if1 .taken) refl
 
 next-field-requires : tie.Need-next-field-requires
@@ -27,7 +27,7 @@ enum-told : tie.Need-enum-told
 enum-told c = search needs
 
 returns-2 : tie.Need-returns-2
-unfolding spelledPhase
+unfolding phaseWord
 returns-2 c = no! _ (sym (c .before .before .before .before .same .ensures) ∙ c .before .before .before .if1 .left) (rw (← (sym (c .enum-told .given .1) ∙ c .before .before .next-field .ensures)) refl)
 
 sub-same : tie.Need-sub-same
@@ -52,7 +52,7 @@ trial-at-requires : tie.Need-trial-at-requires
 trial-at-requires c κs = search needs
 
 returns-3 : tie.Need-returns-3
-unfolding spelledPhase
+unfolding phaseWord
 returns-3 c = no! _ (sym (c .before .before .before .before .before .before .before .before .before .before .same .ensures) ∙ c .before .before .before .before .before .before .before .before .before .if1 .left) (rw (← (sym (c .before .before .before .before .before .before .from .given .1) ∙ c .before .before .before .before .before .before .before .before .next-field .ensures)) (yes! _ (sym (c .before .before .same2 .ensures) ∙ c .before .if2 .taken) (c .trial-at .ensures)))
 
 add-open-at : tie.Need-add-open-at
@@ -68,7 +68,7 @@ enum-told-2 : tie.Need-enum-told-2
 enum-told-2 c = search needs
 
 returns-4 : tie.Need-returns-4
-unfolding spelledPhase
+unfolding phaseWord
 returns-4 c = no! _ (sym (c .before .before .before .before .before .before .before .before .before .before .before .before .same .ensures) ∙ c .before .before .before .before .before .before .before .before .before .before .before .if1 .left) (rw (← (sym (c .before .before .before .before .before .before .before .before .from .given .1) ∙ c .before .before .before .before .before .before .before .before .before .before .next-field .ensures)) (no! _ (sym (c .before .before .before .before .same2 .ensures) ∙ c .before .before .before .if2 .left) (rw (← (sym (c .enum-told2 .given .1) ∙ c .before .before .open-at .ensures)) refl)))
 
 sub-same-2 : tie.Need-sub-same-2
@@ -87,7 +87,7 @@ same-requires-3 : tie.Need-same-requires-3
 same-requires-3 c κs = search needs
 
 returns-5 : tie.Need-returns-5
-unfolding spelledPhase
+unfolding phaseWord
 returns-5 c = no! _ (sym (c .before .before .before .before .before .before .before .before .before .before .before .before .before .before .before .before .before .same .ensures) ∙ c .before .before .before .before .before .before .before .before .before .before .before .before .before .before .before .before .if1 .left) (rw (← (sym (c .before .before .before .before .before .before .before .before .before .before .before .before .before .from .given .1) ∙ c .before .before .before .before .before .before .before .before .before .before .before .before .before .before .before .next-field .ensures)) (no! _ (sym (c .before .before .before .before .before .before .before .before .before .same2 .ensures) ∙ c .before .before .before .before .before .before .before .before .if2 .left) (rw (← (sym (c .before .before .before .before .before .left .given .1) ∙ c .before .before .before .before .before .before .before .open-at .ensures)) (yes! _ (sym (c .before .same3 .ensures) ∙ c .if3 .taken) refl))))
 
 sub-same-3 : tie.Need-sub-same-3
@@ -106,11 +106,11 @@ same-requires-4 : tie.Need-same-requires-4
 same-requires-4 c κs = search needs
 
 returns-6 : tie.Need-returns-6
-unfolding spelledPhase
+unfolding phaseWord
 returns-6 c = no! _ (sym (c .before .before .before .before .before .before .before .before .before .before .before .before .before .before .before .before .before .before .before .before .before .same .ensures) ∙ c .before .before .before .before .before .before .before .before .before .before .before .before .before .before .before .before .before .before .before .before .if1 .left) (rw (← (sym (c .before .before .before .before .before .before .before .before .before .before .before .before .before .before .before .before .before .from .given .1) ∙ c .before .before .before .before .before .before .before .before .before .before .before .before .before .before .before .before .before .before .before .next-field .ensures)) (no! _ (sym (c .before .before .before .before .before .before .before .before .before .before .before .before .before .same2 .ensures) ∙ c .before .before .before .before .before .before .before .before .before .before .before .before .if2 .left) (rw (← (sym (c .before .before .before .before .before .before .before .before .before .left .given .1) ∙ c .before .before .before .before .before .before .before .before .before .before .before .open-at .ensures)) (no! _ (sym (c .before .before .before .before .before .same3 .ensures) ∙ c .before .before .before .before .if3 .left) (yes! _ (sym (c .before .same4 .ensures) ∙ c .if4 .taken) refl)))))
 
 returns-7 : tie.Need-returns-7
-unfolding spelledPhase
+unfolding phaseWord
 returns-7 c = no! _ (sym (c .before .before .before .before .before .before .before .before .before .before .before .before .before .before .before .before .before .before .before .before .before .same .ensures) ∙ c .before .before .before .before .before .before .before .before .before .before .before .before .before .before .before .before .before .before .before .before .if1 .left) (rw (← (sym (c .before .before .before .before .before .before .before .before .before .before .before .before .before .before .before .before .before .from .given .1) ∙ c .before .before .before .before .before .before .before .before .before .before .before .before .before .before .before .before .before .before .before .next-field .ensures)) (no! _ (sym (c .before .before .before .before .before .before .before .before .before .before .before .before .before .same2 .ensures) ∙ c .before .before .before .before .before .before .before .before .before .before .before .before .if2 .left) (rw (← (sym (c .before .before .before .before .before .before .before .before .before .left .given .1) ∙ c .before .before .before .before .before .before .before .before .before .before .before .open-at .ensures)) (no! _ (sym (c .before .before .before .before .before .same3 .ensures) ∙ c .before .before .before .before .if3 .left) (no! _ (sym (c .before .same4 .ensures) ∙ c .if4 .left) refl)))))
 
 pub read-phase-spec : {M : Type 1} → statement M

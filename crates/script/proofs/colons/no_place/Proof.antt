@@ -1,8 +1,8 @@
--- `parted::no_place` meets its contract, by what `Isdp::none` ensures.
+-- `colons::no_place` meets its contract, by what `Isdp::none` ensures.
 use mathlib.Core.Path.{refl}
 use borrow.Author.Needs.{needs}
-use Rattle.script.proofs.parted.no_place.Statement.{statement}
-use Rattle.script.proofs.parted.no_place.Tie as tie
+use Rattle.script.proofs.colons.no_place.Statement.{statement}
+use Rattle.script.proofs.colons.no_place.Tie as tie
 
 none-requires : tie.Need-none-requires
 none-requires c κs = search needs

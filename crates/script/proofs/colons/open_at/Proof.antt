@@ -1,12 +1,12 @@
--- `parted::open_at` meets its contract: the two numbers in turn, and the place after them. Both casts fit, by `number-within`.
+-- `colons::open_at` meets its contract: the two numbers in turn, and the place after them. Both casts fit, by `number-within`.
 use mathlib.Core.Path.{refl, sym, _∙_}
 use native.Mathlib.Omega.{arith}
-use Rattle.choice.proofs.Branches.{le!, nle! }
+use Rattle.choice.proofs.Branches.{le!, nle!}
 use Rattle.script.proofs.Within.{number-within}
-use Rattle.script.specs.Fields.{openAt}
+use Rattle.script.specs.Colons.{openFields}
 use borrow.Author.Needs.{needs}
-use Rattle.script.proofs.parted.open_at.Statement.{statement}
-use Rattle.script.proofs.parted.open_at.Tie as tie
+use Rattle.script.proofs.colons.open_at.Statement.{statement}
+use Rattle.script.proofs.colons.open_at.Tie as tie
 
 next-number-requires : tie.Need-next-number-requires
 next-number-requires c κs = search needs
@@ -18,7 +18,7 @@ enum-told : tie.Need-enum-told
 enum-told c = search needs
 
 returns : tie.Need-returns
-unfolding openAt
+unfolding openFields
 returns c = rw (← (sym (c .enum-told .given .1) ∙ c .before .before .next-number .ensures)) refl
 
 next-number-requires-2 : tie.Need-next-number-requires-2
@@ -31,11 +31,11 @@ enum-told-2 : tie.Need-enum-told-2
 enum-told-2 c = search needs
 
 returns-2 : tie.Need-returns-2
-unfolding openAt
+unfolding openFields
 returns-2 c = rw (← (sym (c .before .before .before .before .left .given .1) ∙ c .before .before .before .before .before .before .next-number .ensures)) (rw (← (sym (c .enum-told2 .given .1) ∙ c .before .before .next-number2 .ensures)) refl)
 
 returns-3 : tie.Need-returns-3
-unfolding openAt
+unfolding openFields
 returns-3 c = rw (← (sym (c .before .before .before .before .before .before .left .given .1) ∙ c .before .before .before .before .before .before .before .before .next-number .ensures)) (rw (← (sym (c .before .before .number .given .1) ∙ c .before .before .before .before .next-number2 .ensures)) (le! _ (omega arith) refl))
 
 cast-t11 : tie.Need-cast-t11
@@ -45,7 +45,7 @@ cast-t12 : tie.Need-cast-t12
 cast-t12 c = let h0 = number-within _ _ _ _ _ (sym (c .before .before .before .before .before .before .left .given .1) ∙ c .before .before .before .before .before .before .before .before .next-number .ensures) in let h1 = number-within _ _ _ _ _ (sym (c .before .before .number .given .1) ∙ c .before .before .before .before .next-number2 .ensures) in search needs
 
 returns-4 : tie.Need-returns-4
-unfolding openAt
+unfolding openFields
 returns-4 c = rw (← (sym (c .before .before .before .before .before .before .left .given .1) ∙ c .before .before .before .before .before .before .before .before .next-number .ensures)) (rw (← (sym (c .before .before .number .given .1) ∙ c .before .before .before .before .next-number2 .ensures)) (nle! _ (omega arith) refl))
 
 pub open-at-spec : {M : Type 1} → statement M

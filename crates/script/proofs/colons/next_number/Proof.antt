@@ -1,10 +1,10 @@
--- `parted::next_number` meets its contract: each exit names the field and what its digits spell; the field lies inside the word, so the place after it fits.
+-- `colons::next_number` meets its contract: each exit names the field and what its digits spell; the field lies inside the word, so the place after it fits.
 use mathlib.Core.Path.{refl, sym, _∙_}
 use Rattle.text.proofs.WordLists.{field-inside}
-use Rattle.script.specs.Fields.{numberAt}
+use Rattle.script.specs.Colons.{numberField}
 use borrow.Author.Needs.{needs}
-use Rattle.script.proofs.parted.next_number.Statement.{statement}
-use Rattle.script.proofs.parted.next_number.Tie as tie
+use Rattle.script.proofs.colons.next_number.Statement.{statement}
+use Rattle.script.proofs.colons.next_number.Tie as tie
 
 next-field-requires : tie.Need-next-field-requires
 next-field-requires c κs = search needs
@@ -16,7 +16,7 @@ enum-told : tie.Need-enum-told
 enum-told c = search needs
 
 returns : tie.Need-returns
-unfolding numberAt
+unfolding numberField
 returns c = rw (← (sym (c .enum-told .given .1) ∙ c .before .before .next-field .ensures)) refl
 
 sub-decimal : tie.Need-sub-decimal
@@ -38,14 +38,14 @@ enum-told-2 : tie.Need-enum-told-2
 enum-told-2 c = search needs
 
 returns-2 : tie.Need-returns-2
-unfolding numberAt
+unfolding numberField
 returns-2 c = rw (← (sym (c .before .before .before .before .before .from .given .1) ∙ c .before .before .before .before .before .before .before .next-field .ensures)) (rw (← (sym (c .enum-told2 .given .1) ∙ c .before .before .decimal .ensures)) refl)
 
 add-t10 : tie.Need-add-t10
 add-t10 c = let i = field-inside _ _ _ _ _ (sym (c .before .before .before .before .before .before .from .given .1) ∙ c .before .before .before .before .before .before .before .before .next-field .ensures) in search needs
 
 returns-3 : tie.Need-returns-3
-unfolding numberAt
+unfolding numberField
 returns-3 c = rw (← (sym (c .before .before .before .before .before .before .from .given .1) ∙ c .before .before .before .before .before .before .before .before .next-field .ensures)) (rw (← (sym (c .before .n .given .1) ∙ c .before .before .before .decimal .ensures)) refl)
 
 pub next-number-spec : {M : Type 1} → statement M
