@@ -20,8 +20,7 @@ use Rattle.card.specs.declared.Kind.the-variants.{Changed}
 use Rattle.card.specs.declared.Notification.{Notification}
 use Rattle.card.specs.declared.Phase.the-variants.{Trial}
 use Rattle.answers.specs.Letters.{text}
-use Rattle.answers.specs.Lines.{issuedWord, noticeWord, answerLine, reasonText, reasonLine}
-use Rattle.script.specs.declared.arguments.Reason.the-variants.{BadHex}
+use Rattle.answers.specs.Lines.{issuedWord, noticeWord, answerLine}
 use Rattle.answers.specs.Explained.{meaningOf, wordText, responseText, kindText, issuedText, noticeText, spaces, leadOf, columnText, stateText, markText, policyText, nameCells, figureCells, rowText, placeText, rowsText, widestOf, headText, tableText, openText, trialText, phaseText, explainedText}
 
 abbrev aid-01 : List ℕ
@@ -62,10 +61,6 @@ refused-line = refl
 pub response-line : answerLine (answered Done changed silent 0) (0xE3 ∷ 0x0A ∷ []) ≡ text "9000 E30A - 0\n"
 unfolding answerLine noticeWord hexText hexWord glyphOf digitsText pick isBelow
 response-line = refl
-
-pub fault-line : reasonLine 12 BadHex ≡ text "line 12: bad hex\n"
-unfolding reasonLine reasonText digitsText pick isBelow
-fault-line = refl
 
 -- the same answers for a person
 pub enabled-explained : explainedText (answered Done changed first-number 20) []
