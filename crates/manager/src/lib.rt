@@ -34,16 +34,6 @@ ghost use Rattle.manager.specs.Calls.{Call.Command, Call.Keyed, Call.Sto
 ghost use Rattle.manager.specs.Table.{leastBuffer};
 ghost use Rattle.manager.specs.Manager.{work, step, Served};
 
-// A call, over the bytes that it came in.
-pub enum Call {
-    Command { verdict: u8, bytes: Part },
-    Keyed(Part),
-    Stored { aid: Part, n: u32 },
-    Finished { aid: Part, policy: u8 },
-    Tick,
-    Lost,
-}
-
 // A lent response buffer has at least so many bytes.
 const BUFFER: usize = 256;
 
