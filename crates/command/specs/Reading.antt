@@ -4,6 +4,7 @@ use mathlib.Core.List.{List, [], _∷_}
 use mathlib.Core.Bool.{cond}
 use Rattle.status.specs.StatusWords.{isDone}
 use Rattle.status.specs.Rows.{Row, row, wordOf}
+use Rattle.status.specs.declared.Status.{Status}
 use Rattle.status.specs.declared.Status.the-variants as status
 use Rattle.command.specs.declared.request.Field.{Field}
 use Rattle.command.specs.declared.request.Field.the-variants as field
@@ -26,6 +27,11 @@ readingRows s capacity =
 abbrev pub accepted : Field → Reading
 accepted field.Wrong = reading.Refused status.DataWrong
 accepted (field.Found r) = reading.Read r
+
+-- the word of a refusal; 90 00 where a request was read
+abbrev pub wordIn : Reading → Status
+wordIn (reading.Read r) = status.Done
+wordIn (reading.Refused w) = w
 
 -- the word of the first row whose condition holds, otherwise the request
 unfoldable pub readOf : List ℕ → ℕ → Reading

@@ -12,11 +12,23 @@ pub use request::Request;
 use request::read_field;
 use status::Status;
 ghost use mathlib.Core.Path.{_≡_};
-ghost use Rattle.command.specs.Reading.{readOf};
+ghost use Rattle.command.specs.Reading.{readOf, wordIn};
 
 pub enum Reading {
     Read(Request),
     Refused(Status),
+}
+
+impl Reading {
+    // The word of the refusal; 90 00 where a request was read.
+    pub fn word(self) -> Status
+        ensures { λ r. ⌜ r ≡ wordIn self ⌝ }
+    {
+        match self {
+            Reading::Read(_) => Status::Done,
+            Reading::Refused(word) => word,
+        }
+    }
 }
 
 pub fn read(bytes: &[u8], capacity: u32) -> Reading

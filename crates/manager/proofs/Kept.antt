@@ -1,6 +1,6 @@
 -- Every call keeps a sound card sound, so every run does. An accepted call passed all rows of its table: those before the card's own
 -- rows say that what was read is legal, the card's own rows that the step keeps the card sound. A refusal hands the card back.
-use mathlib.Core.Path.{_≡_, refl, ap}
+use mathlib.Core.Path.{_≡_, refl, sym}
 use Prim.Native.Nat.{ℕ}
 use native.Mathlib.Omega.{arith}
 use mathlib.Core.List.{List, [], _∷_}
@@ -10,13 +10,13 @@ use lib.Seq.{length-take-le}
 use borrow.Author.Tests.{le-leb, not-false}
 use Rattle.status.specs.StatusWords.{isDone}
 use Rattle.status.specs.Rows.{wordOf}
-use Rattle.status.proofs.Tables.{passed, no-row}
+use Rattle.status.proofs.Tables.{passed}
 use Rattle.isdp.specs.Sizes.{leastAid, mostAid}
 use Rattle.isdp.specs.Aids.{aidOk}
 use Rattle.isdp.proofs.Bools.{and-r, both}
 use Rattle.card.specs.Sound.{sound}
 use Rattle.card.specs.declared.Card.{Card}
-use Rattle.card.proofs.Outcomes.{decide-card}
+use Rattle.card.proofs.Outcomes.{decide-card, checked}
 use Rattle.tlv.specs.declared.Part.{Part}
 use Rattle.command.specs.Requests.{fieldOf}
 use Rattle.command.specs.Places.{Placed, RequestIn}
@@ -25,12 +25,13 @@ use Rattle.command.specs.declared.request.Request.the-variants as request
 use Rattle.command.specs.declared.request.Field.{Field}
 use Rattle.command.specs.declared.request.Field.the-variants as field
 use Rattle.command.proofs.Within.{FieldIn, field-in}
-use Rattle.steps.specs.Conditions.{cardRows}
 use Rattle.steps.specs.Steps.{stepOf, responseOf}
+use Rattle.steps.proofs.Rows.{Passed}
 use Rattle.steps.proofs.Kept.{Legal, step-kept}
 use Rattle.manager.specs.Calls.{Call, Call.Command, Call.Keyed, Call.Stored, Call.Finished, Call.Tick, Call.Lost, partOf, requestAsks, fieldAsks, asked}
-use Rattle.manager.specs.Table.{table, valuesWrong, rowsAfter}
-use Rattle.manager.specs.Manager.{step, run}
+use Rattle.manager.specs.Table.{bufferShort, valuesWrong, rowsAfter, table}
+use Rattle.manager.specs.Manager.{work, step, onSound, run}
+use Rattle.manager.specs.Statements.{OnSoundAgrees}
 
 -- a part that lies in the command has its length
 pub part-ok : (s : List ℕ) (aid : Part) → Placed s aid → aidOk (partOf s aid) ≡ true
@@ -68,12 +69,28 @@ legal c (Finished aid policy) e = and-r (aidOk aid) _ (not-false _ e)
 legal c Tick e = tt
 legal c Lost e = tt
 
--- the step of a call that the table accepts
-pub took-sound : (c : Card) (call : Call) → isDone (wordOf (table c call)) ≡ true → sound (stepOf c (asked c call) .card) ≡ true
-took-sound c call e =
+-- the rows of the table by name: where a call is accepted each of them was passed
+pub record Accepted (c : Card) (call : Call) : Type 0 where
+  pub whole : sound c ≡ true
+  pub buffer : bufferShort call ≡ false
+  pub values : valuesWrong c call ≡ false
+  pub card : Passed c (asked c call)
+
+pub rows-accepted : (c : Card) (call : Call) → isDone (wordOf (table c call)) ≡ true → Accepted c call
+rows-accepted c call e =
     let p = passed (table c call) refl e in
     let v = p .1 .1 .1 .1 .1 .1 .1 in
-    step-kept c (asked c call) (legal c call (v .0)) (not-false _ (p .0)) (ap isDone (no-row (cardRows c (asked c call)) (v .1)))
+    let k = v .1 in
+    record {
+      whole = not-false _ (p .0);
+      buffer = p .1 .0;
+      values = v .0;
+      card = record { change = k .0; target = k .1 .0; already = k .1 .1 .0; state = k .1 .1 .1 .0; policy = k .1 .1 .1 .1 .0; verdict = k .1 .1 .1 .1 .1 .0; room = k .1 .1 .1 .1 .1 .1 .0 };
+    }
+
+-- the step of a call that the table accepts
+pub took-sound : (c : Card) (call : Call) → isDone (wordOf (table c call)) ≡ true → sound (stepOf c (asked c call) .card) ≡ true
+took-sound c call e = let p = rows-accepted c call e in step-kept c (asked c call) (legal c call (p .values)) (p .whole) (p .card)
 
 pub step-sound : (c : Card) (call : Call) → sound c ≡ true → sound (step c call .card) ≡ true
 unfolding step
@@ -85,7 +102,11 @@ unfolding run
 run-sound c [] s = s
 run-sound c (call ∷ calls) s = run-sound (step c call .card) calls (step-sound c call s)
 
--- the same for a card known to be sound, as the calls that do not ask it again need it
-pub call-kept : (c : Card) (call : Call) → sound c ≡ true → isDone (wordOf (rowsAfter c call)) ≡ true → sound (stepOf c (asked c call) .card) ≡ true
+-- a call that does not ask soundness again answers the same on a sound card
+call-kept : (c : Card) (call : Call) → sound c ≡ true → isDone (wordOf (rowsAfter c call)) ≡ true → sound (stepOf c (asked c call) .card) ≡ true
 unfolding wordOf
 call-kept c call s e = took-sound c call (rw s e)
+
+pub on-sound-agrees : OnSoundAgrees
+unfolding step onSound
+on-sound-agrees c call s = sym (checked c (work c call) s (call-kept c call s))

@@ -21,7 +21,8 @@ use Rattle.steps.specs.Conditions.{cardRows}
 use Rattle.steps.specs.Steps.{askedWork}
 use Rattle.manager.specs.Calls.{Call, Call.Command, requestAsks, fieldAsks, asked}
 use Rattle.manager.specs.Table.{leastBuffer, rowsAfter}
-use Rattle.manager.specs.Manager.{work}
+use Rattle.manager.specs.Manager.{onSound}
+use Rattle.manager.specs.Statements.{TableParts}
 
 module _ (c : Card) (verdict : ℕ) (s : List ℕ) (room : ℕ) (h : leastBuffer ≤ room) where
   abbrev call : Call
@@ -38,7 +39,8 @@ module _ (c : Card) (verdict : ℕ) (s : List ℕ) (room : ℕ) (h : leastBuffer
       let r = refused-word s (c .capacity) w q in
       (past-buffer ∙ rows-stop s (c .capacity) (cardRows c (asked c call)) (ap isDone (sym (r .0)) ∙ r .1) ∙ sym (r .0), r .1)
 
-  pub refused-read : (w : Status) → reading.Refused w ≡ readOf s (c .capacity) → known c (work c call) ≡ refusedAt (ticksByPhase c) c w
+  pub refused-read : (w : Status) → reading.Refused w ≡ readOf s (c .capacity) → onSound c call ≡ refusedAt (ticksByPhase c) c w
+  unfolding onSound
   refused-read w q = let r = not-read w q in rw (r .0, r .1)
 
   -- one that was
@@ -48,5 +50,19 @@ module _ (c : Card) (verdict : ℕ) (s : List ℕ) (room : ℕ) (h : leastBuffer
   pub word-read : (r : Request) → reading.Read r ≡ readOf s (c .capacity) → wordOf (rowsAfter c call) ≡ wordOf (cardRows c (asked c call))
   word-read r q = past-buffer ∙ rows-pass s (c .capacity) (cardRows c (asked c call)) (read-passes s (c .capacity) r q)
 
-  pub known-read : (r : Request) → reading.Read r ≡ readOf s (c .capacity) → known c (work c call) ≡ known c (askedWork c (requestAsks verdict s r))
+  pub known-read : (r : Request) → reading.Read r ≡ readOf s (c .capacity) → onSound c call ≡ known c (askedWork c (requestAsks verdict s r))
+  unfolding onSound
   known-read r q = rw (word-read r q, asks-read r q)
+
+-- the rows that stand elsewhere are parts of the table
+pub table-parts : (c : Card) → TableParts c
+unfolding wordOf
+table-parts c =
+    record {
+      command = λ verdict s room. refl;
+      keyed-rows = λ aid. refl;
+      stored-rows = λ aid n. refl;
+      finished-rows = λ aid policy. refl;
+      tick-rows = refl;
+      lost-rows = refl;
+    }

@@ -27,9 +27,10 @@ use Rattle.responses.proofs.Lengths.{aidFits, all-at, sound-fits, sound-status-
 use Rattle.steps.specs.Asked.{Act, Act.enable, Act.disable, Act.delete, Act.masterDelete, Act.setFallBack, Act.status, Act.keyed, Act.stored, Act.finished, Asked, Asked.unread, Asked.create, Asked.on, Asked.confirm, Asked.statusOfAll, Asked.getData, Asked.tick, Asked.lost}
 use Rattle.card.specs.Cards.{placeOf}
 use Rattle.steps.specs.Steps.{stepOf, actResponse, responseOf}
-use Rattle.manager.specs.Calls.{Call, asked}
+use Rattle.manager.specs.Calls.{asked}
 use Rattle.manager.specs.Table.{table}
 use Rattle.manager.specs.Manager.{step}
+use Rattle.manager.specs.Statements.{ResponseMost}
 
 -- an AID handed out has sixteen bytes at the most
 abbrev bytesFit : Aid → Type 0
@@ -72,7 +73,7 @@ unfolding accepted refused
 response-case c w s rsp true e f = f e
 response-case c w s rsp false e f = omega arith
 
-pub response-most : (c : Card) (call : Call) → length (step c call .response) ≤ 255
+pub response-most : ResponseMost
 unfolding step
 response-most c call =
     response-case c (wordOf (table c call)) (stepOf c (asked c call)) (responseOf c (asked c call)) (isDone (wordOf (table c call))) refl

@@ -11,6 +11,8 @@ use Rattle.command.specs.declared.request.Field.{Field}
 use Rattle.command.specs.declared.request.Field.the-variants as field
 use Rattle.steps.specs.Asked.{Act, Act.enable, Act.disable, Act.delete, Act.masterDelete, Act.setFallBack, Act.status, Act.keyed, Act.stored, Act.finished, Asked, Asked.unread, Asked.create, Asked.on, Asked.confirm, Asked.statusOfAll, Asked.getData, Asked.tick, Asked.lost}
 use Rattle.card.specs.declared.Card.{Card}
+use Rattle.manager.specs.declared.Call as declared
+use Rattle.manager.specs.declared.Call.the-variants as code
 
 pub data Call : Type 0 where
   -- the token verdict, the bytes, and how many bytes the lent response buffer has
@@ -24,6 +26,15 @@ pub data Call : Type 0 where
 -- the bytes of a part of the command
 abbrev pub partOf : List ℕ → Part → List ℕ
 partOf s part = take (part .len) (drop (part .start) s)
+
+-- the call that the code's value names over the bytes it came in, with a response buffer of so many bytes lent
+abbrev pub callOf : List ℕ → ℕ → declared.Call → Call
+callOf s room (code.Command verdict bytes) = Command verdict (partOf s bytes) room
+callOf s room (code.Keyed aid) = Keyed (partOf s aid)
+callOf s room (code.Stored aid n) = Stored (partOf s aid) n
+callOf s room (code.Finished aid policy) = Finished (partOf s aid) policy
+callOf s room code.Tick = Tick
+callOf s room code.Lost = Lost
 
 abbrev pub requestAsks : ℕ → List ℕ → Request → Asked
 requestAsks verdict s (request.Create aid quota) = create (partOf s aid) quota

@@ -2,3 +2,4 @@
 pub mod Calls
 pub mod Table
 pub mod Manager
+pub mod Statements

@@ -4,7 +4,7 @@ use Prim.Native.Nat.{ℕ, _≤_}
 use mathlib.Core.List.{List, [], _∷_}
 use lib.ListN.{length}
 use Rattle.status.specs.Rows.{wordOf}
-use Rattle.card.specs.Answers.{Outcome, Work, accepted, settle, outcome}
+use Rattle.card.specs.Answers.{Outcome, Work, accepted, settle, outcome, known}
 use Rattle.card.specs.declared.Card.{Card}
 use Rattle.card.specs.declared.Answer.{Answer}
 use Rattle.steps.specs.Steps.{stepOf, responseOf, Handed}
@@ -23,6 +23,10 @@ work c call =
 -- the answer: `settle c (wordOf (table c call)) (accepted step response)`
 unfoldable pub step : Card → Call → Outcome
 step c call = outcome c (work c call)
+
+-- the same on a card known to be sound: the row 6F 00 is not asked (statement `OnSoundAgrees`)
+unfoldable pub onSound : Card → Call → Outcome
+onSound c call = known c (work c call)
 
 -- a run of calls, in order: the card that it ends on, and every answer
 unfoldable pub run : Card → List Call → Card

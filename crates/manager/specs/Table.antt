@@ -1,4 +1,5 @@
--- Document 01, 'Status words': the table, row for row. "Given exactly when, in this order".
+-- Document 01, 'Status words': the table, row for row. "Given exactly when, in this order". This is the table; `readingRows` of the
+-- reader, `innerWork`'s row and `cardRows` of the steps are parts of it (statement `TableParts`).
 use Prim.Native.Nat.{ℕ}
 use mathlib.Core.List.{List, [], _∷_}
 use mathlib.Core.Bool.{Bool, false, not}
@@ -7,10 +8,10 @@ use Rattle.status.specs.Rows.{Row, row}
 use Rattle.status.specs.declared.Status.the-variants.{BufferShort, LengthWrong, ClassWrong, InstructionWrong, ParametersWrong, DataWrong, StateWrong, NotHeld, PolicyForbids, VerdictWrong, NoRoom}
 use Rattle.card.specs.Answers.{soundRow}
 use Rattle.card.specs.declared.Card.{Card}
-use Rattle.calls.specs.Calls.{aidWrong, finishWrong}
 use Rattle.command.specs.Framing.{lengthWrong, classWrong, instructionWrong, parametersWrong, shapeWrong}
 use Rattle.command.specs.Requests.{dataWrong}
-use Rattle.steps.specs.Conditions.{changeWrong, targetMissing, alreadyHeld, stateWrong, policyForbids, verdictWrong, noRoom}
+use Rattle.steps.specs.Asked.{Act.keyed, Act.stored, Act.finished}
+use Rattle.steps.specs.Conditions.{innerWrong, changeWrong, targetMissing, alreadyHeld, stateWrong, policyForbids, verdictWrong, noRoom}
 use Rattle.manager.specs.Calls.{Call, Call.Command, Call.Keyed, Call.Stored, Call.Finished, Call.Tick, Call.Lost, asked}
 
 -- a lent response buffer has at least so many bytes
@@ -38,9 +39,9 @@ inCommand test Lost = false
 -- "data field, DGI, or inner call's values wrong"
 abbrev pub valuesWrong : Card → Call → Bool
 valuesWrong c (Command verdict s room) = dataWrong s (c .capacity)
-valuesWrong c (Keyed aid) = aidWrong aid
-valuesWrong c (Stored aid n) = aidWrong aid
-valuesWrong c (Finished aid policy) = finishWrong aid policy
+valuesWrong c (Keyed aid) = innerWrong aid keyed
+valuesWrong c (Stored aid n) = innerWrong aid (stored n)
+valuesWrong c (Finished aid policy) = innerWrong aid (finished policy)
 valuesWrong c Tick = false
 valuesWrong c Lost = false
 

@@ -1,10 +1,5 @@
-// The manager of the root domain: every command and every further call, answered whole.
-// Each call asks first whether the card is sound; `known_..` is the same for a card known to be, for runs of many calls.
-pub use calls::known_finished;
-pub use calls::known_keyed;
-pub use calls::known_lost;
-pub use calls::known_stored;
-pub use calls::known_tick;
+// The manager of the root domain: one door for every call, answered whole.
+// `answer` asks first whether the card is sound; `answer_on_sound` is the same for a card known to be, for runs of many calls.
 use card::Answer;
 use card::Card;
 use command::Reading;
@@ -30,14 +25,25 @@ ghost use Rattle.card.specs.Answers.{handed, known};
 ghost use Rattle.card.specs.Fresh.{freshOutcome};
 ghost use Rattle.steps.specs.Asked.{Act.status, Asked.on, Asked.confirm, Asked.statusOfAll, Asked.getData};
 ghost use Rattle.steps.specs.Steps.{askedWork};
-ghost use Rattle.manager.specs.Calls.{Call.Command, Call.Keyed, Call.Stored, Call.Finished, Call.Tick, Call.Lost, partOf, requestAsks};
+ghost use Rattle.manager.specs.Calls.{Call.Command, partOf, callOf, requestAsks};
 ghost use Rattle.manager.specs.Table.{leastBuffer};
-ghost use Rattle.manager.specs.Manager.{work, step, Served};
+ghost use Rattle.manager.specs.Manager.{step, onSound, Served};
+
+// A call over the bytes that it came in: each part names some of them.
+pub enum Call {
+    // with the token verdict
+    Command { verdict: u8, bytes: Part },
+    Keyed(Part),
+    Stored { aid: Part, n: u32 },
+    Finished { aid: Part, policy: u8 },
+    Tick,
+    Lost,
+}
 
 // A lent response buffer has at least so many bytes.
 const BUFFER: usize = 256;
 
-// The bytes of the command that a part names.
+// The bytes that a part names.
 fn part_of(bytes: &[u8], part: Part) -> &[u8]
     ensures { λ r. ⌜ now r ≡ partOf (now (bytes .entry)) part ⌝ }
 {
@@ -139,28 +145,45 @@ fn serve(card: Card, verdict: u8, request: Request, bytes: &[u8], buf: &mut [u8]
     }
 }
 
-// A command, on a card known to be sound.
-pub fn known_command(card: Card, verdict: u8, bytes: &[u8], buf: &mut [u8]) -> Answer
-    ensures { λ r. ⌜ Served (now (buf .entry)) (known card (work card (Command verdict (now (bytes .entry)) (length (now (buf .entry)))))) r (now (buf .exit)) ⌝ }
+// A command: it is read, and what it asks is done.
+fn command(card: Card, verdict: u8, bytes: &[u8], buf: &mut [u8]) -> Answer
+    ensures { λ r. ⌜ Served (now (buf .entry)) (onSound card (Command verdict (now (bytes .entry)) (length (now (buf .entry))))) r (now (buf .exit)) ⌝ }
 {
     if buf.len() < BUFFER {
         return card.refused(Status::BufferShort);
     }
     let reading = read(bytes, card.capacity);
-    match reading {
-        Reading::Refused(word) => card.refused(word),
-        Reading::Read(request) => serve(card, verdict, request, bytes, buf),
+    let Reading::Read(request) = reading else {
+        return card.refused(reading.word());
+    };
+    serve(card, verdict, request, bytes, buf)
+}
+
+// A call on a card known to be sound, with the bytes it came in and the buffer lent for its response.
+pub fn answer_on_sound(card: Card, call: Call, bytes: &[u8], buf: &mut [u8]) -> Answer
+    ensures { λ r. ⌜ Served (now (buf .entry)) (onSound card (callOf (now (bytes .entry)) (length (now (buf .entry))) call)) r (now (buf .exit)) ⌝ }
+{
+    match call {
+        Call::Command {
+            verdict,
+            bytes: part,
+        } => { command(card, verdict, part_of(bytes, part), buf) }
+        Call::Keyed(aid) => steps::keyed(card, part_of(bytes, aid)),
+        Call::Stored { aid, n } => steps::stored(card, part_of(bytes, aid), n),
+        Call::Finished { aid, policy } => steps::finished(card, part_of(bytes, aid), policy),
+        Call::Tick => card.tick().answer(0),
+        Call::Lost => card.lost().answer(0),
     }
 }
 
-// A command, with the token verdict that came with it and the buffer lent for its response.
-pub fn command(card: Card, verdict: u8, bytes: &[u8], buf: &mut [u8]) -> Answer
-    ensures { λ r. ⌜ Served (now (buf .entry)) (step card (Command verdict (now (bytes .entry)) (length (now (buf .entry))))) r (now (buf .exit)) ⌝ }
+// A call, whole: soundness is asked first.
+pub fn answer(card: Card, call: Call, bytes: &[u8], buf: &mut [u8]) -> Answer
+    ensures { λ r. ⌜ Served (now (buf .entry)) (step card (callOf (now (bytes .entry)) (length (now (buf .entry))) call)) r (now (buf .exit)) ⌝ }
 {
     if !card.is_sound() {
         return card.unsound();
     }
-    known_command(card, verdict, bytes, buf)
+    answer_on_sound(card, call, bytes, buf)
 }
 
 // A fresh card.
@@ -168,34 +191,4 @@ pub fn fresh(eid: &[u8], aid: &[u8], capacity: u32, quota: u32, used: u32, volat
     ensures { λ r. ⌜ r ≡ handed (freshOutcome (now (eid .entry)) (now (aid .entry)) capacity quota used volatile) ⌝ }
 {
     Card::fresh(eid, aid, capacity, quota, used, volatile)
-}
-
-pub fn keyed(card: Card, aid: &[u8]) -> Answer
-    ensures { λ r. ⌜ r ≡ handed (step card (Keyed (now (aid .entry)))) ⌝ }
-{
-    calls::keyed(card, aid)
-}
-
-pub fn stored(card: Card, aid: &[u8], n: u32) -> Answer
-    ensures { λ r. ⌜ r ≡ handed (step card (Stored (now (aid .entry)) n)) ⌝ }
-{
-    calls::stored(card, aid, n)
-}
-
-pub fn finished(card: Card, aid: &[u8], policy: u8) -> Answer
-    ensures { λ r. ⌜ r ≡ handed (step card (Finished (now (aid .entry)) policy)) ⌝ }
-{
-    calls::finished(card, aid, policy)
-}
-
-pub fn tick(card: Card) -> Answer
-    ensures { λ r. ⌜ r ≡ handed (step card Tick) ⌝ }
-{
-    calls::tick(card)
-}
-
-pub fn lost(card: Card) -> Answer
-    ensures { λ r. ⌜ r ≡ handed (step card Lost) ⌝ }
-{
-    calls::lost(card)
 }

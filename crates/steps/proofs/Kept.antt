@@ -8,9 +8,6 @@ use mathlib.Core.Bool.{true, false, not, _&&_, false≢true}
 use lib.ListN.{set}
 use lib.Dec.{ltb, eqb}
 use borrow.Author.Tests.{eqb-true, leb-true, ltb-true, not-true, not-false}
-use Rattle.status.specs.StatusWords.{isDone}
-use Rattle.status.specs.Rows.{wordOf}
-use Rattle.status.proofs.Tables.{passed}
 use Rattle.isdp.specs.Sizes.{mostPlaces, wait}
 use Rattle.isdp.specs.Aids.{aidOk}
 use Rattle.isdp.specs.Policy.{policyOk}
@@ -28,10 +25,10 @@ use Rattle.card.specs.declared.Phase.{Phase}
 use Rattle.card.specs.declared.Phase.the-variants.{Quiet, Trial, Back, Fallen}
 use Rattle.card.proofs.Sounds.{Sound, parts, whole, nonzero, tick-sound, lost-sound}
 use Rattle.card.proofs.Rewrites.{deletes, confirm-sound}
-use Rattle.calls.proofs.Kept.{keyed-at, stored-at, finished-at}
 use Rattle.steps.specs.Asked.{Act, Act.enable, Act.disable, Act.delete, Act.masterDelete, Act.setFallBack, Act.status, Act.keyed, Act.stored, Act.finished, Asked, Asked.unread, Asked.create, Asked.on, Asked.confirm, Asked.statusOfAll, Asked.getData, Asked.tick, Asked.lost}
-use Rattle.steps.specs.Conditions.{cardRows}
 use Rattle.steps.specs.Steps.{stepOf}
+use Rattle.steps.proofs.Rows.{Passed, rows-passed}
+use Rattle.steps.proofs.Inner.{keyed-at, stored-at, finished-at}
 use Rattle.steps.proofs.Opens.{opens, fallback-life}
 use Rattle.steps.proofs.Creates.{creates}
 
@@ -93,15 +90,12 @@ opened-at c t s d =
     record { still = whole _ (opens c t (parts c s) d); trial = refl; asked = enable-at (c .places) t (within (c .places) t (nonzero _ 30 d)) }
 
 module _ (c : Card) (aid : List ℕ) (s : sound c ≡ true) where
-  pub enable-opens : isDone (wordOf (cardRows c (on aid enable))) ≡ true → Opened c (placeOf c aid) (opened c (placeOf c aid))
-  enable-opens e =
-      let p = passed (cardRows c (on aid enable)) refl e in
-      opened-at c (placeOf c aid) s (eqb-true _ _ (not-false _ (p .1 .1 .1 .0)))
+  pub enable-opens : Passed c (on aid enable) → Opened c (placeOf c aid) (opened c (placeOf c aid))
+  enable-opens p = opened-at c (placeOf c aid) s (eqb-true _ _ (not-false _ (p .state)))
 
-  pub disable-opens : isDone (wordOf (cardRows c (on aid disable))) ≡ true → Opened c (c .fallback) (opened c (c .fallback))
-  disable-opens e =
-      let p = passed (cardRows c (on aid disable)) refl e in
-      let h = not-false _ (p .1 .1 .1 .0) in
+  pub disable-opens : Passed c (on aid disable) → Opened c (c .fallback) (opened c (c .fallback))
+  disable-opens p =
+      let h = not-false _ (p .state) in
       opened-at c (c .fallback) s (fallback-life c (placeOf c aid) (parts c s) (and-l (isEnabled (profileOf c aid)) _ h) (not-true _ (and-r (isEnabled (profileOf c aid)) _ h)))
 
   delete-kept : not (isQuiet (c .phase)) ≡ false → not (eqb (profileOf c aid .life) disabled && not (eqb (placeOf c aid) (c .fallback))) ≡ false → sound (withPlaces c (set (c .places) (placeOf c aid) vacant)) ≡ true
@@ -109,44 +103,36 @@ module _ (c : Card) (aid : List ℕ) (s : sound c ≡ true) where
       let h = not-false _ d in
       whole _ (clears c (placeOf c aid) (parts c s) (quietly (c .phase) q) (eqb-true _ _ (and-l (eqb (profileOf c aid .life) disabled) _ h)) (not-true _ (and-r (eqb (profileOf c aid .life) disabled) _ h)))
 
-  act-kept : (act : Act) → LegalAct act → isDone (wordOf (cardRows c (on aid act))) ≡ true → sound (stepOf c (on aid act) .card) ≡ true
-  act-kept enable h e = enable-opens e .still
-  act-kept disable h e = disable-opens e .still
-  act-kept delete h e = let p = passed (cardRows c (on aid delete)) refl e in delete-kept (p .0) (p .1 .1 .1 .0)
-  act-kept (masterDelete verdict) h e = let p = passed (cardRows c (on aid (masterDelete verdict))) refl e in delete-kept (p .0) (p .1 .1 .1 .0)
-  act-kept setFallBack h e =
-      let p = passed (cardRows c (on aid setFallBack)) refl e in
-      whole _ (refalls c (placeOf c aid) (parts c s) (quietly (c .phase) (p .0)) (not-false _ (p .1 .1 .1 .0)))
-  act-kept (status life fallback) h e = s
-  act-kept keyed h e =
-      let p = passed (cardRows c (on aid keyed)) refl e in
-      whole _ (keyed-at c (placeOf c aid) (parts c s) (eqb-true _ _ (not-false _ (p .1 .1 .1 .0))))
-  act-kept (stored n) h e =
-      let p = passed (cardRows c (on aid (stored n))) refl e in
-      whole _ (stored-at c (placeOf c aid) (profileOf c aid .used + n) (parts c s) (eqb-true _ _ (not-false _ (p .1 .1 .1 .0))) (not-false _ (p .1 .1 .1 .1 .1 .1 .0)))
-  act-kept (finished policy) h e =
-      let p = passed (cardRows c (on aid (finished policy))) refl e in
-      whole _ (finished-at c (placeOf c aid) policy (parts c s) (eqb-true _ _ (and-l (eqb (profileOf c aid .life) personalized) _ (not-false _ (p .1 .1 .1 .0)))) h)
+  act-kept : (act : Act) → LegalAct act → Passed c (on aid act) → sound (stepOf c (on aid act) .card) ≡ true
+  act-kept enable h p = enable-opens p .still
+  act-kept disable h p = disable-opens p .still
+  act-kept delete h p = delete-kept (p .change) (p .state)
+  act-kept (masterDelete verdict) h p = delete-kept (p .change) (p .state)
+  act-kept setFallBack h p = whole _ (refalls c (placeOf c aid) (parts c s) (quietly (c .phase) (p .change)) (not-false _ (p .state)))
+  act-kept (status life fallback) h p = s
+  act-kept keyed h p = whole _ (keyed-at c (placeOf c aid) (parts c s) (eqb-true _ _ (not-false _ (p .state))))
+  act-kept (stored n) h p =
+      whole _ (stored-at c (placeOf c aid) (profileOf c aid .used + n) (parts c s) (eqb-true _ _ (not-false _ (p .state))) (not-false _ (p .room)))
+  act-kept (finished policy) h p =
+      whole _ (finished-at c (placeOf c aid) policy (parts c s) (eqb-true _ _ (and-l (eqb (profileOf c aid .life) personalized) _ (not-false _ (p .state)))) h)
 
-  create-kept : (quota : ℕ) → Sizes c aid quota → isDone (wordOf (cardRows c (create aid quota))) ≡ true → sound (stepOf c (create aid quota) .card) ≡ true
-  create-kept quota h e =
-      let p = passed (cardRows c (create aid quota)) refl e in
-      let r = p .1 .1 .1 .1 .1 .1 .0 in
+  create-kept : (quota : ℕ) → Sizes c aid quota → Passed c (create aid quota) → sound (stepOf c (create aid quota) .card) ≡ true
+  create-kept quota h p =
       let w = parts c s in
       let f = w .full in
       let m = w .room in
-      let k = ltb-true (freePlace c) mostPlaces (not-false _ (or-l (not (ltb (freePlace c) mostPlaces)) _ r)) in
-      let q = leb-true quota (freeIn c) (not-false _ (or-r (not (ltb (freePlace c) mostPlaces)) _ r)) in
-      whole _ (creates c aid quota w (quietly (c .phase) (p .0)) (h .named) (h .some) (let u = h .some in omega arith) (p .1 .1 .0) (omega arith))
+      let k = ltb-true (freePlace c) mostPlaces (not-false _ (or-l (not (ltb (freePlace c) mostPlaces)) _ (p .room))) in
+      let q = leb-true quota (freeIn c) (not-false _ (or-r (not (ltb (freePlace c) mostPlaces)) _ (p .room))) in
+      whole _ (creates c aid quota w (quietly (c .phase) (p .change)) (h .named) (h .some) (let u = h .some in omega arith) (p .already) (omega arith))
 
 -- "keeps": the card after every accepted call is sound
-pub step-kept : (c : Card) (a : Asked) → Legal c a → sound c ≡ true → isDone (wordOf (cardRows c a)) ≡ true → sound (stepOf c a .card) ≡ true
+pub step-kept : (c : Card) (a : Asked) → Legal c a → sound c ≡ true → Passed c a → sound (stepOf c a .card) ≡ true
 unfolding tickStep lostStep confirmStep
-step-kept c unread h s e = s
-step-kept c (create aid quota) h s e = create-kept c aid s quota h e
-step-kept c (on aid act) h s e = act-kept c aid s act h e
-step-kept c (confirm number) h s e = confirm-sound c s
-step-kept c (statusOfAll life fallback) h s e = s
-step-kept c getData h s e = s
-step-kept c tick h s e = tick-sound c s
-step-kept c lost h s e = lost-sound c s
+step-kept c unread h s p = s
+step-kept c (create aid quota) h s p = create-kept c aid s quota h p
+step-kept c (on aid act) h s p = act-kept c aid s act h p
+step-kept c (confirm number) h s p = confirm-sound c s
+step-kept c (statusOfAll life fallback) h s p = s
+step-kept c getData h s p = s
+step-kept c tick h s p = tick-sound c s
+step-kept c lost h s p = lost-sound c s

@@ -1,4 +1,8 @@
--- Laws that several proofs cite: a change opens, a profile is made, and every step keeps a sound card sound.
+-- Laws that several proofs cite: the target of a call, the rows passed, a change opened, a profile made or written anew, and every step
+-- keeps a sound card sound.
+pub mod Targets
+pub mod Rows
 pub mod Opens
 pub mod Creates
+pub mod Inner
 pub mod Kept

@@ -1,4 +1,5 @@
--- Document 01, 'Status words': the conditions of the rows that look at the card, in the table's order; a case not named there is never met.
+-- Document 01, 'Status words': the conditions of the rows that look at the card, in the table's order, and before them the row of an
+-- inner call's values; a case not named there is never met. These rows are parts of the one table, `table` of the manager.
 use Prim.Native.Nat.{ℕ, _+_}
 use mathlib.Core.List.{List, [], _∷_}
 use mathlib.Core.Bool.{Bool, true, false, not, _&&_, _||_}
@@ -6,15 +7,27 @@ use lib.Dec.{ltb, leb, eqb}
 use Rattle.status.specs.Rows.{Row, row}
 use Rattle.status.specs.declared.Status.the-variants.{DataWrong, StateWrong, NotHeld, PolicyForbids, VerdictWrong, NoRoom}
 use Rattle.isdp.specs.Sizes.{mostPlaces}
-use Rattle.isdp.specs.Policy.{forbidsDisabling, forbidsDeletion}
-use Rattle.isdp.specs.LifeCycle.{disabled, isEnabled, isFinished}
+use Rattle.isdp.specs.Aids.{aidOk}
+use Rattle.isdp.specs.Policy.{policyOk, forbidsDisabling, forbidsDeletion}
+use Rattle.isdp.specs.LifeCycle.{selectable, personalized, disabled, isEnabled, isFinished}
 use Rattle.isdp.specs.Place.{held}
 use Rattle.places.specs.Places.{at}
 use Rattle.card.specs.Cards.{isQuiet, placeOf, profileOf, enabledPlace, freePlace, freeIn, mayBeDeleted}
 use Rattle.card.specs.Clock.{outstanding}
 use Rattle.card.specs.declared.Card.{Card}
-use Rattle.calls.specs.Calls.{notToKey, notToStore, notToFinish, overQuota}
 use Rattle.steps.specs.Asked.{Act, Act.enable, Act.disable, Act.delete, Act.masterDelete, Act.setFallBack, Act.status, Act.keyed, Act.stored, Act.finished, Asked, Asked.unread, Asked.create, Asked.on, Asked.confirm, Asked.statusOfAll, Asked.getData, Asked.tick, Asked.lost}
+
+-- "6A 80: .. inner call's values wrong": "An AID handed to an inner call is wrong unless it has 5 to 16 bytes", the policy unless Table 70 has it
+abbrev pub innerWrong : List ℕ → Act → Bool
+innerWrong aid enable = false
+innerWrong aid disable = false
+innerWrong aid delete = false
+innerWrong aid (masterDelete verdict) = false
+innerWrong aid setFallBack = false
+innerWrong aid (status life fallback) = false
+innerWrong aid keyed = not (aidOk aid)
+innerWrong aid (stored n) = not (aidOk aid)
+innerWrong aid (finished policy) = not (aidOk aid && policyOk policy)
 
 -- "69 85: a change is open, for create, enable, disable, delete, master delete, set fall-back; none is open, for confirmation"
 abbrev pub asksForQuiet : Act → Bool
@@ -60,7 +73,7 @@ alreadyHeld c getData = false
 alreadyHeld c tick = false
 alreadyHeld c lost = false
 
--- "69 85: target in the wrong state (steps below)"
+-- "69 85: target in the wrong state (steps below)": "Keyed: SELECTABLE", "Stored n: PERSONALIZED only", "Finished ..: PERSONALIZED, used over 0"
 abbrev pub actStateWrong : Card → List ℕ → Act → Bool
 actStateWrong c aid enable = not (eqb (profileOf c aid .life) disabled)
 actStateWrong c aid disable = not (isEnabled (profileOf c aid) && not (eqb (placeOf c aid) (c .fallback)))
@@ -68,9 +81,9 @@ actStateWrong c aid delete = not (mayBeDeleted c (placeOf c aid))
 actStateWrong c aid (masterDelete verdict) = not (mayBeDeleted c (placeOf c aid))
 actStateWrong c aid setFallBack = not (isFinished (profileOf c aid .life))
 actStateWrong c aid (status life fallback) = false
-actStateWrong c aid keyed = notToKey (profileOf c aid)
-actStateWrong c aid (stored n) = notToStore (profileOf c aid)
-actStateWrong c aid (finished policy) = notToFinish (profileOf c aid)
+actStateWrong c aid keyed = not (eqb (profileOf c aid .life) selectable)
+actStateWrong c aid (stored n) = not (eqb (profileOf c aid .life) personalized)
+actStateWrong c aid (finished policy) = not (eqb (profileOf c aid .life) personalized && ltb 0 (profileOf c aid .used))
 
 abbrev pub stateWrong : Card → Asked → Bool
 stateWrong c unread = false
@@ -135,7 +148,7 @@ actNoRoom c aid (masterDelete verdict) = false
 actNoRoom c aid setFallBack = false
 actNoRoom c aid (status life fallback) = false
 actNoRoom c aid keyed = false
-actNoRoom c aid (stored n) = overQuota (profileOf c aid) n
+actNoRoom c aid (stored n) = not (leb (profileOf c aid .used + n) (profileOf c aid .quota))
 actNoRoom c aid (finished policy) = false
 
 abbrev pub noRoom : Card → Asked → Bool

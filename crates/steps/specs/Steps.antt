@@ -1,11 +1,14 @@
 -- Document 01, 'Steps' and 'Responses': what an accepted call does and answers.
-use Prim.Native.Nat.{ℕ}
+use Prim.Native.Nat.{ℕ, _+_}
 use mathlib.Core.List.{List, [], _∷_}
 use mathlib.Core.Path.{_≡_}
 use lib.ListN.{set}
+use Rattle.status.specs.Rows.{row}
+use Rattle.status.specs.declared.Status.the-variants.{DataWrong}
 use Rattle.isdp.specs.Aids.{noAid}
-use Rattle.isdp.specs.LifeCycle.{selectable, finish}
+use Rattle.isdp.specs.LifeCycle.{selectable, personalized, withLife, withUsed, finish}
 use Rattle.isdp.specs.Place.{vacant, made}
+use Rattle.isdp.specs.declared.Isdp.{Isdp}
 use Rattle.card.specs.Cards.{placeOf, profileOf, freePlace, withPlaces, withFallback}
 use Rattle.card.specs.Clock.{opened}
 use Rattle.card.specs.Steps.{stepTo, tickStep, lostStep, confirmStep}
@@ -13,15 +16,18 @@ use Rattle.card.specs.Answers.{Outcome, Work, handed}
 use Rattle.card.specs.declared.Card.{Card}
 use Rattle.card.specs.declared.Step.{Step}
 use Rattle.card.specs.declared.Answer.{Answer}
-use Rattle.calls.specs.Calls.{rewritten, afterKeyed, afterStored}
 use Rattle.responses.specs.Responses.{statusResponse, oneStatus, dataResponse, deletedResponse}
 use Rattle.text.specs.Put.{put}
 use Rattle.steps.specs.Asked.{Act, Act.enable, Act.disable, Act.delete, Act.masterDelete, Act.setFallBack, Act.status, Act.keyed, Act.stored, Act.finished, Asked, Asked.unread, Asked.create, Asked.on, Asked.confirm, Asked.statusOfAll, Asked.getData, Asked.tick, Asked.lost}
-use Rattle.steps.specs.Conditions.{cardRows}
+use Rattle.steps.specs.Conditions.{innerWrong, cardRows}
 
 -- nothing changes
 abbrev pub still : Card → Step
 still c = stepTo c c noAid
+
+-- the profile with this AID is written anew
+abbrev pub rewritten : Card → List ℕ → Isdp → Step
+rewritten c aid p = stepTo c (withPlaces c (set (c .places) (placeOf c aid) p)) noAid
 
 abbrev pub actStep : Card → List ℕ → Act → Step
 -- "Enable: .. They trade states; Trial."
@@ -34,8 +40,9 @@ actStep c aid (masterDelete verdict) = rewritten c aid vacant
 -- "Set fall-back: .. Naming the holder changes nothing"
 actStep c aid setFallBack = stepTo c (withFallback c (placeOf c aid)) noAid
 actStep c aid (status life fallback) = still c
-actStep c aid keyed = rewritten c aid (afterKeyed (profileOf c aid))
-actStep c aid (stored n) = rewritten c aid (afterStored (profileOf c aid) n)
+-- "Keyed: .. to PERSONALIZED", "Stored n: .. used grows by n (0 allowed)", "Finished with a policy: .. to DISABLED"
+actStep c aid keyed = rewritten c aid (withLife (profileOf c aid) personalized)
+actStep c aid (stored n) = rewritten c aid (withUsed (profileOf c aid) (profileOf c aid .used + n))
 actStep c aid (finished policy) = rewritten c aid (finish (profileOf c aid) policy)
 
 abbrev pub stepOf : Card → Asked → Step
@@ -73,6 +80,15 @@ responseOf c lost = []
 
 abbrev pub askedWork : Card → Asked → Work
 askedWork c a = record { rows = cardRows c a; step = stepOf c a; response = responseOf c a }
+
+-- the work of an inner call: the row of its values stands before the card's rows
+abbrev pub innerWork : Card → List ℕ → Act → Work
+innerWork c aid act =
+    record {
+      rows = row (innerWrong aid act) DataWrong ∷ cardRows c (on aid act);
+      step = actStep c aid act;
+      response = actResponse c aid act;
+    }
 
 -- an outcome as it is handed out over a lent buffer: the answer, and in the buffer the response and then its old bytes
 pub record Handed (old : List ℕ) (o : Outcome) (r : Answer) (new : List ℕ) : Type 0 where

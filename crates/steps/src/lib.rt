@@ -1,17 +1,20 @@
-// What each command does on a card known to be sound, once it is read: create, enable, disable, delete, master delete, set fall-back.
+// What each call does on a card known to be sound, once it is read: create, enable, disable, delete, master delete, set fall-back, and
+// keyed, stored and finished by the download part. (Tick, lost and confirmation are the card's.)
 // No buffer is seen here; a response of one byte 00 is told by its length, and the manager writes it.
 use card::Answer;
 use card::Card;
 use isdp::Aid;
 use isdp::Isdp;
+use isdp::aid_ok;
 use isdp::forbids_deletion;
 use isdp::forbids_disabling;
+use isdp::policy_ok;
 use places::Found;
 use status::Status;
 ghost use mathlib.Core.Path.{_≡_};
 ghost use Rattle.card.specs.Answers.{handed, known};
-ghost use Rattle.steps.specs.Asked.{Act.enable, Act.disable, Act.delete, Act.masterDelete, Act.setFallBack, Asked.create, Asked.on};
-ghost use Rattle.steps.specs.Steps.{askedWork};
+ghost use Rattle.steps.specs.Asked.{Act.enable, Act.disable, Act.delete, Act.masterDelete, Act.setFallBack, Act.keyed, Act.stored, Act.finished, Asked.create, Asked.on};
+ghost use Rattle.steps.specs.Steps.{askedWork, innerWork};
 
 pub fn create(card: Card, aid: &[u8], quota: u32) -> Answer
     ensures { λ r. ⌜ r ≡ handed (known card (askedWork card (create (now (aid .entry)) quota))) ⌝ }
@@ -133,4 +136,63 @@ pub fn set_fall_back(card: Card, aid: &[u8]) -> Answer
         return card.refused(Status::StateWrong);
     }
     card.step_to(card.with_fallback(t), Aid::none()).answer(0)
+}
+
+// SELECTABLE to PERSONALIZED.
+pub fn keyed(card: Card, aid: &[u8]) -> Answer
+    ensures { λ r. ⌜ r ≡ handed (known card (innerWork card (now (aid .entry)) keyed)) ⌝ }
+{
+    if !aid_ok(aid) {
+        return card.refused(Status::DataWrong);
+    }
+    let Found::At(t) = card.place_of(aid) else {
+        return card.refused(Status::NotHeld);
+    };
+    let p = card.profile(t);
+    if p.life != Isdp::SELECTABLE {
+        return card.refused(Status::StateWrong);
+    }
+    let after = card.with_place(t, p.with_life(Isdp::PERSONALIZED));
+    card.step_to(after, Aid::none()).answer(0)
+}
+
+// n bytes more in a PERSONALIZED profile.
+pub fn stored(card: Card, aid: &[u8], n: u32) -> Answer
+    ensures { λ r. ⌜ r ≡ handed (known card (innerWork card (now (aid .entry)) (stored n))) ⌝ }
+{
+    if !aid_ok(aid) {
+        return card.refused(Status::DataWrong);
+    }
+    let Found::At(t) = card.place_of(aid) else {
+        return card.refused(Status::NotHeld);
+    };
+    let p = card.profile(t);
+    if p.life != Isdp::PERSONALIZED {
+        return card.refused(Status::StateWrong);
+    }
+    if !p.has_room(n) {
+        return card.refused(Status::NoRoom);
+    }
+    let used = p.used + n;
+    let after = card.with_place(t, p.with_used(used));
+    card.step_to(after, Aid::none()).answer(0)
+}
+
+// PERSONALIZED to DISABLED, with its policy.
+pub fn finished(card: Card, aid: &[u8], policy: u8) -> Answer
+    ensures { λ r. ⌜ r ≡ handed (known card (innerWork card (now (aid .entry)) (finished policy))) ⌝ }
+{
+    if !(aid_ok(aid) & policy_ok(policy)) {
+        return card.refused(Status::DataWrong);
+    }
+    let Found::At(t) = card.place_of(aid) else {
+        return card.refused(Status::NotHeld);
+    };
+    let p = card.profile(t);
+    let done = (p.life == Isdp::PERSONALIZED) & (0 < p.used);
+    if !done {
+        return card.refused(Status::StateWrong);
+    }
+    let after = card.with_place(t, p.finish(policy));
+    card.step_to(after, Aid::none()).answer(0)
 }

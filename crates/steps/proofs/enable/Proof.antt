@@ -1,149 +1,96 @@
--- `steps::enable`: each exit gives the tests of the rows before it.
-use mathlib.Core.Path.{ap, sym, _∙_}
+-- `steps::enable`: the rows of the change, the target, its state and the enabled profile's policy, each passed or stopped at.
+use mathlib.Core.Path.{_≡_, ap, sym, _∙_}
 use Prim.Native.Nat.{ℕ}
+use mathlib.Core.Bool.{true, false}
+use lib.Dec.{eqb}
 use borrow.Author.Tests.{eq-eqb, ne-eqb, not-true, not-false}
 use Rattle.status.specs.Rows.{wordOf}
 use Rattle.isdp.specs.LifeCycle.{disabled}
 use Rattle.isdp.specs.Policy.{forbidsDisabling}
 use Rattle.isdp.specs.declared.Isdp.{Isdp}
 use Rattle.places.specs.Places.{at}
-use Rattle.places.proofs.Seeks.{held-none, held-some}
-use Rattle.card.specs.Cards.{profileOf}
-use Rattle.card.proofs.Records.{full}
+use Rattle.card.specs.Cards.{isQuiet, profileOf, enabledPlace}
+use Rattle.steps.proofs.Targets.{Target, absent, found, read}
 use borrow.Author.Needs.{needs}
 use Rattle.steps.proofs.enable.Statement.{statement}
 use Rattle.steps.proofs.enable.Tie as tie
 
-is-quiet-requires : tie.Need-is-quiet-requires
-is-quiet-requires c κs = search needs
+abbrev start : tie.Else1 → tie.Start
+start c = c .before .before .before
 
-refused-requires : tie.Need-refused-requires
-refused-requires c κs = search needs
+quiet : (c : tie.Else1) → isQuiet (start c .args .card .phase) ≡ true
+quiet c = sym (c .before .is-quiet .ensures) ∙ not-false _ (c .if1 .left)
+
+abbrev asking : tie.After-profile → tie.Else1
+asking c = c .before .before .before .before .before
+
+target : (c : tie.After-profile) → Target (start (asking c) .args .card) (start (asking c) .args .aid .now) (c .before .before .t .given .0 .0)
+target c = found _ _ (start (asking c) .good .0) (c .before .before .before .before .place-of .ensures) (c .before .before .t .given .1)
+
+profile : (c : tie.After-profile) → profileOf (start (asking c) .args .card) (start (asking c) .args .aid .now) ≡ c .profile .result
+profile c = read (target c) (c .profile .ensures)
 
 returns : tie.Need-returns
 unfolding wordOf
 returns c = rw (sym (c .before .before .is-quiet .ensures) ∙ not-true _ (c .before .if1 .taken)) (c .refused .ensures)
 
-place-of-requires : tie.Need-place-of-requires
-place-of-requires c κs = search needs
-
-enum-known-t : tie.Need-enum-known-t
-enum-known-t c = search needs
-
-enum-told : tie.Need-enum-told
-enum-told c = search needs
-
-refused-requires-2 : tie.Need-refused-requires-2
-refused-requires-2 c κs = search needs
-
 returns-2 : tie.Need-returns-2
 unfolding wordOf
-returns-2 c = let po = c .before .before .before in
-    let e = po .before in
-    let s = e .before .before .before in
-    let card = s .args .card in
-    let aid = s .args .aid .now in
-    let n = full card _ (s .good .0) in
-    let ok = sym (e .before .is-quiet .ensures) ∙ not-false _ (e .if1 .left) in
-    rw (ok, held-none (card .places) aid n (sym (po .place-of .ensures) ∙ c .before .enum-told .given .1)) (c .refused2 .ensures)
-
-profile-requires : tie.Need-profile-requires
-profile-requires c κs = search needs
-
-refused-requires-3 : tie.Need-refused-requires-3
-refused-requires-3 c κs = search needs
+returns-2 c =
+    let po = c .before .before .before in
+    let s = start (po .before) in
+    rw (quiet (po .before), absent (s .args .card) (s .args .aid .now) (s .good .0) (po .place-of .ensures) (c .before .enum-told .given .1)) (c .refused2 .ensures)
 
 returns-3 : tie.Need-returns-3
 unfolding wordOf
-returns-3 c = let pr = c .before .before .before in
-    let k = pr .before in
-    let po = k .before .before .before in
-    let e = po .before in
-    let s = e .before .before .before in
-    let card = s .args .card in
-    let aid = s .args .aid .now in
-    let n = full card _ (s .good .0) in
-    let ok = sym (e .before .is-quiet .ensures) ∙ not-false _ (e .if1 .left) in
-    let h = held-some (card .places) aid _ n (sym (po .place-of .ensures) ∙ k .before .t .given .1) in
-    let q = pr .profile .ensures ∙ ap (λ (i : ℕ). at (card .places) i) (sym (h .0)) in
-    rw (ok, h .1, ne-eqb (profileOf card aid .life) disabled (λ z. c .before .if2 .taken (ap (λ (p : Isdp). p .life) q ∙ z))) (c .refused3 .ensures)
+returns-3 c =
+    let p = c .before .before .before in
+    rw (quiet (asking p), target p .there, profile p, ne-eqb _ disabled (c .before .if2 .taken)) (c .refused3 .ensures)
 
-enabled-place-requires : tie.Need-enabled-place-requires
-enabled-place-requires c κs = search needs
+state : (c : tie.Else2) → eqb (c .before .before .profile .result .life) disabled ≡ true
+state c = eq-eqb _ disabled (c .if2 .left)
 
-profile-requires-2 : tie.Need-profile-requires-2
-profile-requires-2 c κs = search needs
-
-forbids-disabling-requires : tie.Need-forbids-disabling-requires
-forbids-disabling-requires c κs = search needs
-
-refused-requires-4 : tie.Need-refused-requires-4
-refused-requires-4 c κs = search needs
+policy : (c : tie.After-forbids-disabling) → let s = start (asking (c .before .before .before .before .before)) in forbidsDisabling (at (s .args .card .places) (enabledPlace (s .args .card)) .policy) ≡ c .forbids-disabling .result
+policy c = rw (← (c .before .before .enabled-place .ensures), ← (c .before .profile2 .ensures)) (sym (c .forbids-disabling .ensures))
 
 returns-4 : tie.Need-returns-4
 unfolding wordOf
-returns-4 c = let pr = c .before .before .before .before .before .before .before in
-    let k = pr .before in
-    let po = k .before .before .before in
-    let e = po .before in
-    let s = e .before .before .before in
-    let card = s .args .card in
-    let aid = s .args .aid .now in
-    let n = full card _ (s .good .0) in
-    let ok = sym (e .before .is-quiet .ensures) ∙ not-false _ (e .if1 .left) in
-    let h = held-some (card .places) aid _ n (sym (po .place-of .ensures) ∙ k .before .t .given .1) in
-    let q = pr .profile .ensures ∙ ap (λ (i : ℕ). at (card .places) i) (sym (h .0)) in
-    rw (ok, h .1, eq-eqb (profileOf card aid .life) disabled (ap (λ (p : Isdp). p .life) (sym q) ∙ c .before .before .before .before .before .if2 .left), ap (λ (i : ℕ). forbidsDisabling (at (card .places) i .policy)) (sym (c .before .before .before .before .enabled-place .ensures)) ∙ ap (λ (p : Isdp). forbidsDisabling (p .policy)) (sym (c .before .before .before .profile2 .ensures)) ∙ sym (c .before .before .forbids-disabling .ensures) ∙ c .before .if3 .taken) (c .refused4 .ensures)
-
-opened-requires : tie.Need-opened-requires
-opened-requires c κs = search needs
-
-none-requires : tie.Need-none-requires
-none-requires c κs = search needs
-
-step-to-requires : tie.Need-step-to-requires
-step-to-requires c κs = search needs
-
-answer-requires : tie.Need-answer-requires
-answer-requires c κs = search needs
+returns-4 c =
+    let f = c .before .before in
+    let e = f .before .before .before in
+    let p = e .before .before in
+    rw (quiet (asking p), target p .there, profile p, state e, policy f, c .before .if3 .taken) (c .refused4 .ensures)
 
 returns-5 : tie.Need-returns-5
 unfolding wordOf
-returns-5 c = let pr = c .before .before .before .before .before .before .before .before .before .before in
-    let k = pr .before in
-    let po = k .before .before .before in
-    let e = po .before in
-    let s = e .before .before .before in
-    let card = s .args .card in
-    let aid = s .args .aid .now in
-    let n = full card _ (s .good .0) in
-    let ok = sym (e .before .is-quiet .ensures) ∙ not-false _ (e .if1 .left) in
-    let h = held-some (card .places) aid _ n (sym (po .place-of .ensures) ∙ k .before .t .given .1) in
-    let q = pr .profile .ensures ∙ ap (λ (i : ℕ). at (card .places) i) (sym (h .0)) in
-    rw (ok, h .1, eq-eqb (profileOf card aid .life) disabled (ap (λ (p : Isdp). p .life) (sym q) ∙ c .before .before .before .before .before .before .before .before .if2 .left), ap (λ (i : ℕ). forbidsDisabling (at (card .places) i .policy)) (sym (c .before .before .before .before .before .before .before .enabled-place .ensures)) ∙ ap (λ (p : Isdp). forbidsDisabling (p .policy)) (sym (c .before .before .before .before .before .before .profile2 .ensures)) ∙ sym (c .before .before .before .before .before .forbids-disabling .ensures) ∙ c .before .before .before .before .if3 .left) (rw (c .answer .ensures, c .before .step-to .ensures, c .before .before .before .opened .ensures, h .0))
+returns-5 c =
+    let f = c .before .before .before .before .before in
+    let e = f .before .before .before in
+    let p = e .before .before in
+    rw (quiet (asking p), target p .there, profile p, state e, policy f, c .before .before .before .before .if3 .left, c .answer .ensures, c .before .step-to .ensures, c .before .before .before .opened .ensures, target p .place)
 
 pub enable-spec : {M : Type 1} → statement M
 enable-spec =
     tie.close
     (tie.spec
-    is-quiet-requires
-    refused-requires
+    (λ c κs. search needs)
+    (λ c κs. search needs)
     returns
-    place-of-requires
-    enum-known-t
-    enum-told
-    refused-requires-2
+    (λ c κs. search needs)
+    (λ c. search needs)
+    (λ c. search needs)
+    (λ c κs. search needs)
     returns-2
-    profile-requires
-    refused-requires-3
+    (λ c κs. search needs)
+    (λ c κs. search needs)
     returns-3
-    enabled-place-requires
-    profile-requires-2
-    forbids-disabling-requires
-    refused-requires-4
+    (λ c κs. search needs)
+    (λ c κs. search needs)
+    (λ c κs. search needs)
+    (λ c κs. search needs)
     returns-4
-    opened-requires
-    none-requires
-    step-to-requires
-    answer-requires
+    (λ c κs. search needs)
+    (λ c κs. search needs)
+    (λ c κs. search needs)
+    (λ c κs. search needs)
     returns-5)

@@ -1,23 +1,17 @@
--- `calls::known_stored`: each exit gives the tests of the rows before it; the sum fits because the quota does.
-
-use mir.Val.{Fits}
-use mir.Syntax.{w32}
+-- `steps::keyed`: each exit gives the tests of the rows before it.
 use mathlib.Core.Path.{ap, sym, _∙_}
 use borrow.Author.Tests.{eq-eqb, ne-eqb, not-true, not-false}
 use Rattle.status.specs.Rows.{wordOf}
-use Rattle.isdp.specs.LifeCycle.{personalized}
+use Rattle.isdp.specs.LifeCycle.{selectable}
 use Rattle.isdp.specs.declared.Isdp.{Isdp}
 use Rattle.places.specs.Places.{at}
 use Rattle.places.proofs.Seeks.{held-none, held-some}
 use Rattle.card.specs.Cards.{profileOf}
 use Rattle.card.proofs.Records.{full}
-use Prim.Native.Nat.{ℕ, _+_, _≤_}
-use borrow.Author.Tests.{leb-true}
-use native.Mathlib.Omega.{arith}
-use lib.Dec.{leb}
+use Prim.Native.Nat.{ℕ}
 use borrow.Author.Needs.{needs}
-use Rattle.calls.proofs.known_stored.Statement.{statement}
-use Rattle.calls.proofs.known_stored.Tie as tie
+use Rattle.steps.proofs.keyed.Statement.{statement}
+use Rattle.steps.proofs.keyed.Tie as tie
 
 aid-ok-requires : tie.Need-aid-ok-requires
 aid-ok-requires c κs = search needs
@@ -69,37 +63,10 @@ returns-3 c = let pr = c .before .before .before in
     let ok = sym (e .before .aid-ok .ensures) ∙ not-false _ (e .if1 .left) in
     let h = held-some (card .places) aid _ (full card _ (s .good .0)) (sym (po .place-of .ensures) ∙ k .before .t .given .1) in
     let q = pr .profile .ensures ∙ ap (λ (i : ℕ). at (card .places) i) (sym (h .0)) in
-    rw (ok, h .1, ne-eqb (profileOf card aid .life) personalized (λ z. c .before .if2 .taken (ap (λ (p : Isdp). p .life) q ∙ z))) (c .refused3 .ensures)
+    rw (ok, h .1, ne-eqb (profileOf card aid .life) selectable (λ z. c .before .if2 .taken (ap (λ (p : Isdp). p .life) q ∙ z))) (c .refused3 .ensures)
 
-has-room-requires : tie.Need-has-room-requires
-has-room-requires c κs = search needs
-
-refused-requires-4 : tie.Need-refused-requires-4
-refused-requires-4 c κs = search needs
-
-returns-4 : tie.Need-returns-4
-unfolding wordOf
-returns-4 c = let pr = c .before .before .before .before .before in
-    let k = pr .before in
-    let po = k .before .before .before in
-    let e = po .before in
-    let s = e .before .before .before in
-    let card = s .args .card in
-    let aid = s .args .aid .now in
-    let ok = sym (e .before .aid-ok .ensures) ∙ not-false _ (e .if1 .left) in
-    let h = held-some (card .places) aid _ (full card _ (s .good .0)) (sym (po .place-of .ensures) ∙ k .before .t .given .1) in
-    let q = pr .profile .ensures ∙ ap (λ (i : ℕ). at (card .places) i) (sym (h .0)) in
-    rw (ok, h .1, eq-eqb (profileOf card aid .life) personalized (ap (λ (p : Isdp). p .life) (sym q) ∙ c .before .before .before .if2 .left), ap (λ (p : Isdp). leb (p .used + s .args .n) (p .quota)) (sym q) ∙ sym (c .before .before .has-room .ensures) ∙ not-true _ (c .before .if3 .taken)) (c .refused4 .ensures)
-
-add-used : tie.Need-add-used
-add-used c = let p = c .before .before .before .before .before .profile .result in
-    let n = c .before .before .before .before .before .before .before .before .before .before .before .before .before .args .n in
-    let r : p .used + n ≤ p .quota = leb-true (p .used + n) (p .quota) (sym (c .before .before .has-room .ensures) ∙ not-false _ (c .before .if3 .left)) in
-    let f : Fits w32 (p .quota) = search needs in
-    omega (arith, r, f)
-
-with-used-requires : tie.Need-with-used-requires
-with-used-requires c κs = search needs
+with-life-requires : tie.Need-with-life-requires
+with-life-requires c κs = search needs
 
 with-place-requires : tie.Need-with-place-requires
 with-place-requires c κs = search needs
@@ -113,9 +80,9 @@ step-to-requires c κs = search needs
 answer-requires : tie.Need-answer-requires
 answer-requires c κs = search needs
 
-returns-5 : tie.Need-returns-5
+returns-4 : tie.Need-returns-4
 unfolding wordOf
-returns-5 c = let pr = c .before .before .before .before .before .before .before .before .before .before in
+returns-4 c = let pr = c .before .before .before .before .before .before .before in
     let k = pr .before in
     let po = k .before .before .before in
     let e = po .before in
@@ -125,10 +92,10 @@ returns-5 c = let pr = c .before .before .before .before .before .before .before
     let ok = sym (e .before .aid-ok .ensures) ∙ not-false _ (e .if1 .left) in
     let h = held-some (card .places) aid _ (full card _ (s .good .0)) (sym (po .place-of .ensures) ∙ k .before .t .given .1) in
     let q = pr .profile .ensures ∙ ap (λ (i : ℕ). at (card .places) i) (sym (h .0)) in
-    rw (ok, h .1, eq-eqb (profileOf card aid .life) personalized (ap (λ (p : Isdp). p .life) (sym q) ∙ c .before .before .before .before .before .before .before .before .if2 .left), ap (λ (p : Isdp). leb (p .used + s .args .n) (p .quota)) (sym q) ∙ sym (c .before .before .before .before .before .before .before .has-room .ensures) ∙ not-false _ (c .before .before .before .before .before .before .if3 .left)) (rw (c .answer .ensures, c .before .step-to .ensures, c .before .before .before .with-place .ensures, c .before .before .before .before .with-used .ensures, pr .profile .ensures, h .0))
+    rw (ok, h .1, eq-eqb (profileOf card aid .life) selectable (ap (λ (p : Isdp). p .life) (sym q) ∙ c .before .before .before .before .before .if2 .left)) (rw (c .answer .ensures, c .before .step-to .ensures, c .before .before .before .with-place .ensures, c .before .before .before .before .with-life .ensures, pr .profile .ensures, h .0))
 
-pub known-stored-spec : {M : Type 1} → statement M
-known-stored-spec =
+pub keyed-spec : {M : Type 1} → statement M
+keyed-spec =
     tie.close
     (tie.spec
     aid-ok-requires
@@ -142,13 +109,9 @@ known-stored-spec =
     profile-requires
     refused-requires-3
     returns-3
-    has-room-requires
-    refused-requires-4
-    returns-4
-    add-used
-    with-used-requires
+    with-life-requires
     with-place-requires
     none-requires
     step-to-requires
     answer-requires
-    returns-5)
+    returns-4)

@@ -1,40 +1,23 @@
--- Each call keeps a sound card sound. Keyed, stored and finished write a profile under way anew, with the same AID and quota;
--- the rows that were passed give its state. Assumes nothing.
+-- Keyed, stored and finished write a profile under way anew, with the same AID and quota: the card stays sound. The profile's state is
+-- what the rows that were passed say of it. Assumes nothing.
 use mathlib.Core.Path.{_≡_, refl, sym, _∙_}
-use Prim.Native.Nat.{ℕ, _+_}
-use mathlib.Core.List.{List}
+use Prim.Native.Nat.{ℕ}
 use mathlib.Core.Bool.{true, false}
 use lib.ListN.{set}
 use lib.Dec.{leb, eqb}
-use borrow.Author.Tests.{eqb-true, eqb-false, ne-eqb, not-false}
-use Rattle.status.specs.StatusWords.{isDone}
-use Rattle.status.specs.Rows.{wordOf}
-use Rattle.status.proofs.Tables.{passed}
-use Rattle.isdp.specs.Aids.{aidOk}
+use borrow.Author.Tests.{eqb-false, ne-eqb}
 use Rattle.isdp.specs.Policy.{policyOk}
 use Rattle.isdp.specs.LifeCycle.{selectable, personalized, isEnabled, isFinished, withLife, withUsed, finish}
 use Rattle.isdp.specs.Place.{lifeOk, placeOk}
 use Rattle.isdp.specs.declared.Isdp.{Isdp}
-use Rattle.isdp.proofs.Bools.{and-l, and-r}
 use Rattle.isdp.proofs.Placed.{Placed, placed, placed-ok, relife}
 use Rattle.places.specs.Places.{at}
 use Rattle.places.proofs.Lives.{within}
 use Rattle.places.proofs.Sets.{all-at}
-use Rattle.card.specs.Cards.{placeOf, profileOf, withPlaces}
-use Rattle.card.specs.Sound.{sound}
-use Rattle.card.specs.Steps.{tickStep, lostStep}
+use Rattle.card.specs.Cards.{withPlaces}
 use Rattle.card.specs.declared.Card.{Card}
-use Rattle.card.proofs.Sounds.{Sound, parts, whole, tick-sound, lost-sound}
+use Rattle.card.proofs.Sounds.{Sound}
 use Rattle.card.proofs.Rewrites.{rewrites}
-use Rattle.calls.specs.Calls.{tickWork, lostWork, keyedWork, storedWork, finishedWork}
-
-pub tick-kept : (c : Card) → sound c ≡ true → isDone (wordOf (tickWork c .rows)) ≡ true → sound (tickWork c .step .card) ≡ true
-unfolding tickStep
-tick-kept c s e = tick-sound c s
-
-pub lost-kept : (c : Card) → sound c ≡ true → isDone (wordOf (lostWork c .rows)) ≡ true → sound (lostWork c .step .card) ≡ true
-unfolding lostStep
-lost-kept c s e = lost-sound c s
 
 -- a held profile of a sound card, and what the three calls make of it
 module _ (c : Card) (i v : ℕ) (s : Sound c) (e : at (c .places) i .life ≡ v) (n : eqb v 0 ≡ false) where
@@ -80,21 +63,3 @@ pub finished-at : (c : Card) (i b : ℕ) → Sound c → at (c .places) i .life 
 finished-at c i b s e l =
     let d : isFinished (at (c .places) i .life) ≡ false = rw e in
     rewrites c i (finish (at (c .places) i) b) s (there c i personalized s e refl) d refl (finisher c i personalized s e refl b l) refl refl refl
-
--- the same from the rows of the table
-pub keyed-kept : (c : Card) (aid : List ℕ) → sound c ≡ true → isDone (wordOf (keyedWork c aid .rows)) ≡ true → sound (keyedWork c aid .step .card) ≡ true
-keyed-kept c aid s e =
-    let p = passed (keyedWork c aid .rows) refl e in
-    whole _ (keyed-at c (placeOf c aid) (parts c s) (eqb-true _ _ (not-false _ (p .1 .1 .0))))
-
-pub stored-kept : (c : Card) (aid : List ℕ) (n : ℕ) → sound c ≡ true → isDone (wordOf (storedWork c aid n .rows)) ≡ true → sound (storedWork c aid n .step .card) ≡ true
-stored-kept c aid n s e =
-    let p = passed (storedWork c aid n .rows) refl e in
-    whole _ (stored-at c (placeOf c aid) (profileOf c aid .used + n) (parts c s) (eqb-true _ _ (not-false _ (p .1 .1 .0))) (not-false _ (p .1 .1 .1 .0)))
-
-pub finished-kept : (c : Card) (aid : List ℕ) (policy : ℕ) → sound c ≡ true → isDone (wordOf (finishedWork c aid policy .rows)) ≡ true → sound (finishedWork c aid policy .step .card) ≡ true
-finished-kept c aid policy s e =
-    let p = passed (finishedWork c aid policy .rows) refl e in
-    whole _ (finished-at c (placeOf c aid) policy (parts c s)
-    (eqb-true _ _ (and-l (eqb (profileOf c aid .life) personalized) _ (not-false _ (p .1 .1 .0))))
-    (and-r (aidOk aid) _ (not-false _ (p .0))))

@@ -1,4 +1,4 @@
--- `calls::known_finished`: each exit gives the tests of the rows before it.
+-- `steps::finished`: each exit gives the tests of the rows before it.
 use mathlib.Core.Path.{_≡_, ap, sym, _∙_}
 use borrow.Author.Tests.{not-true, not-false}
 use Rattle.status.specs.Rows.{wordOf}
@@ -13,8 +13,8 @@ use mathlib.Core.Bool.{true, false, _&&_}
 use Rattle.isdp.specs.Aids.{aidOk}
 use Rattle.isdp.specs.Policy.{policyOk}
 use borrow.Author.Needs.{needs}
-use Rattle.calls.proofs.known_finished.Statement.{statement}
-use Rattle.calls.proofs.known_finished.Tie as tie
+use Rattle.steps.proofs.finished.Statement.{statement}
+use Rattle.steps.proofs.finished.Tie as tie
 
 aid-ok-requires : tie.Need-aid-ok-requires
 aid-ok-requires c κs = search needs
@@ -102,8 +102,8 @@ returns-4 c = let pr = c .before .before .before .before .before .before .before
     let q = pr .profile .ensures ∙ ap (λ (i : ℕ). at (card .places) i) (sym (h .0)) in
     rw (ok, h .1, ap (λ (p : Isdp). eqb (p .life) personalized && ltb 0 (p .used)) (sym q) ∙ not-false _ (c .before .before .before .before .before .if2 .left)) (rw (c .answer .ensures, c .before .step-to .ensures, c .before .before .before .with-place .ensures, c .before .before .before .before .finish .ensures, pr .profile .ensures, h .0))
 
-pub known-finished-spec : {M : Type 1} → statement M
-known-finished-spec =
+pub finished-spec : {M : Type 1} → statement M
+finished-spec =
     tie.close
     (tie.spec
     aid-ok-requires

@@ -1,0 +1,36 @@
+-- What an auditor needs beside the demands: the card known to be sound, the longest response, and which rows are parts of the table.
+use Prim.Native.Nat.{ℕ, _≤_}
+use mathlib.Core.Path.{_≡_}
+use mathlib.Core.List.{List, _∷_, _++_}
+use mathlib.Core.Bool.{true}
+use lib.ListN.{length}
+use Rattle.status.specs.Rows.{row, wordOf}
+use Rattle.status.specs.declared.Status.the-variants.{BufferShort}
+use Rattle.card.specs.Sound.{sound}
+use Rattle.card.specs.Answers.{soundRow}
+use Rattle.card.specs.declared.Card.{Card}
+use Rattle.command.specs.Reading.{readingRows}
+use Rattle.steps.specs.Asked.{Act.keyed, Act.stored, Act.finished, Asked.tick, Asked.lost}
+use Rattle.steps.specs.Conditions.{cardRows}
+use Rattle.steps.specs.Steps.{innerWork}
+use Rattle.manager.specs.Calls.{Call, Call.Command, Call.Keyed, Call.Stored, Call.Finished, Call.Tick, Call.Lost, asked}
+use Rattle.manager.specs.Table.{bufferShort, rowsAfter, table}
+use Rattle.manager.specs.Manager.{step, onSound}
+
+-- on a sound card nothing depends on whether soundness is asked
+abbrev pub OnSoundAgrees : Type 0
+OnSoundAgrees = (c : Card) (call : Call) → sound c ≡ true → onSound c call ≡ step c call
+
+-- no response has more than 255 bytes, so the least buffer has room for it
+abbrev pub ResponseMost : Type 0
+ResponseMost = (c : Card) (call : Call) → length (step c call .response) ≤ 255
+
+-- the table of a command is the rows of soundness and of the buffer, then those of reading, then the card's;
+-- that of an inner call refuses as its values' row and then the card's rows do, that of tick and lost as the card's rows do
+pub record TableParts (c : Card) : Type 0 where
+  pub command : (verdict : ℕ) (s : List ℕ) (room : ℕ) → let call = Command verdict s room in table c call ≡ soundRow c ∷ row (bufferShort call) BufferShort ∷ (readingRows s (c .capacity) ++ cardRows c (asked c call))
+  pub keyed-rows : (aid : List ℕ) → wordOf (rowsAfter c (Keyed aid)) ≡ wordOf (innerWork c aid keyed .rows)
+  pub stored-rows : (aid : List ℕ) (n : ℕ) → wordOf (rowsAfter c (Stored aid n)) ≡ wordOf (innerWork c aid (stored n) .rows)
+  pub finished-rows : (aid : List ℕ) (policy : ℕ) → wordOf (rowsAfter c (Finished aid policy)) ≡ wordOf (innerWork c aid (finished policy) .rows)
+  pub tick-rows : wordOf (rowsAfter c Tick) ≡ wordOf (cardRows c tick)
+  pub lost-rows : wordOf (rowsAfter c Lost) ≡ wordOf (cardRows c lost)
