@@ -1,7 +1,7 @@
 use native.Mathlib.Omega.{arith}
 use borrow.Author.Needs.{needs}
-use Rattle.session.proofs.speak.Statement.{statement}
-use Rattle.session.proofs.speak.Tie as tie
+use Rattle.session.proofs.write_text.Statement.{statement}
+use Rattle.session.proofs.write_text.Tie as tie
 
 write-explained-requires : tie.Need-write-explained-requires
 write-explained-requires c κs = search needs
@@ -24,8 +24,8 @@ returns-2 c =
     rw (c .before .before .before .before .if1 .left) (let w = c .before .before .write-answer .ensures in
     (w .0, let k = w .1 in omega arith))
 
-pub speak-spec : {M : Type 1} → statement M
-speak-spec =
+pub write-text-spec : {M : Type 1} → statement M
+write-text-spec =
     tie.close
     (tie.spec
     write-explained-requires

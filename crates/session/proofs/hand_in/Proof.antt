@@ -7,10 +7,10 @@ use Rattle.card.specs.Steps.{stepTo}
 use Rattle.card.specs.Answers.{handed}
 use Rattle.card.proofs.Outcomes.{checked, stopped}
 use borrow.Author.Needs.{needs}
-use Rattle.session.proofs.handed_in.Statement.{statement}
-use Rattle.session.proofs.handed_in.Tie as tie
-use Rattle.session.proofs.handed_in.Reads as reads
-use Rattle.session.proofs.handed_in.Lts as lts
+use Rattle.session.proofs.hand_in.Statement.{statement}
+use Rattle.session.proofs.hand_in.Tie as tie
+use Rattle.session.proofs.hand_in.Reads as reads
+use Rattle.session.proofs.hand_in.Lts as lts
 use Rattle.card.proofs.Card.is_sound.Reads as is-sound-reads
 use Rattle.card.proofs.Card.step_to.Reads as step-to-reads
 use Rattle.card.proofs.Card.unsound.Reads as unsound-reads
@@ -44,8 +44,8 @@ returns-2 c = let e = c .before .before .before in
     let g = sym (e .before .is-sound .ensures) ∙ not-false _ (e .if1 .left) in
     rw (checked (s .args .card) (record { rows = []; step = stepTo (s .args .card) (s .args .card) noAid; response = [] }) g (λ z. g)) (rw (c .answer .ensures, c .before .step-to .ensures))
 
-pub handed-in-spec : {M : Type 1} → statement M
-handed-in-spec =
+pub hand-in-spec : {M : Type 1} → statement M
+hand-in-spec =
     tie.close
     (tie.spec
     is-sound-requires
