@@ -1,5 +1,6 @@
--- A response written from the first byte of a buffer that has room for it: its length is told whole. Assumes nothing.
-use mathlib.Core.Path.{_≡_, refl, ap, sym, _∙_}
+-- A response written from the first byte of a buffer that has room for it: its length is told whole. A work without a response, and
+-- one whose response is 00, as they are handed out: by cases on whether the work is accepted. Assumes nothing.
+use mathlib.Core.Path.{_≡_, refl, sym, _∙_}
 use Prim.Native.Nat.{ℕ, _≤_}
 use native.Mathlib.Omega.{arith}
 use mathlib.Core.List.{List, [], _∷_}
@@ -14,40 +15,32 @@ use Rattle.card.specs.Ticks.{ticksByPhase}
 use Rattle.card.specs.Answers.{Work, acceptedAt, refusedAt, handed, known}
 use Rattle.card.specs.declared.Card.{Card}
 use Rattle.card.specs.declared.Answer.{Answer}
+use Rattle.manager.specs.Manager.{Served}
 
 pub whole : {l m vs : List ℕ} {r : ℕ} → Wrote l 0 vs r m → length vs ≤ length l → r ≡ length vs
 whole {l} {m} {vs} {r} w h = let e = w .place ∙ after-fits (length l) 0 (length vs) (omega arith) in omega arith
 
--- a response of 00 is there exactly where the answer tells one byte
-zero-case : (c : Card) (w : Work) (b : Bool) → w .response ≡ 0 ∷ [] → cond b (acceptedAt (ticksByPhase (w .step .card)) (w .step) (w .response)) (refusedAt (ticksByPhase c) c (wordOf (w .rows))) .response ≡ cond (eqb (length (cond b (acceptedAt (ticksByPhase (w .step .card)) (w .step) (w .response)) (refusedAt (ticksByPhase c) c (wordOf (w .rows))) .response)) 1) (0 ∷ []) []
-zero-case c w true e = rw e
-zero-case c w false e = refl
+-- what is answered on a card known to be sound has the work's response where it is accepted, and none where it is refused
+response-case : (P : List ℕ → Type 0) (c : Card) (w : Work) (b : Bool) → P (w .response) → P [] → P (cond b (acceptedAt (ticksByPhase (w .step .card)) (w .step) (w .response)) (refusedAt (ticksByPhase c) c (wordOf (w .rows))) .response)
+response-case P c w true h n = h
+response-case P c w false h n = n
 
-pub zero-told : (c : Card) (w : Work) (a : Answer) → w .response ≡ 0 ∷ [] → a ≡ handed (known c w) → cond (eqb (a .length) 1) (0 ∷ []) [] ≡ known c w .response
-zero-told c w a e q = rw q (sym (zero-case c w (isDone (wordOf (w .rows))) e))
+module _ (c : Card) (w : Work) where
+  known-response : (P : List ℕ → Type 0) → P (w .response) → P [] → P (known c w .response)
+  known-response P = response-case P c w (isDone (wordOf (w .rows)))
 
--- and has room in a buffer of one byte
-zero-room-case : (n : ℕ) (c : Card) (w : Work) (b : Bool) → w .response ≡ 0 ∷ [] → 1 ≤ n → length (cond b (acceptedAt (ticksByPhase (w .step .card)) (w .step) (w .response)) (refusedAt (ticksByPhase c) c (wordOf (w .rows))) .response) ≤ n
-zero-room-case n c w true e h = rw e h
-zero-room-case n c w false e h = omega arith
+  -- a call without a response has none, refused or not, and the buffer is as it was
+  pub none-known : w .response ≡ [] → known c w .response ≡ []
+  none-known e = known-response (λ l. l ≡ []) e refl
 
-pub zero-room : (n : ℕ) (c : Card) (w : Work) (a : Answer) → w .response ≡ 0 ∷ [] → a ≡ handed (known c w) → 1 ≤ n → a .length ≤ n
-zero-room n c w a e q h = rw q (zero-room-case n c w (isDone (wordOf (w .rows))) e h)
+  pub none-served : (old : List ℕ) {a : Answer} → w .response ≡ [] → a ≡ handed (known c w) → Served old (known c w) a old
+  none-served old e q =
+      let n = none-known e in
+      (record { answer = q; content = rw n (sym (put-none old 0)) }, rw (q, n) (omega arith))
 
--- a call without a response has none, refused or not
-none-case : (c : Card) (w : Work) (b : Bool) → w .response ≡ [] → cond b (acceptedAt (ticksByPhase (w .step .card)) (w .step) (w .response)) (refusedAt (ticksByPhase c) c (wordOf (w .rows))) .response ≡ []
-none-case c w true e = e
-none-case c w false e = refl
-
-pub none-known : (c : Card) (w : Work) → w .response ≡ [] → known c w .response ≡ []
-none-known c w e = none-case c w (isDone (wordOf (w .rows))) e
-
-pub none-told : (old : List ℕ) (c : Card) (w : Work) → w .response ≡ [] → old ≡ put old 0 (known c w .response)
-none-told old c w e = sym (ap (put old 0) (none-case c w (isDone (wordOf (w .rows))) e) ∙ put-none old 0)
-
-pub none-room : (n : ℕ) (c : Card) (w : Work) (a : Answer) → w .response ≡ [] → a ≡ handed (known c w) → a .length ≤ n
-none-room n c w a e q = rw (q, none-case c w (isDone (wordOf (w .rows))) e) (omega arith)
-
--- the same response said otherwise
-pub put-same : (old new l m : List ℕ) → new ≡ put old 0 l → l ≡ m → new ≡ put old 0 m
-put-same old new l m e q = e ∙ ap (put old 0) q
+  -- a response of 00 is written exactly where the answer tells one byte
+  pub zero-served : (old new : List ℕ) {a r : Answer} → w .response ≡ 0 ∷ [] → a ≡ handed (known c w) → (r ≡ a) × (new ≡ put old 0 (cond (eqb (a .length) 1) (0 ∷ []) [])) → 1 ≤ length old → Served old (known c w) r new
+  zero-served old new e q k h =
+      let z = known-response (λ l. cond (eqb (length l) 1) (0 ∷ []) [] ≡ l) (rw e) refl in
+      let l = known-response (λ l. length l ≤ length old) (rw e h) (omega arith) in
+      (record { answer = k .0 ∙ q; content = rw z at (rw q at (k .1)) }, rw (k .0, q) l)
