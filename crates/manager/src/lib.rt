@@ -44,7 +44,7 @@ pub enum Call {
 const BUFFER: usize = 256;
 
 // The bytes that a part names.
-fn part_of(bytes: &[u8], part: Part) -> &[u8]
+pub fn part_of(bytes: &[u8], part: Part) -> &[u8]
     ensures { λ r. ⌜ now r ≡ partOf (now (bytes .entry)) part ⌝ }
 {
     let size = bytes.len();

@@ -19,8 +19,11 @@ use Rattle.card.specs.declared.Card.{Card}
 use Rattle.card.specs.declared.Step.{Step}
 use Rattle.card.specs.declared.Answer.{Answer}
 use Rattle.script.specs.Orders.{orderOf}
+use Rattle.script.specs.Records.{onReading}
+use Rattle.script.specs.declared.records.Reading.{Reading}
+use Rattle.script.specs.declared.records.Reading.the-variants as reading
 use Rattle.script.specs.declared.orders.Order.{Order}
-use Rattle.session.specs.Session.{recordOutcome, answerText, firstReply, answerTo, Reply, replyBy, lineOf, mostText, Replied, Used}
+use Rattle.session.specs.Session.{recordOutcome, answerText, firstReply, faultReply, answerTo, Reply, replyBy, lineOf, mostText, Replied, Used}
 use Rattle.session.specs.declared.Turn.{Turn}
 use Rattle.session.proofs.Spelled.{replied}
 
@@ -52,7 +55,17 @@ pub unused : (bytes response : List ℕ) (x : Reply) → x .bytes ≡ [] → x .
 unused bytes response x e f =
     record { left-bytes = sym (ap (put bytes 0) e ∙ put-none bytes 0); left-response = sym (ap (put response 0) f ∙ put-none response 0) }
 
--- what a line comes to is read off its order
-pub as-ordered : (P : Reply → Type 0) (c : Card) (found explain : Bool) (n : ℕ) (s : List ℕ) (o : Order) → o ≡ orderOf s → P (replyBy (answerTo found c) c found explain n s o) → P (lineOf c found explain n s)
+-- the same of a line of a record
+pub record-unused : (bytes response : List ℕ) (c : Card) (found explain : Bool) (n : ℕ) (d : Card) (r : Reading)
+    → Used bytes response (onReading r (faultReply c found n) (firstReply explain (recordOutcome d))) bytes response
+record-unused bytes response c found explain n d (reading.Wrong why) = unused bytes response _ refl refl
+record-unused bytes response c found explain n d reading.Fine = unused bytes response _ refl (record-silent d)
+
+-- what `take_line` promises, read off the line's order
+pub as-ordered : {old new bytes response bytes₁ response₁ : List ℕ} {at : ℕ} {r : Turn} (c : Card) (found explain : Bool) (n : ℕ) (s : List ℕ) (o : Order) → o ≡ orderOf s
+    → Replied old at (replyBy (answerTo found c) c found explain n s o) r new × Used bytes response (replyBy (answerTo found c) c found explain n s o) bytes₁ response₁
+    → Replied old at (lineOf c found explain n s) r new × Used bytes response (lineOf c found explain n s) bytes₁ response₁
 unfolding lineOf
-as-ordered P c found explain n s o e = subst (λ (x : Order). P (replyBy (answerTo found c) c found explain n s x)) e
+as-ordered {old} {new} {bytes} {response} {bytes₁} {response₁} {at} {r} c found explain n s o e =
+    let P : Order → Type 0 = λ x. Replied old at (replyBy (answerTo found c) c found explain n s x) r new × Used bytes response (replyBy (answerTo found c) c found explain n s x) bytes₁ response₁ in
+    subst P e

@@ -62,14 +62,14 @@ module _ (s : List ℕ) (p : Part) (l : List ℕ) {m : List ℕ} {n : ℕ}
   word-size = e .0 ∙ sym (ap length word-is)
 
 -- a call over those bytes, and its response in the first bytes of the buffer lent
-module _ (found : Bool) (c : Card) (s : List ℕ) (x : declared.Call) (room : ℕ) (old : List ℕ) {t new : List ℕ} {n : ℕ} {r : Answer}
-    (h : Served (take room old) (answerTo found c (callOf t (length (take room old)) (laid n x))) r new)
+module _ (found : Bool) (c : Card) (s : List ℕ) (x : declared.Call) (room : ℕ) (old : List ℕ) {t new : List ℕ} {n : ℕ} {y : declared.Call} {r : Answer}
+    (h : Served (take room old) (answerTo found c (callOf t (length (take room old)) y)) r new) (over : y ≡ laid n x)
     (same : t ≡ bytesOf s (partIn x)) (count : n ≡ length (bytesOf s (partIn x))) (size : length old ≡ mostRoom) (small : room ≤ mostRoom) where
   lent : length (take room old) ≡ room
   lent = length-take-le room old (omega arith)
 
-  as-asked : answerTo found c (callOf t (length (take room old)) (laid n x)) ≡ answerTo found c (callIn s room x)
-  as-asked = rw (same, count, lent)
+  as-asked : answerTo found c (callOf t (length (take room old)) y) ≡ answerTo found c (callIn s room x)
+  as-asked = rw (over, same, count, lent)
 
   pub answer-is : r ≡ handed (answerTo found c (callIn s room x))
   answer-is = h .0 .answer ∙ ap handed as-asked

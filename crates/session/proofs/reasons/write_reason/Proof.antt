@@ -1,7 +1,7 @@
 -- `reasons::write_reason`: the parts one after the other are the line.
 use Rattle.text.proofs.PutLaws.{wrote-then}
 use Rattle.session.specs.Reasons.{reasonLine}
-use Rattle.session.proofs.Reasons.{fault-length}
+use Rattle.session.proofs.FaultLengths.{fault-length}
 use borrow.Author.Needs.{needs}
 use Rattle.session.proofs.reasons.write_reason.Statement.{statement}
 use Rattle.session.proofs.reasons.write_reason.Tie as tie
