@@ -10,7 +10,7 @@ use Rattle.isdp.specs.Aids.{noAid}
 use Rattle.isdp.proofs.Bools.{and-r}
 use Rattle.card.specs.Sound.{sound}
 use Rattle.card.specs.Steps.{stepTo}
-use Rattle.card.specs.Fresh.{zeroCard, freshOutcome}
+use Rattle.card.specs.Fresh.{zeroCard}
 use Rattle.card.specs.declared.Card.{Card}
 use Rattle.card.proofs.Outcomes.{checked, stopped}
 use Rattle.card.proofs.Freshness.{fresh-sound}

@@ -1,13 +1,12 @@
 -- `session::call_reply`: the slice handed on is the bytes of the word, and the response is what stands at the front of the buffer lent.
-use mathlib.Core.Path.{_≡_, refl, sym, ap, _∙_}
-use Prim.Native.Nat.{_≤_}
+use mathlib.Core.Path.{refl, sym, ap, _∙_}
 use lib.ListN.{length}
 use lib.Seq.{length-take-le}
 use native.Mathlib.Omega.{arith}
 use denote.Ref.{now}
 use Rattle.text.specs.Put.{put}
 use Rattle.tlv.specs.declared.Part.{Part}
-use Rattle.session.specs.Session.{mostBytes, mostRoom, bytesOf, partIn, callIn, answerTo}
+use Rattle.session.specs.Session.{bytesOf, partIn, callIn, answerTo}
 use Rattle.session.proofs.Spelled.{word-fits, word-is, word-size, answer-is, response-left, response-is, response-size, response-fits, text-short, replied}
 use borrow.Author.Needs.{needs}
 use Rattle.session.proofs.call_reply.Statement.{statement}

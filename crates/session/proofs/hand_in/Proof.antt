@@ -1,4 +1,4 @@
-use mathlib.Core.Path.{_≡_, ap, sym, _∙_}
+use mathlib.Core.Path.{ap, sym, _∙_}
 use mathlib.Core.List.{[]}
 use borrow.Author.Tests.{not-true, not-false}
 use Rattle.status.specs.Rows.{wordOf}
@@ -9,13 +9,6 @@ use Rattle.card.proofs.Outcomes.{checked, stopped}
 use borrow.Author.Needs.{needs}
 use Rattle.session.proofs.hand_in.Statement.{statement}
 use Rattle.session.proofs.hand_in.Tie as tie
-use Rattle.session.proofs.hand_in.Reads as reads
-use Rattle.session.proofs.hand_in.Lts as lts
-use Rattle.card.proofs.Card.is_sound.Reads as is-sound-reads
-use Rattle.card.proofs.Card.step_to.Reads as step-to-reads
-use Rattle.card.proofs.Card.unsound.Reads as unsound-reads
-use Rattle.card.proofs.Step.answer.Reads as answer-reads
-use Rattle.isdp.proofs.Aid.none.Reads as none-reads
 
 is-sound-requires : tie.Need-is-sound-requires
 is-sound-requires c κs = search needs

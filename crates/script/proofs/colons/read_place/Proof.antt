@@ -1,7 +1,7 @@
 -- `colons::read_place` meets its contract: what `read_hex` leaves in sixteen zeros is the AID with zeros after it, by `aid-read`.
 use mathlib.Core.Path.{refl, sym, _∙_}
 use Rattle.text.proofs.WordLists.{field-inside}
-use Rattle.choice.proofs.Branches.{yes!, no! }
+use Rattle.choice.proofs.Branches.{yes!, no!}
 use Rattle.script.specs.Colons.{placeWord}
 use Rattle.script.proofs.Names.{aid-read, place-as}
 use borrow.Author.Needs.{needs}
