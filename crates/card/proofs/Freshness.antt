@@ -9,9 +9,9 @@ use lib.Dec.{leb, eqb}
 use borrow.Author.Tests.{eqb-true, leb-true, not-false}
 use Rattle.status.specs.StatusWords.{isDone}
 use Rattle.status.specs.Rows.{row, wordOf}
-use Rattle.status.specs.declared.Status.the-variants.{DataWrong}
+use Rattle.status.specs.declared.Status.the-variants.{DataWrong, Done}
 use Rattle.status.proofs.Tables.{passed}
-use Rattle.isdp.specs.Sizes.{mostPlaces, leastAid, eidSize, mostCapacity}
+use Rattle.isdp.specs.Sizes.{mostPlaces, eidSize, mostCapacity}
 use Rattle.isdp.specs.Aids.{aidOk, noAid}
 use Rattle.isdp.specs.LifeCycle.{enabled, isEnabled}
 use Rattle.isdp.specs.Place.{vacant, made, isFor, zeros, placeOk, clash}
@@ -64,16 +64,13 @@ fresh-parts eid aid capacity quota used volatile f =
     let h4 = and-r (leb 1 quota) _ h3 in
     let p = made aid enabled quota used in
     record {
-      named = eqb-true (length eid) eidSize (and-l _ _ f);
-      full = refl;
-      numbered = omega arith;
-      some = leb-true 1 capacity (and-l _ _ h1);
-      most = leb-true capacity mostCapacity (and-l _ _ h2);
-      each = all-two (placeOk capacity) p (replicate (mostPlaces - 1) vacant) (made-ok capacity aid enabled quota used refl (and-l _ _ a) (and-r (leb leastAid (length aid)) _ a) (and-l _ _ h3) (and-l _ _ h4) (and-r (leb quota capacity) _ h4)) (rest-ok capacity);
-      apart = distinct-two p (replicate (mostPlaces - 1) vacant) (rest-clash p) rest-apart;
-      one = one-on aid quota used;
-      resort = refl;
-      room = room-of aid quota used capacity (leb-true quota capacity (and-l _ _ h4));
+      sizes = record { named = eqb-true (length eid) eidSize (and-l _ _ f); full = refl; numbered = omega arith; some = leb-true 1 capacity (and-l _ _ h1); most = leb-true capacity mostCapacity (and-l _ _ h2) };
+      placed = record {
+        each = all-two (placeOk capacity) p (replicate (mostPlaces - 1) vacant) (made-ok aid enabled quota used a capacity refl (and-l _ _ h3) (and-l _ _ h4) (and-r (leb quota capacity) _ h4)) (rest-ok capacity);
+        apart = distinct-two p (replicate (mostPlaces - 1) vacant) (rest-clash p) rest-apart;
+        room = room-of aid quota used capacity (leb-true quota capacity (and-l _ _ h4));
+      };
+      roles = record { one = one-on aid quota used; resort = refl };
       phased = tt;
     }
 
@@ -82,9 +79,9 @@ unfolding freshOutcome
 fresh-sound eid aid capacity quota used volatile h =
     let d = freshCard eid aid capacity quota used volatile in
     let rows = row (not (freshOk eid aid capacity quota used)) DataWrong ∷ [] in
-    let t = took zeroCard (wordOf rows) (stepTo zeroCard d noAid) [] h in
-    let p = passed rows refl (t .0) in
-    rw (t .1, accepted-card (stepTo zeroCard d noAid) []) (whole d (fresh-parts eid aid capacity quota used volatile (not-false _ (p .0))))
+    let t = took zeroCard (wordOf Done rows) (stepTo zeroCard d noAid) [] h in
+    let p = passed Done rows refl (t .0) in
+    rw (t .1, accepted-card (wordOf Done rows) (stepTo zeroCard d noAid) []) (whole d (fresh-parts eid aid capacity quota used volatile (not-false _ (p .0))))
 
 -- the record of zeros
 pub zero-unsound : sound zeroCard ≡ false

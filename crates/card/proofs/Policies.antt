@@ -1,12 +1,11 @@
 -- Tick and lost read no policy and delete nothing: with other policies at every place they do the same, and every place stays held
 -- or not as it was. Enabling a place touches life cycles alone. Assumes nothing.
-use mathlib.Core.Path.{_≡_, refl, ap, _∙_}
+use mathlib.Core.Path.{_≡_, refl, ap}
 use Prim.Native.Nat.{ℕ, zero, suc, _-_}
 use mathlib.Core.List.{List, [], _∷_}
 use mathlib.Core.Bool.{Bool, true, false, cond}
 use lib.Dec.{ltb}
 use Rattle.isdp.specs.Sizes.{wait}
-use Rattle.isdp.specs.LifeCycle.{isEnabled}
 use Rattle.isdp.specs.declared.Isdp.{Isdp}
 use Rattle.places.specs.Places.{at, allOff, enableAt}
 use Rattle.places.proofs.Lives.{enable-lives, lives-at}
@@ -61,11 +60,11 @@ lost-blind bs c =
     (split bs (isQuiet (c .phase)) (cond (onFallback c) c (fallen c)) c)
 
 -- every place is held with the AID that it had
-moved-keeps : (l : List Isdp) (i j : ℕ) → at (enableAt l i) j .len ≡ at l j .len
-moved-keeps l i j = ap (λ (p : Isdp). p .len) (lives-at (enable-lives l i) j)
+moved-keeps : (l : List Isdp) (i j : ℕ) → at (enableAt l i) j .aid .len ≡ at l j .aid .len
+moved-keeps l i j = ap (λ (p : Isdp). p .aid .len) (lives-at (enable-lives l i) j)
 
 abbrev Keeps : ℕ → Card → Card → Type 0
-Keeps j c d = at (d .places) j .len ≡ at (c .places) j .len
+Keeps j c d = at (d .places) j .aid .len ≡ at (c .places) j .aid .len
 
 tick-keeps : (j : ℕ) (c : Card) (p : Phase) → Keeps j c (tickIn p c)
 tick-keeps j c Quiet = refl
@@ -75,11 +74,11 @@ tick-keeps j c (Back l n) =
     (λ b. choose (Keeps j c) (onFallback c) _ _ (λ e. refl) (λ e. moved-keeps (c .places) (c .fallback) j))
 tick-keeps j c (Fallen l n) = choose (Keeps j c) (ltb 1 l) _ _ (λ b. refl) (λ b. refl)
 
-pub tick-deletes-nothing : (c : Card) (j : ℕ) → at (tickOf c .places) j .len ≡ at (c .places) j .len
+pub tick-deletes-nothing : (c : Card) (j : ℕ) → at (tickOf c .places) j .aid .len ≡ at (c .places) j .aid .len
 unfolding tickOf
 tick-deletes-nothing c j = tick-keeps j c (c .phase)
 
-pub lost-deletes-nothing : (c : Card) (j : ℕ) → at (lostOf c .places) j .len ≡ at (c .places) j .len
+pub lost-deletes-nothing : (c : Card) (j : ℕ) → at (lostOf c .places) j .aid .len ≡ at (c .places) j .aid .len
 unfolding lostOf
 lost-deletes-nothing c j =
     choose (Keeps j c) (isQuiet (c .phase)) _ _

@@ -1,10 +1,11 @@
--- One place written anew keeps a card sound: a profile under way (neither DISABLED nor ENABLED) with the same AID and quota, and a
--- deletion of a DISABLED profile that is not the fall-back. Then the confirmation, which is one or the other. Assumes nothing.
+-- One place set anew keeps a card sound (`sets`), by what is asked of the new profile. So do a profile under way (neither DISABLED nor
+-- ENABLED) rewritten with its AID and quota, and a deletion of a DISABLED profile that is not the fall-back; another fall-back
+-- does. Then the confirmation, which closes and may delete. Assumes nothing.
 use mathlib.Core.Path.{_≡_, refl, sym, _∙_}
-use Prim.Native.Nat.{ℕ}
+use Prim.Native.Nat.{ℕ, _≤_}
 use native.Mathlib.Omega.{arith}
 use mathlib.Core.List.{List}
-use mathlib.Core.Bool.{Bool, true, false, not, cond, _||_, false≢true}
+use mathlib.Core.Bool.{Bool, true, false, not, _||_, false≢true}
 use lib.ListN.{set, length-set}
 use lib.Seq.{getD-set-other}
 use lib.Dec.{eqb}
@@ -15,16 +16,26 @@ use Rattle.isdp.specs.Place.{vacant, placeOk}
 use Rattle.isdp.specs.declared.Isdp.{Isdp}
 use Rattle.isdp.proofs.Bools.{and-r}
 use Rattle.isdp.proofs.Placed.{none-ok}
-use Rattle.places.specs.Places.{at}
+use Rattle.places.specs.Places.{at, quotas, distinct}
 use Rattle.places.proofs.Lives.{within}
 use Rattle.places.proofs.Sets.{set-all, set-count, set-quotas, set-alike, clear-distinct}
-use Rattle.card.specs.Cards.{withChange, withPlaces}
+use Rattle.card.specs.Cards.{withChange, withPhase, withFallback, cleared, rewritten}
 use Rattle.card.specs.Sound.{sound}
 use Rattle.card.specs.Clock.{dropped, confirmIn, confirmOf}
 use Rattle.card.specs.declared.Card.{Card}
 use Rattle.card.specs.declared.Phase.{Phase}
 use Rattle.card.specs.declared.Phase.the-variants.{Quiet, Trial, Back, Fallen}
-use Rattle.card.proofs.Sounds.{Sound, Phased, parts, whole, choose, rephased}
+use Rattle.card.proofs.Sounds.{Sound, Phased, parts, whole, choose, resized, rephased, nonzero}
+
+-- one place is set anew, with a phase that holds of the new card
+pub sets : (c : Card) (i : ℕ) (x : Isdp) (p : Phase) → Sound c → placeOk (c .capacity) x ≡ true → isEnabled x ≡ isEnabled (at (c .places) i) → distinct (set (c .places) i x) ≡ true → quotas (set (c .places) i x) ≤ c .capacity → isFinished (at (set (c .places) i x) (c .fallback) .life) ≡ true → Phased p (withChange c (c .last) p (set (c .places) i x)) → Sound (withChange c (c .last) p (set (c .places) i x))
+sets c i x p s o v d q f h =
+    record {
+      sizes = resized c (c .last) p (set (c .places) i x) (s .sizes) (s .sizes .numbered) (length-set (c .places) i x);
+      placed = record { each = set-all (placeOk (c .capacity)) x o (c .places) i (s .placed .each); apart = d; room = q };
+      roles = record { one = set-count isEnabled x (c .places) i v ∙ s .roles .one; resort = f };
+      phased = h;
+    }
 
 -- a profile that is neither DISABLED nor ENABLED is neither the fall-back nor the previous one
 apart : (l : List Isdp) (i j : ℕ) → isFinished (at l i .life) ≡ false → isFinished (at l j .life) ≡ true → j ≡ i → ⊥
@@ -34,60 +45,53 @@ not-on : (y z : Bool) → (y || z) ≡ false → z ≡ false
 not-on true z w = absurd (false≢true (sym w))
 not-on false z w = w
 
-module _ (c : Card) (i : ℕ) (x : Isdp) (s : Sound c) (n : at (c .places) i .life ≡ 0 → ⊥) (d : isFinished (at (c .places) i .life) ≡ false) (v : isEnabled x ≡ false) (o : placeOk (c .capacity) x ≡ true) (a : x .aid ≡ at (c .places) i .aid) (b : x .len ≡ at (c .places) i .len) (q : x .quota ≡ at (c .places) i .quota) where
+module _ (c : Card) (i : ℕ) (x : Isdp) (s : Sound c) (n : at (c .places) i .life ≡ 0 → ⊥) (d : isFinished (at (c .places) i .life) ≡ false) (v : isEnabled x ≡ false) (o : placeOk (c .capacity) x ≡ true) (a : x .aid ≡ at (c .places) i .aid) (q : x .quota ≡ at (c .places) i .quota) where
   pub off-before : isEnabled (at (c .places) i) ≡ false
   off-before = not-on (eqb (at (c .places) i .life) disabled) (isEnabled (at (c .places) i)) d
 
   pub other : (j : ℕ) → isFinished (at (c .places) j .life) ≡ true → at (set (c .places) i x) j ≡ at (c .places) j
   other j w = getD-set-other (c .places) i j x vacant (apart (c .places) i j d w)
 
-  phase-kept : (p : Phase) → Phased p c → Phased p (withPlaces c (set (c .places) i x))
+  phase-kept : (p : Phase) → Phased p c → Phased p (rewritten c i x)
   phase-kept Quiet h = tt
   phase-kept (Trial r l m) h = (h .0, rw (other r (rw (h .1))) (h .1))
   phase-kept (Back l m) h = h
-  phase-kept (Fallen l m) h = (h .0, rw (other (c .fallback) (s .resort)) (h .1))
+  phase-kept (Fallen l m) h = (h .0, rw (other (c .fallback) (s .roles .resort)) (h .1))
 
-  pub rewrites : Sound (withPlaces c (set (c .places) i x))
+  pub rewrites : Sound (rewritten c i x)
   rewrites =
-      let k = within (c .places) i n in
-      record {
-        named = s .named;
-        full = length-set (c .places) i x ∙ s .full;
-        numbered = s .numbered;
-        some = s .some;
-        most = s .most;
-        each = set-all (placeOk (c .capacity)) x o (c .places) i (s .each);
-        apart = set-alike x (c .places) i a b ∙ s .apart;
-        one = set-count isEnabled x (c .places) i (v ∙ sym off-before) ∙ s .one;
-        resort = rw (other (c .fallback) (s .resort)) (s .resort);
-        room = let r = set-quotas x (c .places) i k in let w = s .room in omega arith;
-        phased = phase-kept (c .phase) (s .phased);
-      }
+      sets c i x (c .phase) s o (v ∙ sym off-before) (set-alike x (c .places) i a ∙ s .placed .apart)
+      (let r = set-quotas x (c .places) i (within (c .places) i n) in let w = s .placed .room in omega arith)
+      (rw (other (c .fallback) (s .roles .resort)) (s .roles .resort))
+      (phase-kept (c .phase) (s .phased))
 
--- deletion of a DISABLED profile that is not the fall-back, where no change is open afterwards
-pub deletes : (c : Card) (p : ℕ) → Sound c → at (c .places) p .life ≡ disabled → eqb p (c .fallback) ≡ false → Sound (withChange c (c .last) Quiet (set (c .places) p vacant))
-deletes c p s h n =
+-- deletion of a DISABLED profile that is not the fall-back, where no change is open
+pub deletes : (c : Card) (i : ℕ) → Sound c → c .phase ≡ Quiet → at (c .places) i .life ≡ disabled → eqb i (c .fallback) ≡ false → Sound (cleared c i)
+deletes c i s o h n =
     let l = c .places in
-    let k = within l p (λ z. let w : _≡_ {A = ℕ} 0 disabled = sym z ∙ h in omega arith) in
+    let k = within l i (nonzero _ 30 h) in
+    sets c i vacant (c .phase) s (none-ok (c .capacity)) (rw h) (clear-distinct l i (s .placed .apart))
+    (let q = set-quotas vacant l i k in let r = s .placed .room in omega arith)
+    (rw (getD-set-other l i (c .fallback) vacant vacant (λ q. eqb-false i (c .fallback) n (sym q))) (s .roles .resort))
+    (rw o tt)
+
+-- another fall-back that is DISABLED or ENABLED, where no change is open
+pub refalls : (c : Card) (i : ℕ) → Sound c → c .phase ≡ Quiet → isFinished (at (c .places) i .life) ≡ true → Sound (withFallback c i)
+refalls c i s o d =
+    let z = s .sizes in
+    let p = s .placed in
     record {
-      named = s .named;
-      full = length-set l p vacant ∙ s .full;
-      numbered = s .numbered;
-      some = s .some;
-      most = s .most;
-      each = set-all (placeOk (c .capacity)) vacant (none-ok (c .capacity)) l p (s .each);
-      apart = clear-distinct l p (s .apart);
-      one = set-count isEnabled vacant l p (rw h) ∙ s .one;
-      resort = rw (getD-set-other l p (c .fallback) vacant vacant (λ q. eqb-false p (c .fallback) n (sym q))) (s .resort);
-      room = let q = set-quotas vacant l p k in let r = s .room in omega arith;
-      phased = tt;
+      sizes = record { named = z .named; full = z .full; numbered = z .numbered; some = z .some; most = z .most };
+      placed = record { each = p .each; apart = p .apart; room = p .room };
+      roles = record { one = s .roles .one; resort = d };
+      phased = rw o tt;
     }
 
 confirm-case : (c : Card) (p : Phase) → Sound c → Phased p c → Sound (confirmIn p c)
 confirm-case c Quiet s h = rephased c Quiet s tt
 confirm-case c (Trial q l m) s h =
     choose Sound (dropped c q) _ _
-    (λ b. deletes c q s (h .1) (not-true _ (and-r (onceDisabled (at (c .places) q .policy)) _ b)))
+    (λ b. deletes (withPhase c Quiet) q (rephased c Quiet s tt) refl (h .1) (not-true _ (and-r (onceDisabled (at (c .places) q .policy)) _ b)))
     (λ b. rephased c Quiet s tt)
 confirm-case c (Back l m) s h = rephased c Quiet s tt
 confirm-case c (Fallen l m) s h = rephased c Quiet s tt

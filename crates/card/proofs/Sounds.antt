@@ -1,21 +1,23 @@
--- The parts of a sound card by name, and that tick and lost keep them. Two builders do every step: only the phase is new
--- (`rephased`), or a place that has a life cycle is enabled and a phase opens (`moves`). Assumes nothing.
+-- The parts of a sound card by name, in the four groups of the definition, and that tick and lost keep them. Two builders do every
+-- step: only the phase is new (`rephased`), or a place that has a life cycle is enabled and a phase opens (`moves`). Assumes nothing.
 use mathlib.Core.Path.{_≡_, refl, _∙_}
 use Prim.Native.Nat.{ℕ, suc, _+_, _-_, _≤_}
 use native.Mathlib.Omega.{arith}
 use mathlib.Core.Bool.{Bool, true, false, cond, false≢true}
+use mathlib.Core.List.{List}
 use lib.ListN.{length}
 use lib.Dec.{ltb, leb, eqb}
 use borrow.Author.Tests.{eq-eqb, ne-eqb, eqb-true, eqb-false, le-leb, leb-true, ltb-true}
 use Rattle.isdp.specs.Sizes.{mostPlaces, eidSize, mostCapacity, wait, lastNumber}
 use Rattle.isdp.specs.LifeCycle.{disabled, enabled, isEnabled, isFinished}
 use Rattle.isdp.specs.Place.{placeOk}
-use Rattle.isdp.proofs.Bools.{and-l, and-r}
-use Rattle.places.specs.Places.{at, quotas, allOf, countOf, distinct}
+use Rattle.isdp.specs.declared.Isdp.{Isdp}
+use Rattle.isdp.proofs.Bools.{and-l, and-r, both}
+use Rattle.places.specs.Places.{at, quotas, allOf, countOf, distinct, enableAt}
 use Rattle.places.proofs.Lives.{enable-lives, lives-length, lives-quotas, lives-distinct, enable-one, enable-at, enable-ok, enable-done, within}
-use Rattle.card.specs.Cards.{isQuiet, onFallback, withPhase}
-use Rattle.card.specs.Sound.{sized, openOk, phaseIn, phaseOk, sound}
-use Rattle.card.specs.Clock.{nextOf, moved, fallen, tickIn, tickOf, lostOf}
+use Rattle.card.specs.Cards.{isQuiet, onFallback, withChange, withPhase}
+use Rattle.card.specs.Sound.{sized, sizesOk, placesOk, rolesOk, openOk, phaseIn, phaseOk, sound}
+use Rattle.card.specs.Clock.{nextOf, moved, tickIn, tickOf, lostOf}
 use Rattle.card.specs.declared.Card.{Card}
 use Rattle.card.specs.declared.Phase.{Phase}
 use Rattle.card.specs.declared.Phase.the-variants.{Quiet, Trial, Back, Fallen}
@@ -33,18 +35,27 @@ Phased (Trial previous left number) c = Open left number (c .last) × (at (c .pl
 Phased (Back left number) c = Open left number (c .last)
 Phased (Fallen left number) c = Open left number (c .last) × (at (c .places) (c .fallback) .life ≡ enabled)
 
--- the parts of a sound card, by name
-pub record Sound (c : Card) : Type 0 where
+-- the parts of a sound card, by name: its sizes, its places, who is enabled and who the fall-back, its phase
+pub record Sizes (c : Card) : Type 0 where
   pub named : length (c .eid) ≡ eidSize
   pub full : length (c .places) ≡ mostPlaces
   pub numbered : c .last ≤ lastNumber
   pub some : 1 ≤ c .capacity
   pub most : c .capacity ≤ mostCapacity
+
+pub record Places (c : Card) : Type 0 where
   pub each : allOf (placeOk (c .capacity)) (c .places) ≡ true
   pub apart : distinct (c .places) ≡ true
+  pub room : quotas (c .places) ≤ c .capacity
+
+pub record Roles (c : Card) : Type 0 where
   pub one : countOf isEnabled (c .places) ≡ 1
   pub resort : isFinished (at (c .places) (c .fallback) .life) ≡ true
-  pub room : quotas (c .places) ≤ c .capacity
+
+pub record Sound (c : Card) : Type 0 where
+  pub sizes : Sizes c
+  pub placed : Places c
+  pub roles : Roles c
   pub phased : Phased (c .phase) c
 
 open-parts : (l n m : ℕ) → openOk l n m ≡ true → Open l n m
@@ -71,41 +82,67 @@ phase-whole (Trial q l n) c e = rw (open-whole l n (c .last) (e .0), e .1)
 phase-whole (Back l n) c e = open-whole l n (c .last) e
 phase-whole (Fallen l n) c e = rw (open-whole l n (c .last) (e .0), e .1)
 
-pub parts : (c : Card) → sound c ≡ true → Sound c
-unfolding sound phaseOk
-parts c w =
+sizes-parts : (c : Card) → sizesOk c ≡ true → Sizes c
+sizes-parts c w =
     let z = and-l (sized c) _ w in
     let y = and-r (eqb (length (c .eid)) eidSize) _ z in
     let e = and-r (sized c) _ w in
-    let h1 = and-r (leb 1 (c .capacity)) _ e in
-    let h2 = and-r (leb (c .capacity) mostCapacity) _ h1 in
-    let h3 = and-r (allOf (placeOk (c .capacity)) (c .places)) _ h2 in
-    let h4 = and-r (distinct (c .places)) _ h3 in
-    let h5 = and-r (eqb (countOf isEnabled (c .places)) 1) _ h4 in
-    let h6 = and-r (isFinished (at (c .places) (c .fallback) .life)) _ h5 in
     record {
       named = eqb-true (length (c .eid)) eidSize (and-l _ _ z);
       full = eqb-true (length (c .places)) mostPlaces (and-l _ _ y);
       numbered = leb-true (c .last) lastNumber (and-r (eqb (length (c .places)) mostPlaces) _ y);
       some = leb-true 1 (c .capacity) (and-l _ _ e);
-      most = leb-true (c .capacity) mostCapacity (and-l _ _ h1);
-      each = and-l _ _ h2;
-      apart = and-l _ _ h3;
-      one = eqb-true (countOf isEnabled (c .places)) 1 (and-l _ _ h4);
-      resort = and-l _ _ h5;
-      room = leb-true (quotas (c .places)) (c .capacity) (and-l _ _ h6);
-      phased = phase-parts (c .phase) c (and-r (leb (quotas (c .places)) (c .capacity)) _ h6);
+      most = leb-true (c .capacity) mostCapacity (and-r (leb 1 (c .capacity)) _ e);
     }
+
+places-parts : (c : Card) → placesOk c ≡ true → Places c
+places-parts c w =
+    let e = and-r (allOf (placeOk (c .capacity)) (c .places)) _ w in
+    record { each = and-l _ _ w; apart = and-l _ _ e; room = leb-true (quotas (c .places)) (c .capacity) (and-r (distinct (c .places)) _ e) }
+
+roles-parts : (c : Card) → rolesOk c ≡ true → Roles c
+roles-parts c w = record { one = eqb-true (countOf isEnabled (c .places)) 1 (and-l _ _ w); resort = and-r (eqb (countOf isEnabled (c .places)) 1) _ w }
+
+pub parts : (c : Card) → sound c ≡ true → Sound c
+unfolding sound phaseOk
+parts c w =
+    let e = and-r (sizesOk c) _ w in
+    let h = and-r (placesOk c) _ e in
+    record {
+      sizes = sizes-parts c (and-l (sizesOk c) _ w);
+      placed = places-parts c (and-l (placesOk c) _ e);
+      roles = roles-parts c (and-l (rolesOk c) _ h);
+      phased = phase-parts (c .phase) c (and-r (rolesOk c) _ h);
+    }
+
+sizes-whole : (c : Card) → Sizes c → sizesOk c ≡ true
+sizes-whole c s = rw (s .named, s .full, le-leb (c .last) lastNumber (s .numbered), le-leb 1 (c .capacity) (s .some), le-leb (c .capacity) mostCapacity (s .most))
+
+places-whole : (c : Card) → Places c → placesOk c ≡ true
+places-whole c s = rw (s .each, s .apart, le-leb (quotas (c .places)) (c .capacity) (s .room))
+
+roles-whole : (c : Card) → Roles c → rolesOk c ≡ true
+roles-whole c s = rw (eq-eqb _ _ (s .one), s .resort)
 
 pub whole : (c : Card) → Sound c → sound c ≡ true
 unfolding sound phaseOk
-whole c s =
-    rw (s .named, s .full, le-leb (c .last) lastNumber (s .numbered), le-leb 1 (c .capacity) (s .some), le-leb (c .capacity) mostCapacity (s .most), s .each, s .apart, eq-eqb _ _ (s .one), s .resort, le-leb (quotas (c .places)) (c .capacity) (s .room))
-    (phase-whole (c .phase) c (s .phased))
+whole c s = both _ _ (sizes-whole c (s .sizes)) (both _ _ (places-whole c (s .placed)) (both _ _ (roles-whole c (s .roles)) (phase-whole (c .phase) c (s .phased))))
+
+-- as many places and a number of two bytes: the sizes are kept
+pub resized : (c : Card) (n : ℕ) (p : Phase) (l : List Isdp) → Sizes c → n ≤ lastNumber → length l ≡ length (c .places) → Sizes (withChange c n p l)
+resized c n p l s h e = record { named = s .named; full = e ∙ s .full; numbered = h; some = s .some; most = s .most }
 
 -- only the phase is new
 pub rephased : (c : Card) (p : Phase) → Sound c → Phased p (withPhase c p) → Sound (withPhase c p)
-rephased c p s h = record { named = s .named; full = s .full; numbered = s .numbered; some = s .some; most = s .most; each = s .each; apart = s .apart; one = s .one; resort = s .resort; room = s .room; phased = h }
+rephased c p s h =
+    let z = s .placed in
+    let r = s .roles in
+    record {
+      sizes = resized c (c .last) p (c .places) (s .sizes) (s .sizes .numbered) refl;
+      placed = record { each = z .each; apart = z .apart; room = z .room };
+      roles = record { one = r .one; resort = r .resort };
+      phased = h;
+    }
 
 next-case : (n : ℕ) (b : Bool) → eqb n lastNumber ≡ b → n ≤ lastNumber → cond b 0 (n + 1) ≤ lastNumber
 next-case n true e h = omega arith
@@ -119,17 +156,11 @@ pub moves : (c : Card) (i : ℕ) (p : Phase) → Sound c → (at (c .places) i .
 moves c i p s n h =
     let k = within (c .places) i n in
     let r = enable-lives (c .places) i in
+    let z = s .placed in
     record {
-      named = s .named;
-      full = lives-length r ∙ s .full;
-      numbered = next-small (c .last) (s .numbered);
-      some = s .some;
-      most = s .most;
-      each = enable-ok (c .capacity) (c .places) i (ne-eqb _ _ n) (s .each);
-      apart = lives-distinct r ∙ s .apart;
-      one = enable-one (c .places) i k;
-      resort = enable-done (c .places) i (c .fallback) k (s .resort);
-      room = rw (lives-quotas r) (s .room);
+      sizes = resized c (nextOf (c .last)) p (enableAt (c .places) i) (s .sizes) (next-small (c .last) (s .sizes .numbered)) (lives-length r);
+      placed = record { each = enable-ok (c .capacity) (c .places) i (ne-eqb _ _ n) (z .each); apart = lives-distinct r ∙ z .apart; room = rw (lives-quotas r) (z .room) };
+      roles = record { one = enable-one (c .places) i k; resort = enable-done (c .places) i (c .fallback) k (s .roles .resort) };
       phased = h;
     }
 
@@ -153,7 +184,7 @@ done-nonzero v d z = false≢true (rw z at d)
 -- the fall-back is enabled
 pub falls : (c : Card) → Sound c → Sound (moved c (c .fallback) (Fallen wait (nextOf (c .last))))
 falls c s =
-    let n = done-nonzero (at (c .places) (c .fallback) .life) (s .resort) in
+    let n = done-nonzero (at (c .places) (c .fallback) .life) (s .roles .resort) in
     moves c (c .fallback) (Fallen wait (nextOf (c .last))) s n
     (fresh (nextOf (c .last)), enable-at (c .places) (c .fallback) (within (c .places) (c .fallback) n))
 

@@ -1,10 +1,12 @@
--- Document 01, 'The card': what is asked of a card, and a card with one thing changed.
+-- Document 01, 'The card': what is asked of a card, the whole record, and its writes by name. The write that opens a change is `opened`, in Clock.
 use Prim.Native.Nat.{ℕ}
 use mathlib.Core.List.{List}
 use mathlib.Core.Bool.{Bool, true, false, not, _&&_}
+use lib.ListN.{set}
 use lib.Dec.{eqb}
 use Rattle.isdp.specs.LifeCycle.{disabled, isEnabled}
-use Rattle.isdp.specs.Place.{isFor}
+use Rattle.isdp.specs.Place.{vacant, isFor}
+use Rattle.isdp.specs.declared.Aid.{Aid}
 use Rattle.isdp.specs.declared.Isdp.{Isdp}
 use Rattle.places.specs.Places.{at, seek, isFree, freeOf}
 use Rattle.card.specs.declared.Card.{Card}
@@ -31,6 +33,10 @@ enabledPlace c = seek isEnabled (c .places)
 abbrev pub freePlace : Card → ℕ
 freePlace c = seek isFree (c .places)
 
+-- "the AID of the profile then enabled"
+abbrev pub enabledAid : Card → Aid
+enabledAid c = at (c .places) (enabledPlace c) .aid
+
 -- "Free is capacity less all quotas held"
 abbrev pub freeIn : Card → ℕ
 freeIn c = freeOf (c .capacity) (c .places)
@@ -43,18 +49,26 @@ onFallback c = isEnabled (at (c .places) (c .fallback))
 abbrev pub mayBeDeleted : Card → ℕ → Bool
 mayBeDeleted c i = eqb (at (c .places) i .life) disabled && not (eqb i (c .fallback))
 
--- a card with another last number, phase and places; the two below change one of them
-abbrev pub withChange : Card → ℕ → Phase → List Isdp → Card
-withChange c n p l =
+-- the whole record, spelled once: every other card is made of this
+abbrev pub cardWith : List ℕ → ℕ → ℕ → ℕ → ℕ → Phase → List Isdp → Card
+cardWith eid capacity volatile last fallback phase places =
     record {
-      eid = c .eid;
-      capacity = c .capacity;
-      volatile = c .volatile;
-      last = n;
-      fallback = c .fallback;
-      phase = p;
-      places = l;
+      capacity = capacity;
+      volatile = volatile;
+      places = places;
+      phase = phase;
+      last = last;
+      fallback = fallback;
+      eid = eid;
     }
+
+-- the same card in another state: its last number, fall-back, phase and places
+abbrev pub inState : Card → ℕ → ℕ → Phase → List Isdp → Card
+inState c last fallback phase places = cardWith (c .eid) (c .capacity) (c .volatile) last fallback phase places
+
+-- with another last number, phase and places; the two below change one of them
+abbrev pub withChange : Card → ℕ → Phase → List Isdp → Card
+withChange c n p l = inState c n (c .fallback) p l
 
 abbrev pub withPlaces : Card → List Isdp → Card
 withPlaces c l = withChange c (c .last) (c .phase) l
@@ -62,15 +76,18 @@ withPlaces c l = withChange c (c .last) (c .phase) l
 abbrev pub withPhase : Card → Phase → Card
 withPhase c p = withChange c (c .last) p (c .places)
 
--- a card with another fall-back
+-- the writes: a free place filled with a new profile
+abbrev pub filled : Card → ℕ → Isdp → Card
+filled c i p = withPlaces c (set (c .places) i p)
+
+-- a place cleared: the deletion of delete, of master delete and of a confirmation
+abbrev pub cleared : Card → ℕ → Card
+cleared c i = withPlaces c (set (c .places) i vacant)
+
+-- a profile rewritten where it stands, with its AID and its quota
+abbrev pub rewritten : Card → ℕ → Isdp → Card
+rewritten c i p = withPlaces c (set (c .places) i p)
+
+-- another fall-back
 abbrev pub withFallback : Card → ℕ → Card
-withFallback c f =
-    record {
-      eid = c .eid;
-      capacity = c .capacity;
-      volatile = c .volatile;
-      last = c .last;
-      fallback = f;
-      phase = c .phase;
-      places = c .places;
-    }
+withFallback c f = inState c (c .last) f (c .phase) (c .places)

@@ -1,13 +1,11 @@
 -- Document 01, 'Steps': tick, lost and confirmation. "Entering Trial, Back or Fallen sets ticks left to 10 and issues the next number".
 use Prim.Native.Nat.{ℕ, _+_, _-_}
 use mathlib.Core.Bool.{Bool, false, not, cond, _&&_}
-use lib.ListN.{set}
 use lib.Dec.{ltb, eqb}
 use Rattle.isdp.specs.Sizes.{wait, lastNumber}
 use Rattle.isdp.specs.Policy.{onceDisabled}
-use Rattle.isdp.specs.Place.{vacant}
 use Rattle.places.specs.Places.{at, enableAt}
-use Rattle.card.specs.Cards.{isQuiet, enabledPlace, onFallback, withChange, withPhase}
+use Rattle.card.specs.Cards.{isQuiet, enabledPlace, onFallback, withChange, withPhase, cleared}
 use Rattle.card.specs.declared.Card.{Card}
 use Rattle.card.specs.declared.Phase.{Phase}
 use Rattle.card.specs.declared.Phase.the-variants.{Quiet, Trial, Back, Fallen}
@@ -61,7 +59,7 @@ dropped c i = onceDisabled (at (c .places) i .policy) && not (eqb i (c .fallback
 
 abbrev pub trialClosed : Card → ℕ → Card
 trialClosed c previous =
-    cond (dropped c previous) (withChange c (c .last) Quiet (set (c .places) previous vacant)) (withPhase c Quiet)
+    cond (dropped c previous) (cleared (withPhase c Quiet) previous) (withPhase c Quiet)
 
 -- "Confirmation: closes the change. In Trial the previous profile is then deleted .."
 abbrev pub confirmIn : Phase → Card → Card

@@ -6,40 +6,24 @@ use mathlib.Core.Bool.{Bool, not, _&&_}
 use lib.ListN.{length, replicate}
 use lib.Dec.{leb, eqb}
 use Rattle.status.specs.Rows.{row, wordOf}
-use Rattle.status.specs.declared.Status.the-variants.{DataWrong}
+use Rattle.status.specs.declared.Status.the-variants.{DataWrong, Done}
 use Rattle.isdp.specs.Sizes.{mostPlaces, eidSize, mostCapacity}
 use Rattle.isdp.specs.Aids.{aidOk, noAid}
 use Rattle.isdp.specs.LifeCycle.{enabled}
 use Rattle.isdp.specs.Place.{vacant, made}
+use Rattle.card.specs.Cards.{cardWith}
 use Rattle.card.specs.Steps.{stepTo}
-use Rattle.card.specs.Answers.{Outcome, accepted, settle}
+use Rattle.card.specs.Answers.{Outcome, settle}
 use Rattle.card.specs.declared.Card.{Card}
 use Rattle.card.specs.declared.Phase.the-variants.{Quiet}
 
 -- the record of zeros
 abbrev pub zeroCard : Card
-zeroCard =
-    record {
-      eid = replicate eidSize 0;
-      capacity = 0;
-      volatile = 0;
-      last = 0;
-      fallback = 0;
-      phase = Quiet;
-      places = replicate mostPlaces vacant;
-    }
+zeroCard = cardWith (replicate eidSize 0) 0 0 0 0 Quiet (replicate mostPlaces vacant)
 
 abbrev pub freshCard : List ℕ → List ℕ → ℕ → ℕ → ℕ → ℕ → Card
 freshCard eid aid capacity quota used volatile =
-    record {
-      eid = eid;
-      capacity = capacity;
-      volatile = volatile;
-      last = 0;
-      fallback = 0;
-      phase = Quiet;
-      places = made aid enabled quota used ∷ replicate (mostPlaces - 1) vacant;
-    }
+    cardWith eid capacity volatile 0 0 Quiet (made aid enabled quota used ∷ replicate (mostPlaces - 1) vacant)
 
 abbrev pub freshOk : List ℕ → List ℕ → ℕ → ℕ → ℕ → Bool
 freshOk eid aid capacity quota used =
@@ -50,5 +34,5 @@ freshOk eid aid capacity quota used =
 
 unfoldable pub freshOutcome : List ℕ → List ℕ → ℕ → ℕ → ℕ → ℕ → Outcome
 freshOutcome eid aid capacity quota used volatile =
-    settle zeroCard (wordOf (row (not (freshOk eid aid capacity quota used)) DataWrong ∷ []))
-    (accepted (stepTo zeroCard (freshCard eid aid capacity quota used volatile) noAid) [])
+    settle zeroCard (wordOf Done (row (not (freshOk eid aid capacity quota used)) DataWrong ∷ []))
+    (stepTo zeroCard (freshCard eid aid capacity quota used volatile) noAid) []

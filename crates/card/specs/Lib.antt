@@ -5,6 +5,7 @@ pub mod Clock
 pub mod Ticks
 pub mod Notifications
 pub mod Steps
+pub mod Noticed
 pub mod Answers
 pub mod Fresh
 pub mod Policies

@@ -5,9 +5,8 @@ use mathlib.Core.Bool.{cond}
 use lib.ListN.{replicate}
 use lib.Dec.{eqb}
 use Rattle.isdp.specs.Sizes.{eidSize}
-use Rattle.isdp.specs.Aids.{nameOf, noAid}
-use Rattle.places.specs.Places.{at}
-use Rattle.card.specs.Cards.{enabledPlace}
+use Rattle.isdp.specs.Aids.{noAid}
+use Rattle.card.specs.Cards.{enabledAid}
 use Rattle.card.specs.declared.Card.{Card}
 use Rattle.card.specs.declared.Kind.{Kind}
 use Rattle.card.specs.declared.Kind.the-variants.{Silent, Changed, RolledBack, FallenBack}
@@ -39,13 +38,9 @@ issued c =
       kind = kindOf (c .phase);
       number = c .last;
       eid = c .eid;
-      aid = nameOf (at (c .places) (enabledPlace c));
+      aid = enabledAid c;
     }
 
 -- a card after one whose last number was `last`: one is handed out exactly where a number was issued
-abbrev pub noticeSince : ℕ → Card → Notification
+unfoldable pub noticeSince : ℕ → Card → Notification
 noticeSince last d = cond (eqb (d .last) last) silent (issued d)
-
--- from card c to card d
-unfoldable pub noticeOf : Card → Card → Notification
-noticeOf c d = noticeSince (c .last) d

@@ -1,13 +1,10 @@
 -- Document 01, 'Steps': "Roll-back and fall-back ask no policy". The same card with other policies, place for place.
 use Prim.Native.Nat.{ℕ}
 use mathlib.Core.List.{List, [], _∷_}
+use Rattle.isdp.specs.LifeCycle.{withPolicy}
 use Rattle.isdp.specs.declared.Isdp.{Isdp}
 use Rattle.card.specs.Cards.{withPlaces}
 use Rattle.card.specs.declared.Card.{Card}
-
-abbrev pub withPolicy : Isdp → ℕ → Isdp
-withPolicy p b =
-    record { aid = p .aid; len = p .len; life = p .life; quota = p .quota; used = p .used; policy = b }
 
 -- the places, as far as the list goes, with these policies
 unfoldable pub repolicy : List ℕ → List Isdp → List Isdp

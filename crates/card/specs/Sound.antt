@@ -15,6 +15,21 @@ use Rattle.card.specs.declared.Phase.the-variants.{Quiet, Trial, Back, F
 abbrev pub sized : Card → Bool
 sized c = eqb (length (c .eid)) eidSize && (eqb (length (c .places)) mostPlaces && leb (c .last) lastNumber)
 
+-- sizes: those, and the capacity
+abbrev pub sizesOk : Card → Bool
+sizesOk c = sized c && (leb 1 (c .capacity) && leb (c .capacity) mostCapacity)
+
+-- places: each as its life cycle asks, no AID twice, the quotas within the capacity
+abbrev pub placesOk : Card → Bool
+placesOk c =
+    allOf (placeOk (c .capacity)) (c .places)
+    && (distinct (c .places) && leb (quotas (c .places)) (c .capacity))
+
+-- roles: one profile ENABLED, the fall-back DISABLED or ENABLED
+abbrev pub rolesOk : Card → Bool
+rolesOk c =
+    eqb (countOf isEnabled (c .places)) 1 && isFinished (at (c .places) (c .fallback) .life)
+
 -- "ticks left 1 to 10 in an open phase", which "holds its one outstanding notification number, the last one issued"
 abbrev pub openOk : ℕ → ℕ → ℕ → Bool
 openOk left number last = leb 1 left && (leb left wait && eqb number last)
@@ -31,13 +46,6 @@ phaseIn (Fallen left number) c =
 unfoldable pub phaseOk : Card → Bool
 phaseOk c = phaseIn (c .phase) c
 
+-- four groups; a new clause goes into one of them
 unfoldable pub sound : Card → Bool
-sound c =
-    sized c
-    && (leb 1 (c .capacity)
-    && (leb (c .capacity) mostCapacity
-    && (allOf (placeOk (c .capacity)) (c .places)
-    && (distinct (c .places)
-    && (eqb (countOf isEnabled (c .places)) 1
-    && (isFinished (at (c .places) (c .fallback) .life)
-    && (leb (quotas (c .places)) (c .capacity) && phaseOk c)))))))
+sound c = sizesOk c && (placesOk c && (rolesOk c && phaseOk c))

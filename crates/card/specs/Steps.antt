@@ -1,19 +1,23 @@
 -- Document 01, 'Steps': tick, lost and confirmation with what they hand out.
 use Prim.Native.Nat.{ℕ}
 use mathlib.Core.Bool.{cond}
-use Rattle.isdp.specs.Aids.{nameOf, noAid}
+use Rattle.isdp.specs.Aids.{noAid}
 use Rattle.isdp.specs.declared.Aid.{Aid}
 use Rattle.places.specs.Places.{at}
 use Rattle.card.specs.Clock.{tickOf, lostOf, confirmOf, dropped}
-use Rattle.card.specs.Notifications.{noticeOf}
+use Rattle.card.specs.Notifications.{noticeSince}
 use Rattle.card.specs.declared.Card.{Card}
 use Rattle.card.specs.declared.Step.{Step}
 use Rattle.card.specs.declared.Phase.{Phase}
 use Rattle.card.specs.declared.Phase.the-variants.{Quiet, Trial, Back, Fallen}
 
--- from card c to card d, with the AID that was deleted
+-- every step is made here: a card after one whose last number was `last`, its notification, and the AID that was deleted
+abbrev pub stepSince : ℕ → Card → Aid → Step
+stepSince last d deleted = record { card = d; notification = noticeSince last d; deleted = deleted }
+
+-- from card c to card d
 abbrev pub stepTo : Card → Card → Aid → Step
-stepTo c d deleted = record { card = d; notification = noticeOf c d; deleted = deleted }
+stepTo c d deleted = stepSince (c .last) d deleted
 
 unfoldable pub tickStep : Card → Step
 tickStep c = stepTo c (tickOf c) noAid
@@ -23,7 +27,7 @@ lostStep c = stepTo c (lostOf c) noAid
 
 -- the AID that the confirmation deletes
 abbrev pub trialGone : Card → ℕ → Aid
-trialGone c previous = cond (dropped c previous) (nameOf (at (c .places) previous)) noAid
+trialGone c previous = cond (dropped c previous) (at (c .places) previous .aid) noAid
 
 abbrev pub goneIn : Phase → Card → Aid
 goneIn Quiet c = noAid

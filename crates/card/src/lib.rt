@@ -14,42 +14,33 @@ ghost use Prim.Native.Nat.{_+_, _*_, _-_, _<_, _≤_};
 ghost use lib.ListN.{length, set};
 ghost use lib.Dec.{leb, ltb, eqb};
 ghost use Rattle.card.specs.declared.Phase.the-variants.{Trial, Back, Fallen};
-ghost use Rattle.card.specs.Cards.{withPhase, withPlaces, isQuiet, placeOf, enabledPlace, freePlace, freeIn, mayBeDeleted, withFallback};
+ghost use Rattle.card.specs.Cards.{isQuiet, placeOf, enabledPlace, freePlace, freeIn, mayBeDeleted, cardWith, withPhase, withPlaces, filled, cleared, rewritten, withFallback};
 ghost use Rattle.places.specs.Places.{at, foundOf};
-ghost use Rattle.card.specs.Sound.{openOk, phaseOk, sound};
+ghost use Rattle.card.specs.Sound.{sizesOk, placesOk, rolesOk, openOk, phaseOk, sound};
 ghost use Rattle.card.specs.Clock.{nextOf, moved, opened, fallen, tickIn, tickOf, lostOf, dropped, trialClosed, outstanding};
 ghost use Rattle.card.specs.Ticks.{ticksByPhase};
 ghost use Rattle.card.specs.Notifications.{silent, kindOf, codeOf, issued, noticeSince};
 ghost use Rattle.card.specs.Answers.{handed, refusedAt, answerAt};
-ghost use Rattle.card.specs.Steps.{stepTo, tickStep, lostStep, trialGone, confirmStep};
+ghost use Rattle.card.specs.Steps.{stepSince, stepTo, tickStep, lostStep, trialGone, confirmStep};
 ghost use Rattle.status.specs.declared.Status.the-variants.{Unsound};
 ghost use Rattle.card.specs.Fresh.{zeroCard, freshOk, freshCard, freshOutcome};
 
 pub enum Phase {
     Quiet,
-    Trial {
-        previous: usize,
-        left: u8,
-        number: u16,
-    },
-    Back {
-        left: u8,
-        number: u16,
-    },
-    Fallen {
-        left: u8,
-        number: u16,
-    },
+    Trial { previous: u8, left: u8, number: u16 },
+    Back { left: u8, number: u16 },
+    Fallen { left: u8, number: u16 },
 }
 
+// The record goes by value: its fields stand in an order that leaves no gaps.
 pub struct Card {
-    pub eid: [u8; 16],
     pub capacity: u32,
     pub volatile: u32,
-    pub last: u16,
-    pub fallback: usize,
-    pub phase: Phase,
     pub places: [Isdp; Card::PLACES],
+    pub phase: Phase,
+    pub last: u16,
+    pub fallback: u8,
+    pub eid: [u8; 16],
 }
 
 pub enum Kind {
@@ -189,7 +180,7 @@ impl Card {
     }
 
     // The profile at a place; one that is not held past the last.
-    pub fn profile(self, i: usize) -> Isdp
+    pub fn profile(self, i: u8) -> Isdp
         ensures { λ r. ⌜ r ≡ at (self .places) i ⌝ }
     {
         let places = self.places;
@@ -197,31 +188,53 @@ impl Card {
     }
 
     // May the profile at a place be deleted, its policy apart?
-    pub fn may_be_deleted(self, i: usize) -> bool
+    pub fn may_be_deleted(self, i: u8) -> bool
         ensures { λ r. ⌜ r ≡ mayBeDeleted self i ⌝ }
     {
         let p = self.profile(i);
         (p.life == Isdp::DISABLED) & (i != self.fallback)
     }
 
-    pub fn with_phase(self, phase: Phase) -> Card
+    // The whole record, spelled once.
+    pub fn with(
+        eid: [u8; 16],
+        capacity: u32,
+        volatile: u32,
+        last: u16,
+        fallback: u8,
+        phase: Phase,
+        places: [Isdp; Card::PLACES],
+    ) -> Card
+        ensures { λ r. ⌜ r ≡ cardWith eid capacity volatile last fallback phase places ⌝ }
+    {
+        Card {
+            capacity,
+            volatile,
+            places,
+            phase,
+            last,
+            fallback,
+            eid,
+        }
+    }
+
+    fn with_phase(self, phase: Phase) -> Card
         ensures { λ r. ⌜ r ≡ withPhase self phase ⌝ }
     {
         let eid = self.eid;
         let places = self.places;
-        Card {
+        Card::with(
             eid,
-            capacity: self.capacity,
-            volatile: self.volatile,
-            last: self.last,
-            fallback: self.fallback,
+            self.capacity,
+            self.volatile,
+            self.last,
+            self.fallback,
             phase,
             places,
-        }
+        )
     }
 
-    // One place written anew.
-    pub fn with_place(self, i: usize, p: Isdp) -> Card
+    fn with_place(self, i: u8, p: Isdp) -> Card
         ensures { λ r. ⌜ r ≡ withPlaces self (set (self .places) i p) ⌝ }
     {
         let before = self.places;
@@ -231,7 +244,28 @@ impl Card {
         after
     }
 
-    pub fn with_fallback(self, i: usize) -> Card
+    // A free place filled with a new profile.
+    pub fn filled(self, i: u8, p: Isdp) -> Card
+        ensures { λ r. ⌜ r ≡ filled self i p ⌝ }
+    {
+        self.with_place(i, p)
+    }
+
+    // A place cleared: the deletion.
+    pub fn cleared(self, i: u8) -> Card
+        ensures { λ r. ⌜ r ≡ cleared self i ⌝ }
+    {
+        self.with_place(i, Isdp::none())
+    }
+
+    // A profile rewritten where it stands, with its AID and its quota.
+    pub fn rewritten(self, i: u8, p: Isdp) -> Card
+        ensures { λ r. ⌜ r ≡ rewritten self i p ⌝ }
+    {
+        self.with_place(i, p)
+    }
+
+    pub fn with_fallback(self, i: u8) -> Card
         ensures { λ r. ⌜ r ≡ withFallback self i ⌝ }
     {
         let mut after = self;
@@ -240,21 +274,15 @@ impl Card {
     }
 
     // The place is enabled, the next number is issued, and the phase opens.
-    pub fn moved(self, i: usize, phase: Phase) -> Card
+    fn moved(self, i: u8, phase: Phase) -> Card
         ensures { λ r. ⌜ r ≡ moved self i phase ⌝ }
     {
-        let eid = self.eid;
         let before = self.places;
         let places = places::enable_at(before, i);
-        Card {
-            eid,
-            capacity: self.capacity,
-            volatile: self.volatile,
-            last: next(self.last),
-            fallback: self.fallback,
-            phase,
-            places,
-        }
+        let mut after = self;
+        after.last = next(self.last);
+        after.places = places;
+        after.with_phase(phase)
     }
 }
 
@@ -287,18 +315,34 @@ impl Card {
         }
     }
 
-    pub fn is_sound(self) -> bool
-        ensures { λ r. ⌜ r ≡ sound self ⌝ }
+    // The other sizes hold of every record by its types.
+    fn sizes_ok(self) -> bool
+        ensures { λ r. ⌜ r ≡ sizesOk self ⌝ }
+    {
+        (1 <= self.capacity) & (self.capacity <= Card::CAPACITY)
+    }
+
+    fn places_ok(self) -> bool
+        ensures { λ r. ⌜ r ≡ placesOk self ⌝ }
+    {
+        let places = self.places;
+        places::all_ok(places, self.capacity)
+            & (places::all_distinct(places) & places::within(places, self.capacity))
+    }
+
+    fn roles_ok(self) -> bool
+        ensures { λ r. ⌜ r ≡ rolesOk self ⌝ }
     {
         let places = self.places;
         let p = self.profile(self.fallback);
-        (1 <= self.capacity)
-            & ((self.capacity <= Card::CAPACITY)
-                & (places::all_ok(places, self.capacity)
-                    & (places::all_distinct(places)
-                        & ((places::count_enabled(places) == 1)
-                            & (((p.life == Isdp::DISABLED) | (p.life == Isdp::ENABLED))
-                                & (places::within(places, self.capacity) & self.phase_ok()))))))
+        (places::count_enabled(places) == 1)
+            & ((p.life == Isdp::DISABLED) | (p.life == Isdp::ENABLED))
+    }
+
+    pub fn is_sound(self) -> bool
+        ensures { λ r. ⌜ r ≡ sound self ⌝ }
+    {
+        self.sizes_ok() & (self.places_ok() & (self.roles_ok() & self.phase_ok()))
     }
 
     // The ticks still to come, by the phase; the definitions count them step by step.
@@ -348,11 +392,11 @@ impl Notification {
 
 impl Card {
     // The number of the enabled place, of places if there is none.
-    pub fn enabled_place(self) -> usize
+    pub fn enabled_place(self) -> u8
         ensures { λ r. ⌜ r ≡ enabledPlace self ⌝ }
     {
         let Found::At(e) = self.enabled() else {
-            return Card::PLACES;
+            return Card::PLACES as u8;
         };
         e
     }
@@ -365,7 +409,7 @@ impl Card {
         let eid = self.eid;
         let kind = phase.kind();
         let p = self.profile(self.enabled_place());
-        let aid = p.name();
+        let aid = p.aid;
         Notification {
             kind,
             number: self.last,
@@ -384,13 +428,14 @@ impl Card {
         self.issued()
     }
 
-    // The step from this card to another.
-    pub fn step_to(self, after: Card, deleted: Aid) -> Step
-        ensures { λ r. ⌜ r ≡ stepTo self after deleted ⌝ }
+    // Every step is made here: this card comes after one whose last number was `last`. It takes that number and not the old card, so
+    // that no card is copied for it.
+    pub fn step_since(self, last: u16, deleted: Aid) -> Step
+        ensures { λ r. ⌜ r ≡ stepSince last self deleted ⌝ }
     {
-        let notification = after.noticed(self.last);
+        let notification = self.noticed(last);
         Step {
-            card: after,
+            card: self,
             notification,
             deleted,
         }
@@ -411,7 +456,7 @@ impl Card {
     }
 
     // A tick in Trial.
-    fn trial_ticked(self, previous: usize, left: u8, number: u16) -> Card
+    fn trial_ticked(self, previous: u8, left: u8, number: u16) -> Card
         ensures { λ r. ⌜ r ≡ tickIn (Trial previous left number) self ⌝ }
     {
         if left > 1 {
@@ -482,7 +527,7 @@ impl Card {
     }
 
     // The card after the network was lost.
-    fn cut_off(self) -> Card
+    fn without_network(self) -> Card
         ensures { λ r. ⌜ r ≡ lostOf self ⌝ }
     {
         let phase = self.phase;
@@ -497,7 +542,7 @@ impl Card {
     }
 
     // The change to the profile at a place is opened: Trial.
-    pub fn opened(self, t: usize) -> Card
+    pub fn opened(self, t: u8) -> Card
         ensures { λ r. ⌜ r ≡ opened self t ⌝ }
     {
         let e = self.enabled_place();
@@ -513,51 +558,36 @@ impl Card {
     }
 
     // Does the confirmation delete the profile at a place?
-    fn drops(self, i: usize) -> bool
+    fn drops(self, i: u8) -> bool
         ensures { λ r. ⌜ r ≡ dropped self i ⌝ }
     {
         let p = self.profile(i);
         once_disabled(p.policy) & (i != self.fallback)
     }
 
-    // Tick and lost make their step themselves: `step_to` would have both cards copied for it.
     pub fn tick(self) -> Step
         ensures { λ r. ⌜ r ≡ tickStep self ⌝ }
     {
-        let after = self.ticked();
-        let notification = after.noticed(self.last);
-        let deleted = Aid::none();
-        Step {
-            card: after,
-            notification,
-            deleted,
-        }
+        self.ticked().step_since(self.last, Aid::none())
     }
 
     pub fn lost(self) -> Step
         ensures { λ r. ⌜ r ≡ lostStep self ⌝ }
     {
-        let after = self.cut_off();
-        let notification = after.noticed(self.last);
-        let deleted = Aid::none();
-        Step {
-            card: after,
-            notification,
-            deleted,
-        }
+        self.without_network().step_since(self.last, Aid::none())
     }
 
     // Trial is closed by its confirmation, and the previous profile may go with it.
-    fn trial_confirmed(self, previous: usize) -> Step
+    fn trial_confirmed(self, previous: u8) -> Step
         ensures { λ r. ⌜ r ≡ stepTo self (trialClosed self previous) (trialGone self previous) ⌝ }
     {
         let quiet = self.with_phase(Phase::Quiet);
         if self.drops(previous) {
             let p = self.profile(previous);
-            let none = Isdp::none();
-            return self.step_to(quiet.with_place(previous, none), p.name());
+            let after = quiet.cleared(previous);
+            return after.step_since(self.last, p.aid);
         }
-        self.step_to(quiet, Aid::none())
+        quiet.step_since(self.last, Aid::none())
     }
 
     // The change is closed by its confirmation.
@@ -567,14 +597,14 @@ impl Card {
         let phase = self.phase;
         let quiet = self.with_phase(Phase::Quiet);
         match phase {
-            Phase::Quiet => self.step_to(quiet, Aid::none()),
+            Phase::Quiet => quiet.step_since(self.last, Aid::none()),
             Phase::Trial {
                 previous,
                 left: _,
                 number: _,
             } => self.trial_confirmed(previous),
-            Phase::Back { .. } => self.step_to(quiet, Aid::none()),
-            Phase::Fallen { .. } => self.step_to(quiet, Aid::none()),
+            Phase::Back { .. } => quiet.step_since(self.last, Aid::none()),
+            Phase::Fallen { .. } => quiet.step_since(self.last, Aid::none()),
         }
     }
 
@@ -609,15 +639,15 @@ impl Card {
 }
 
 impl Step {
-    // The answer of an accepted call with so many response bytes.
-    pub fn answer(self, length: usize) -> Answer
-        ensures { λ r. ⌜ r ≡ answerAt (ticksByPhase (self .card)) self length ⌝ }
+    // The answer of an accepted call with its word of success and so many response bytes.
+    pub fn answer(self, word: Status, length: usize) -> Answer
+        ensures { λ r. ⌜ r ≡ answerAt (ticksByPhase (self .card)) word self length ⌝ }
     {
         let card = self.card;
         let notification = self.notification;
         let ticks = card.ticks_to_come();
         Answer {
-            status: Status::Done,
+            status: word,
             card,
             length,
             notification,
@@ -634,15 +664,7 @@ impl Card {
         let eid = [0u8; 16];
         let none = Isdp::none();
         let places = [none; Card::PLACES];
-        Card {
-            eid,
-            capacity: 0,
-            volatile: 0,
-            last: 0,
-            fallback: 0,
-            phase: Phase::Quiet,
-            places,
-        }
+        Card::with(eid, 0, 0, 0, 0, Phase::Quiet, places)
     }
 
     // Are the inputs of a fresh card within the sizes?
@@ -665,15 +687,7 @@ impl Card {
         let none = Isdp::none();
         let mut places = [none; Card::PLACES];
         places[0] = Isdp::made(aid, Isdp::ENABLED, quota, used);
-        Card {
-            eid: bytes,
-            capacity,
-            volatile,
-            last: 0,
-            fallback: 0,
-            phase: Phase::Quiet,
-            places,
-        }
+        Card::with(bytes, capacity, volatile, 0, 0, Phase::Quiet, places)
     }
 
     pub fn fresh(
@@ -691,6 +705,7 @@ impl Card {
             return zero.refused(Status::DataWrong);
         }
         let card = Card::first(eid, aid, capacity, quota, used, volatile);
-        zero.step_to(card, Aid::none()).answer(0)
+        card.step_since(zero.last, Aid::none())
+            .answer(Status::Done, 0)
     }
 }

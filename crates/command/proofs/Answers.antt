@@ -27,7 +27,7 @@ pub record Passes (s : List ℕ) (capacity : ℕ) : Type 0 where
   pub dataRight : dataWrong s capacity ≡ false
 
 done-rows : (a b c d e f : Bool)
-    → isDone (wordOf (row a status.LengthWrong ∷ row b status.ClassWrong ∷ row c status.InstructionWrong ∷ row d status.ParametersWrong ∷ row e status.LengthWrong ∷ row f status.DataWrong ∷ [])) ≡ true
+    → isDone (wordOf status.Done (row a status.LengthWrong ∷ row b status.ClassWrong ∷ row c status.InstructionWrong ∷ row d status.ParametersWrong ∷ row e status.LengthWrong ∷ row f status.DataWrong ∷ [])) ≡ true
     → (a ≡ false) × ((b ≡ false) × ((c ≡ false) × ((d ≡ false) × ((e ≡ false) × (f ≡ false)))))
 unfolding wordOf
 done-rows true b c d e f h = absurd (false≢true h)
@@ -53,57 +53,57 @@ found-case field.Wrong h = absurd (false≢true (sym h))
 found-case (field.Found r) h = (r, refl)
 
 -- rows after a row that refuses are not asked
-word-case : (b : Bool) (w : Status) (rs more : List Row) → isDone (cond b w (wordOf rs)) ≡ false
-    → (isDone (wordOf rs) ≡ false → wordOf (rs ++ more) ≡ wordOf rs) → cond b w (wordOf (rs ++ more)) ≡ cond b w (wordOf rs)
-word-case true w rs more h f = refl
-word-case false w rs more h f = f h
+word-case : (success : Status) (b : Bool) (w : Status) (rs more : List Row) → isDone (cond b w (wordOf status.Done rs)) ≡ false
+    → (isDone (wordOf status.Done rs) ≡ false → wordOf success (rs ++ more) ≡ wordOf status.Done rs) → cond b w (wordOf success (rs ++ more)) ≡ cond b w (wordOf status.Done rs)
+word-case success true w rs more h f = refl
+word-case success false w rs more h f = f h
 
-word-stops : (rs more : List Row) → isDone (wordOf rs) ≡ false → wordOf (rs ++ more) ≡ wordOf rs
+word-stops : (success : Status) (rs more : List Row) → isDone (wordOf status.Done rs) ≡ false → wordOf success (rs ++ more) ≡ wordOf status.Done rs
 unfolding wordOf
-word-stops [] more h = absurd (false≢true (sym h))
-word-stops (r ∷ rs) more h = word-case (r .when) (r .word) rs more h (word-stops rs more)
+word-stops success [] more h = absurd (false≢true (sym h))
+word-stops success (r ∷ rs) more h = word-case success (r .when) (r .word) rs more h (word-stops success rs more)
 
 module _ (s : List ℕ) (capacity : ℕ) where
   -- for a table that goes on after these rows: it stops at them, or goes past them
-  pub rows-stop : (more : List Row) → isDone (wordOf (readingRows s capacity)) ≡ false → wordOf (readingRows s capacity ++ more) ≡ wordOf (readingRows s capacity)
-  rows-stop more h = word-stops (readingRows s capacity) more h
+  pub rows-stop : (success : Status) (more : List Row) → isDone (wordOf status.Done (readingRows s capacity)) ≡ false → wordOf success (readingRows s capacity ++ more) ≡ wordOf status.Done (readingRows s capacity)
+  rows-stop success more h = word-stops success (readingRows s capacity) more h
 
-  pub rows-pass : (more : List Row) → Passes s capacity → wordOf (readingRows s capacity ++ more) ≡ wordOf more
+  pub rows-pass : (success : Status) (more : List Row) → Passes s capacity → wordOf success (readingRows s capacity ++ more) ≡ wordOf success more
   unfolding wordOf
-  rows-pass more p = rw (p .lengthRight, p .classRight, p .instructionRight, p .parametersRight, p .shapeRight, p .dataRight) refl
+  rows-pass success more p = rw (p .lengthRight, p .classRight, p .instructionRight, p .parametersRight, p .shapeRight, p .dataRight) refl
 
-  pub done-passes : isDone (wordOf (readingRows s capacity)) ≡ true → Passes s capacity
+  pub done-passes : isDone (wordOf status.Done (readingRows s capacity)) ≡ true → Passes s capacity
   done-passes h =
       let p = done-rows (lengthWrong s) (classWrong s) (instructionWrong s) (parametersWrong s) (shapeWrong s) (dataWrong s capacity) h in
       record { lengthRight = p .0; classRight = p .1 .0; instructionRight = p .1 .1 .0; parametersRight = p .1 .1 .1 .0; shapeRight = p .1 .1 .1 .1 .0; dataRight = p .1 .1 .1 .1 .1 }
 
-  pub passes-done : Passes s capacity → wordOf (readingRows s capacity) ≡ status.Done
+  pub passes-done : Passes s capacity → wordOf status.Done (readingRows s capacity) ≡ status.Done
   unfolding wordOf
   passes-done p = rw (p .lengthRight, p .classRight, p .instructionRight, p .parametersRight, p .shapeRight, p .dataRight) refl
 
-  right-of : isDone (wordOf (readingRows s capacity)) ≡ true → isWrong (fieldOf s capacity) ≡ false
+  right-of : isDone (wordOf status.Done (readingRows s capacity)) ≡ true → isWrong (fieldOf s capacity) ≡ false
   unfolding dataWrong
   right-of h = done-passes h .dataRight
 
   -- `Refused w` exactly where the rows' word is w and no success
-  pub refused-word : (w : Status) → reading.Refused w ≡ readOf s capacity → (w ≡ wordOf (readingRows s capacity)) × (isDone w ≡ false)
+  pub refused-word : (w : Status) → reading.Refused w ≡ readOf s capacity → (w ≡ wordOf status.Done (readingRows s capacity)) × (isDone w ≡ false)
   unfolding readOf
   refused-word w q =
-      let r = refused-case (isDone (wordOf (readingRows s capacity))) (wordOf (readingRows s capacity)) w (fieldOf s capacity) right-of q in
+      let r = refused-case (isDone (wordOf status.Done (readingRows s capacity))) (wordOf status.Done (readingRows s capacity)) w (fieldOf s capacity) right-of q in
       (r .0, ap isDone (r .0) ∙ r .1)
 
-  pub word-refused : isDone (wordOf (readingRows s capacity)) ≡ false → reading.Refused (wordOf (readingRows s capacity)) ≡ readOf s capacity
+  pub word-refused : isDone (wordOf status.Done (readingRows s capacity)) ≡ false → reading.Refused (wordOf status.Done (readingRows s capacity)) ≡ readOf s capacity
   unfolding readOf
   word-refused h = rw h refl
 
   -- `Read r` exactly where the rows' word is 90 00; r is then what the data field's reader found
-  pub read-done : (r : Request) → reading.Read r ≡ readOf s capacity → (wordOf (readingRows s capacity) ≡ status.Done) × (field.Found r ≡ fieldOf s capacity)
+  pub read-done : (r : Request) → reading.Read r ≡ readOf s capacity → (wordOf status.Done (readingRows s capacity) ≡ status.Done) × (field.Found r ≡ fieldOf s capacity)
   unfolding readOf
   read-done r q =
-      let p = read-case (isDone (wordOf (readingRows s capacity))) (wordOf (readingRows s capacity)) (fieldOf s capacity) r q in
+      let p = read-case (isDone (wordOf status.Done (readingRows s capacity))) (wordOf status.Done (readingRows s capacity)) (fieldOf s capacity) r q in
       (passes-done (done-passes (p .0)), p .1)
 
-  pub done-read : wordOf (readingRows s capacity) ≡ status.Done → (r : Request) × (reading.Read r ≡ readOf s capacity)
+  pub done-read : wordOf status.Done (readingRows s capacity) ≡ status.Done → (r : Request) × (reading.Read r ≡ readOf s capacity)
   unfolding readOf
   done-read h =
       let d = ap isDone h in

@@ -6,7 +6,7 @@ use mathlib.Core.List.{List}
 use mathlib.Core.Option.{Option, none, some}
 use mathlib.Core.Bool.{false}
 use native.Mathlib.Omega.{arith}
-use Rattle.tlv.specs.Tlv.{byte}
+use Rattle.byte_string.specs.Bytes.{byte}
 use Rattle.choice.proofs.Branches.{eq!, ne! }
 use Rattle.fields.specs.Grammar.{Stored, storedOf, Deleted, deletedOf, Asked, listedOf}
 use Rattle.fields.specs.declared.StoreData.{StoreData}

@@ -9,7 +9,7 @@ use lib.ListN.{length, getD, take, drop, length-append, take-append-drop, drop-o
 use lib.Seq.{getD-append-seam, length-take-le, drop-cons}
 use lib.Dec.{eqb}
 use borrow.Author.Tests.{eq-eqb, ne-eqb, eqb-true, eqb-false, not-true}
-use Rattle.tlv.specs.Tlv.{byte}
+use Rattle.byte_string.specs.Bytes.{byte}
 use Rattle.command.specs.Framing.{shapeRight, isFilled, dataEnd}
 use Rattle.command.specs.Frame.{leOf, framed, dataField, hasLe}
 

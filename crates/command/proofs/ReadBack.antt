@@ -9,7 +9,7 @@ use native.Mathlib.Omega.{arith}
 use lib.ListN.{length}
 use lib.Seq.{take-append-seam}
 use borrow.Author.Tests.{le-ltb}
-use Rattle.tlv.specs.Tlv.{byte}
+use Rattle.byte_string.specs.Bytes.{byte}
 use Rattle.tlv.specs.Encoding.{window}
 use Rattle.fields.specs.Grammar.{EncodesStored, EncodesDeleted, EncodesListed}
 use Rattle.fields.specs.StoreData.{storeDataAt}

@@ -5,11 +5,12 @@ use mathlib.Core.Path.{_≡_, sym, subst}
 use mathlib.Core.List.{List}
 use mathlib.Core.Bool.{Bool}
 use native.Mathlib.Omega.{arith}
+use Rattle.byte_string.specs.Bytes.{between}
 use Rattle.tlv.specs.Tlv.{expectAt}
 use Rattle.tlv.specs.declared.Element.the-variants as element
 use Rattle.choice.proofs.Branches.{each-eq, each-lt}
 use Rattle.tlv.proofs.Inside.{Expected, expect-parts}
-use Rattle.fields.specs.Alone.{aloneAt, partOf}
+use Rattle.fields.specs.Alone.{aloneAt}
 use Rattle.fields.specs.StoreData.{dgiAt, onDgi, confirmationAt, namedBy, storeDataAt}
 use Rattle.fields.specs.Delete.{verificationAt, onFilled, deletionAt}
 use Rattle.fields.specs.GetStatus.{tagsAt, onShown, listingAt}
@@ -52,7 +53,7 @@ FieldIn s capacity field.Wrong = Unit
 FieldIn s capacity (field.Found r) = RequestIn s capacity r
 
 module _ (s : List ℕ) (capacity at end : ℕ) where
-  placed : (t low start stop : ℕ) → 5 ≤ stop - start → Expected s at end t low 16 start stop → Placed s (partOf start stop)
+  placed : (t low start stop : ℕ) → 5 ≤ stop - start → Expected s at end t low 16 start stop → Placed s (between start stop)
   placed t low start stop h x = let i = x .inside in record { held = omega arith; least = h; most = x .most }
 
 module _ (s : List ℕ) (capacity end : ℕ) where

@@ -9,7 +9,7 @@ use native.Mathlib.Omega.{arith}
 use lib.ListN.{length}
 use lib.Dec.{eqb}
 use borrow.Author.Tests.{eqb-true, ne-eqb, eq-eqb, not-false}
-use Rattle.tlv.specs.Tlv.{byte}
+use Rattle.byte_string.specs.Bytes.{byte}
 use Rattle.tlv.specs.Encoding.{window, Bytes}
 use Rattle.choice.proofs.Branches.{each-eq}
 use Rattle.fields.specs.StoreData.{storeDataAt}

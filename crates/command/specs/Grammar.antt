@@ -6,8 +6,9 @@ use mathlib.Core.List.{List, [], _∷_}
 use mathlib.Core.Option.{Option, none, some}
 use mathlib.Core.Bool.{Bool, true}
 use lib.ListN.{length}
+use Rattle.byte_string.specs.Bytes.{partOf}
 use Rattle.tlv.specs.Encoding.{Bytes}
-use Rattle.fields.specs.Grammar.{partBytes, Stored, enable, disable, setFallBack, confirmation, EncodesStored, Deleted, delete, masterDelete, EncodesDeleted, Asked, asked, EncodesListed}
+use Rattle.fields.specs.Grammar.{Stored, enable, disable, setFallBack, confirmation, EncodesStored, Deleted, delete, masterDelete, EncodesDeleted, Asked, asked, EncodesListed}
 use Rattle.install.specs.Grammar.{Created, EncodesInstall}
 use Rattle.command.specs.declared.request.Request.{Request}
 use Rattle.command.specs.declared.request.Request.the-variants as request
@@ -26,15 +27,15 @@ pub data Wanted : Type 0 where
   getData : Wanted
 
 abbrev pub wantedOf : List ℕ → Request → Wanted
-wantedOf s (request.Create part quota) = create (record { aid = partBytes s part; quota = quota })
-wantedOf s (request.Enable part) = storeData (enable (partBytes s part))
-wantedOf s (request.Disable part) = storeData (disable (partBytes s part))
-wantedOf s (request.SetFallBack part) = storeData (setFallBack (partBytes s part))
+wantedOf s (request.Create part quota) = create (record { aid = partOf s part; quota = quota })
+wantedOf s (request.Enable part) = storeData (enable (partOf s part))
+wantedOf s (request.Disable part) = storeData (disable (partOf s part))
+wantedOf s (request.SetFallBack part) = storeData (setFallBack (partOf s part))
 wantedOf s (request.Confirm number) = storeData (confirmation number)
-wantedOf s (request.Delete part) = deletion (delete (partBytes s part))
-wantedOf s (request.MasterDelete part) = deletion (masterDelete (partBytes s part))
+wantedOf s (request.Delete part) = deletion (delete (partOf s part))
+wantedOf s (request.MasterDelete part) = deletion (masterDelete (partOf s part))
 wantedOf s (request.GetStatusOfAll life fallBack) = getStatus (asked [] life fallBack)
-wantedOf s (request.GetStatusOfOne part life fallBack) = getStatus (asked (partBytes s part) life fallBack)
+wantedOf s (request.GetStatusOfOne part life fallBack) = getStatus (asked (partOf s part) life fallBack)
 wantedOf s request.GetData = getData
 
 abbrev pub readAs : List ℕ → Reading → Option Wanted

@@ -28,12 +28,12 @@ abbrev pub accepted : Field → Reading
 accepted field.Wrong = reading.Refused status.DataWrong
 accepted (field.Found r) = reading.Read r
 
--- the word of a refusal; 90 00 where a request was read
-abbrev pub wordIn : Reading → Status
-wordIn (reading.Read r) = status.Done
-wordIn (reading.Refused w) = w
-
 -- the word of the first row whose condition holds, otherwise the request
 unfoldable pub readOf : List ℕ → ℕ → Reading
 readOf s capacity =
-    cond (isDone (wordOf (readingRows s capacity))) (accepted (fieldOf s capacity)) (reading.Refused (wordOf (readingRows s capacity)))
+    cond (isDone (wordOf status.Done (readingRows s capacity))) (accepted (fieldOf s capacity)) (reading.Refused (wordOf status.Done (readingRows s capacity)))
+
+-- the word of a refusal; 90 00 where the command was read
+abbrev pub readingWord : Reading → Status
+readingWord (reading.Read r) = status.Done
+readingWord (reading.Refused word) = word

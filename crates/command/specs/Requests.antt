@@ -16,7 +16,7 @@ use Rattle.fields.specs.declared.Listing.the-variants as listing
 use Rattle.install.specs.Install.{installOf}
 use Rattle.install.specs.declared.Installation.{Installation}
 use Rattle.install.specs.declared.Installation.the-variants as installation
-use Rattle.tlv.specs.Tlv.{byte}
+use Rattle.byte_string.specs.Bytes.{byte}
 use Rattle.command.specs.Framing.{dataEnd}
 use Rattle.command.specs.declared.request.Request.the-variants as request
 use Rattle.command.specs.declared.request.Field.{Field}

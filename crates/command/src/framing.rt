@@ -1,7 +1,7 @@
 // The rows of the table that a command meets before its data field is read. Each takes the whole string, of any length;
 // a byte that is not there reads as 00, so that a row can be asked whatever the rows before it say.
+use byte_string::byte_at;
 ghost use mathlib.Core.Path.{_≡_};
-ghost use Rattle.tlv.specs.Tlv.{byte};
 ghost use Rattle.command.specs.Framing.{lengthWrong, classRight, classWrong, instructionWrong, parametersRight, parametersWrong, dataEnd, shapeWrong};
 
 pub const INSTALL: u8 = 0xE6;
@@ -13,15 +13,6 @@ pub const STORE_DATA: u8 = 0xE2;
 pub const GET_STATUS: u8 = 0xF2;
 
 pub const GET_DATA: u8 = 0xCA;
-
-pub fn byte_at(bytes: &[u8], at: usize) -> u8
-    ensures { λ r. ⌜ r ≡ byte (now (bytes .entry)) at ⌝ }
-{
-    if at < bytes.len() {
-        return bytes[at];
-    }
-    0
-}
 
 pub fn length_wrong(bytes: &[u8]) -> bool
     ensures { λ r. ⌜ r ≡ lengthWrong (now (bytes .entry)) ⌝ }

@@ -12,7 +12,7 @@ pub use request::Request;
 use request::read_field;
 use status::Status;
 ghost use mathlib.Core.Path.{_≡_};
-ghost use Rattle.command.specs.Reading.{readOf, wordIn};
+ghost use Rattle.command.specs.Reading.{readOf, readingWord};
 
 pub enum Reading {
     Read(Request),
@@ -20,13 +20,13 @@ pub enum Reading {
 }
 
 impl Reading {
-    // The word of the refusal; 90 00 where a request was read.
+    // The word of a refusal; `Done` where the command was read.
     pub fn word(self) -> Status
-        ensures { λ r. ⌜ r ≡ wordIn self ⌝ }
+        ensures { λ r. ⌜ r ≡ readingWord self ⌝ }
     {
         match self {
             Reading::Read(_) => Status::Done,
-            Reading::Refused(word) => word,
+            Reading::Refused(status) => status,
         }
     }
 }

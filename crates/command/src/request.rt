@@ -3,8 +3,9 @@ use crate::framing::DELETE;
 use crate::framing::GET_STATUS;
 use crate::framing::INSTALL;
 use crate::framing::STORE_DATA;
-use crate::framing::byte_at;
 use crate::framing::data_end;
+use byte_string::Part;
+use byte_string::byte_at;
 use fields::Deletion;
 use fields::Listing;
 use fields::StoreData;
@@ -13,7 +14,6 @@ use fields::read_listing;
 use fields::read_store_data;
 use install::Installation;
 use install::read_install;
-use tlv::Part;
 ghost use mathlib.Core.Path.{_≡_};
 ghost use Rattle.command.specs.Requests.{createOf, storeDataOf, deletionOf, listingOf, fieldOf};
 

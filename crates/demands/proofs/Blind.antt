@@ -8,12 +8,13 @@ use lib.ListN.{set}
 use lib.Seq.{getD-set-same, getD-set-other}
 use lib.Dec.{eqb}
 use borrow.Author.Tests.{eqb-true, eqb-false, not-true}
-use Rattle.isdp.specs.Aids.{sameBytes, aidOf}
+use Rattle.byte_string.specs.Bytes.{sameBytes}
+use Rattle.isdp.specs.Aids.{aidOf}
 use Rattle.isdp.specs.LifeCycle.{personalized, withLife, withUsed, finish}
 use Rattle.isdp.specs.Place.{vacant, held, isFor}
 use Rattle.isdp.specs.declared.Isdp.{Isdp}
 use Rattle.isdp.proofs.Bools.{and-r}
-use Rattle.isdp.proofs.Alike.{same-true, same-self}
+use Rattle.byte_string.proofs.Alike.{same-true, same-self}
 use Rattle.places.specs.Places.{at}
 use Rattle.places.proofs.Seeks.{seek-below, bears}
 use Rattle.places.proofs.Lives.{Lives, enable-lives, lives-at}

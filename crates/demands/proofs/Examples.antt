@@ -1,7 +1,8 @@
 -- Document 01, 'Marked examples', by computing. Assumes nothing.
 use mathlib.Core.Path.{refl}
 use Rattle.status.specs.Rows.{wordOf}
-use Rattle.isdp.specs.Aids.{sameBytes, padded}
+use Rattle.byte_string.specs.Bytes.{sameBytes}
+use Rattle.isdp.specs.Aids.{padded}
 use Rattle.isdp.specs.Place.{isFor, clash, zeros, placeOk}
 use Rattle.places.specs.Places.{seek, quotas, allOf, anyOf, countOf, distinct, allOff, enableAt}
 use Rattle.card.specs.Sound.{phaseOk, sound}

@@ -12,7 +12,8 @@ use Rattle.status.specs.StatusWords.{isDone}
 use Rattle.status.specs.Rows.{wordOf}
 use Rattle.status.specs.declared.Status.the-variants.{Done}
 use Rattle.isdp.specs.Sizes.{mostPlaces, eidSize}
-use Rattle.isdp.specs.Aids.{sameBytes, padded}
+use Rattle.byte_string.specs.Bytes.{sameBytes}
+use Rattle.isdp.specs.Aids.{padded}
 use Rattle.isdp.specs.LifeCycle.{disabled, enabled}
 use Rattle.isdp.specs.Place.{vacant, made, isFor, clash, zeros, placeOk}
 use Rattle.isdp.proofs.Bools.{and-l, and-r}

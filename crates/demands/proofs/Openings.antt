@@ -10,7 +10,7 @@ use Rattle.status.specs.Rows.{wordOf}
 use Rattle.status.proofs.Tables.{Passed}
 use Rattle.isdp.specs.Aids.{aidOf, nameOf}
 use Rattle.isdp.specs.Place.{held, isFor}
-use Rattle.isdp.proofs.Alike.{same-true}
+use Rattle.byte_string.proofs.Alike.{same-true}
 use Rattle.isdp.specs.LifeCycle.{disabled, isEnabled}
 use Rattle.isdp.proofs.Bools.{and-l, and-r}
 use Rattle.places.specs.Places.{at}

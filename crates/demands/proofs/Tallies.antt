@@ -10,11 +10,13 @@ use lib.Seq.{take-all, take-append-seam}
 use lib.Dec.{leb, eqb}
 use borrow.Author.Tests.{not-true, eqb-true, ne-eqb, leb-true}
 use Rattle.isdp.specs.Sizes.{leastAid, mostAid}
-use Rattle.isdp.specs.Aids.{sameBytes, aidOk, padded, aidOf}
+use Rattle.byte_string.specs.Bytes.{sameBytes}
+use Rattle.isdp.specs.Aids.{aidOk, padded, aidOf}
 use Rattle.isdp.specs.Place.{vacant, made, held, isFor, clash, placeOk}
 use Rattle.isdp.specs.declared.Isdp.{Isdp}
 use Rattle.isdp.proofs.Bools.{and-l, and-r, both, or-l, or-r}
-use Rattle.isdp.proofs.Alike.{same-true, same-self, clash-none}
+use Rattle.byte_string.proofs.Alike.{same-true, same-self}
+use Rattle.isdp.proofs.Alike.{clash-none}
 use Rattle.places.specs.Places.{at, quotas, allOf, anyOf, distinct}
 use Rattle.places.proofs.Lives.{Lives, Lives.ended, Lives.place}
 use Rattle.steps.proofs.Creates.{empty}

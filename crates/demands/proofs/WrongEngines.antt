@@ -17,7 +17,8 @@ use Rattle.card.proofs.Freshness.{fresh-sound}
 use Rattle.manager.specs.Calls.{Call}
 use Rattle.manager.proofs.Kept.{step-sound, run-sound}
 use Rattle.status.specs.Rows.{wordOf}
-use Rattle.isdp.specs.Aids.{sameBytes, padded, noAid}
+use Rattle.byte_string.specs.Bytes.{sameBytes}
+use Rattle.isdp.specs.Aids.{padded, noAid}
 use Rattle.isdp.specs.Place.{isFor, clash, zeros, placeOk}
 use Rattle.places.specs.Places.{seek, quotas, allOf, anyOf, countOf, distinct, allOff, enableAt}
 use Rattle.card.specs.Sound.{phaseOk, sound}

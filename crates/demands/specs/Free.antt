@@ -6,7 +6,7 @@ use mathlib.Core.List.{List, [], _∷_, _++_}
 use mathlib.Core.Bool.{true, cond}
 use lib.ListN.{drop}
 use Rattle.status.specs.StatusWords.{isDone}
-use Rattle.isdp.specs.Aids.{sameBytes}
+use Rattle.byte_string.specs.Bytes.{sameBytes}
 use Rattle.card.specs.Cards.{freeIn}
 use Rattle.command.specs.Requests.{fieldOf}
 use Rattle.steps.specs.Asked.{Act, Act.enable, Act.disable, Act.delete, Act.masterDelete, Act.setFallBack, Act.status, Act.keyed, Act.stored, Act.finished, Asked, Asked.unread, Asked.create, Asked.on, Asked.confirm, Asked.statusOfAll, Asked.getData, Asked.tick, Asked.lost}

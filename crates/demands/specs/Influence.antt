@@ -5,7 +5,7 @@ use mathlib.Core.Path.{_≡_}
 use mathlib.Core.List.{List, [], _∷_, _++_}
 use mathlib.Core.Bool.{Bool, true, false, not, _&&_}
 use lib.ListN.{set}
-use Rattle.isdp.specs.Aids.{sameBytes}
+use Rattle.byte_string.specs.Bytes.{sameBytes}
 use Rattle.isdp.specs.LifeCycle.{withUsed}
 use Rattle.card.specs.Cards.{placeOf, profileOf, withPlaces}
 use Rattle.card.specs.Sound.{sound}

@@ -6,23 +6,24 @@ use mathlib.Core.List.{List, [], _++_, append-nil}
 use mathlib.Core.Option.{some}
 use native.Mathlib.Omega.{arith}
 use lib.ListN.{length}
+use Rattle.byte_string.specs.Bytes.{between, partOf}
 use Rattle.tlv.specs.Tlv.{expectAt}
 use Rattle.tlv.specs.declared.Element.the-variants as element
 use Rattle.tlv.specs.Encoding.{window, Bytes, encodeElement}
 use Rattle.choice.proofs.Branches.{each-eq, eq!, ne! }
 use Rattle.tlv.proofs.Inside.{Expected, expect-parts, expect-inside}
-use Rattle.tlv.proofs.Windows.{window-length}
+use Rattle.tlv.proofs.Windows.{window-length, window-part}
 use Rattle.tlv.proofs.Written.{element-written}
 use Rattle.tlv.proofs.ReadBack.{one, two, element-back}
 use Rattle.fields.specs.declared.Verification.{Verification}
 use Rattle.fields.specs.declared.Verification.the-variants as verification
 use Rattle.fields.specs.declared.Deletion.{Deletion}
 use Rattle.fields.specs.declared.Deletion.the-variants as deletion
-use Rattle.fields.specs.Alone.{aloneAt, partOf}
+use Rattle.fields.specs.Alone.{aloneAt}
 use Rattle.fields.specs.Delete.{verificationAt, deletionAt}
-use Rattle.fields.specs.Grammar.{Named, Deleted, delete, masterDelete, deletedOf, partBytes, Verified, Given, encodeVerification, LegalVerified, encodeMasterDelete, EncodesDeleted, DeletionBack, DeletionWritten}
+use Rattle.fields.specs.Grammar.{Named, Deleted, delete, masterDelete, deletedOf, Verified, Given, encodeVerification, LegalVerified, encodeMasterDelete, EncodesDeleted, DeletionBack, DeletionWritten}
 use Rattle.fields.proofs.Only.{alone-expected}
-use Rattle.fields.proofs.Parts.{alone-back, alone-written, part-bytes, part-named}
+use Rattle.fields.proofs.Parts.{alone-back, alone-written, part-named}
 use Rattle.fields.proofs.Cases.{each-filled, same-value, no-value}
 use Rattle.tlv.proofs.Branches.{each-found}
 use Rattle.tlv.proofs.Written.{elements-written}
@@ -46,8 +47,8 @@ deletion-back s at end (delete aid) ordered held (named, q) =
     let n : end - a .stop ≡ 0 = sym (window-length s (a .stop) end held) ∙ ap length (a .after) in
     let w = a .within in let l = a .long in
     let m : a .stop ≡ end = omega arith in
-    let r : deletion.Delete (partOf (a .start) (a .stop)) ≡ deletionAt s at end = rw (← a .found) (eq! _ m refl) in
-    rw (← r) (ap (λ (l : List ℕ). some (delete l)) (part-bytes s (a .start) (a .stop) (omega arith) ∙ a .value))
+    let r : deletion.Delete (between (a .start) (a .stop)) ≡ deletionAt s at end = rw (← a .found) (eq! _ m refl) in
+    rw (← r) (ap (λ (l : List ℕ). some (delete l)) (window-part s (a .start) (a .stop) (omega arith) ∙ a .value))
 deletion-back s at end (masterDelete aid) ordered held (v, (named, (l, q))) =
     let a = element-back s at end ordered held 0x4F 5 16 aid _ (one (omega arith) (omega arith)) (named .least) (named .most) q in
     let b = element-back s (a .stop) end (a .within) held 0xB6 0 255 (encodeVerification v) _ (one (omega arith) (omega arith)) (omega arith) (l .most) (a .after) in
@@ -55,9 +56,9 @@ deletion-back s at end (masterDelete aid) ordered held (v, (named, (l, q))) =
     let f = verification-back s (b .start) (b .stop) (i .ordered) (omega arith) v l (b .value) in
     let t = alone-back s (b .stop) end (b .within) held 0x9E 1 255 (v .of9E) (one (omega arith) (omega arith)) (l .given9E .least) (l .given9E .most) (b .after) in
     let k = a .long in
-    let r : deletion.MasterDelete (partOf (a .start) (a .stop)) ≡ deletionAt s at end =
+    let r : deletion.MasterDelete (between (a .start) (a .stop)) ≡ deletionAt s at end =
     rw (← a .found) (ne! _ (omega arith) (rw (← b .found) (rw (← f) (rw (← t .found) refl)))) in
-    rw (← r) (ap (λ (l : List ℕ). some (masterDelete l)) (part-bytes s (a .start) (a .stop) (omega arith) ∙ a .value))
+    rw (← r) (ap (λ (l : List ℕ). some (masterDelete l)) (window-part s (a .start) (a .stop) (omega arith) ∙ a .value))
 
 -- ---- what is accepted is so encoded
 
@@ -107,21 +108,21 @@ module _ (s : List ℕ) (at end : ℕ) (w : Deleted) (b : Bytes s) where
   Accepted z = deletedOf s z ≡ some w → Encoded w
 
   module _ (start stop : ℕ) (q : element.Found start stop ≡ expectAt s at end 0x4F 5 16) where
-    named : Named (partBytes s (partOf start stop))
+    named : Named (partOf s (between start stop))
     named =
         let x = expect-parts s at end 0x4F 5 16 start stop q in
         let i = x .inside in
-        subst Named (sym (part-bytes s start stop (i .ordered))) (part-named s start stop (i .ordered) (omega arith) (x .least) (x .most))
+        subst Named (sym (window-part s start stop (i .ordered))) (part-named s start stop (i .ordered) (omega arith) (x .least) (x .most))
 
-    delete-written : stop ≡ end → Accepted (deletion.Delete (partOf start stop))
+    delete-written : stop ≡ end → Accepted (deletion.Delete (between start stop))
     delete-written h =
         let i = expect-inside s at end 0x4F 5 16 start stop q in
-        let bytes : window s at end ≡ encodeElement 0x4F (partBytes s (partOf start stop)) =
-        ap (window s at) (sym h) ∙ element-written s at end 0x4F 5 16 start stop b q ∙ ap (encodeElement 0x4F) (sym (part-bytes s start stop (i .ordered))) in
-        same-value Encoded (delete (partBytes s (partOf start stop))) w (omega arith, (omega arith, (named, bytes)))
+        let bytes : window s at end ≡ encodeElement 0x4F (partOf s (between start stop)) =
+        ap (window s at) (sym h) ∙ element-written s at end 0x4F 5 16 start stop b q ∙ ap (encodeElement 0x4F) (sym (window-part s start stop (i .ordered))) in
+        same-value Encoded (delete (partOf s (between start stop))) w (omega arith, (omega arith, (named, bytes)))
 
     master-written : (from to k e : ℕ) → element.Found from to ≡ expectAt s stop end 0xB6 0 255 → verification.Filled ≡ verificationAt s from to
-        → element.Found k e ≡ aloneAt s to end 0x9E 1 255 → Accepted (deletion.MasterDelete (partOf start stop))
+        → element.Found k e ≡ aloneAt s to end 0x9E 1 255 → Accepted (deletion.MasterDelete (between start stop))
     master-written from to k e q₂ f g =
         let i = expect-inside s at end 0x4F 5 16 start stop q in
         let x = expect-parts s stop end 0xB6 0 255 from to q₂ in
@@ -137,14 +138,14 @@ module _ (s : List ℕ) (at end : ℕ) (w : Deleted) (b : Bytes s) where
           given9E = subst Given (sym (v .last)) t;
           most = omega arith;
         } in
-        let bytes : window s at end ≡ encodeMasterDelete (partBytes s (partOf start stop)) (v .values) =
+        let bytes : window s at end ≡ encodeMasterDelete (partOf s (between start stop)) (v .values) =
         elements-written s at end 0x4F 5 16 start stop b q
-        ∙ ap (λ (a : List ℕ). encodeElement 0x4F a ++ window s stop end) (sym (part-bytes s start stop (i .ordered)))
-        ∙ ap (λ (a : List ℕ). encodeElement 0x4F (partBytes s (partOf start stop)) ++ a) (elements-written s stop end 0xB6 0 255 from to b q₂
+        ∙ ap (λ (a : List ℕ). encodeElement 0x4F a ++ window s stop end) (sym (window-part s start stop (i .ordered)))
+        ∙ ap (λ (a : List ℕ). encodeElement 0x4F (partOf s (between start stop)) ++ a) (elements-written s stop end 0xB6 0 255 from to b q₂
         ∙ ap (λ (a : List ℕ). encodeElement 0xB6 a ++ window s to end) (v .bytes)
         ∙ ap (λ (a : List ℕ). encodeElement 0xB6 (encodeVerification (v .values)) ++ a) (alone-written s to end 0x9E 1 255 k e b g
         ∙ ap (encodeElement 0x9E) (sym (v .last)))) in
-        same-value Encoded (masterDelete (partBytes s (partOf start stop))) w (omega arith, (omega arith, (v .values, (named, (l, bytes)))))
+        same-value Encoded (masterDelete (partOf s (between start stop))) w (omega arith, (omega arith, (v .values, (named, (l, bytes)))))
 
   accepted : Accepted (deletionAt s at end)
   unfolding deletionAt

@@ -2,18 +2,19 @@
 use mathlib.Core.Path.{_≡_, refl}
 use mathlib.Core.List.{[], _∷_}
 use mathlib.Core.Bool.{true, false}
+use Rattle.byte_string.specs.Bytes.{between}
 use Rattle.choice.specs.Choice.{pick, atMost, isBelow, isSame}
 use Rattle.tlv.specs.Tlv.{tagAt, lengthAt, headAt, afterTag, afterLength, expectAt, expectOf}
 use Rattle.fields.specs.declared.StoreData.the-variants as store
 use Rattle.fields.specs.declared.Deletion.the-variants as deletion
 use Rattle.fields.specs.declared.Listing.the-variants as listing
-use Rattle.fields.specs.Alone.{aloneAt, partOf}
+use Rattle.fields.specs.Alone.{aloneAt}
 use Rattle.fields.specs.StoreData.{dgiAt, confirmationAt, namedBy, storeDataAt}
 use Rattle.fields.specs.Delete.{verificationAt, deletionAt}
 use Rattle.fields.specs.GetStatus.{noted, listedWithin, listedAt, tagsAt, listingAt}
 
 -- example 2's data field, in the command
-set-fall-back : storeDataAt (0x80 ∷ 0xE2 ∷ 0x88 ∷ 0x00 ∷ 0x0A ∷ 0x3A ∷ 0x05 ∷ 0x07 ∷ 0x4F ∷ 0x05 ∷ 0xA0 ∷ 0 ∷ 0 ∷ 0 ∷ 2 ∷ []) 5 15 ≡ store.SetFallBack (partOf 10 15)
+set-fall-back : storeDataAt (0x80 ∷ 0xE2 ∷ 0x88 ∷ 0x00 ∷ 0x0A ∷ 0x3A ∷ 0x05 ∷ 0x07 ∷ 0x4F ∷ 0x05 ∷ 0xA0 ∷ 0 ∷ 0 ∷ 0 ∷ 2 ∷ []) 5 15 ≡ store.SetFallBack (between 10 15)
 unfolding storeDataAt namedBy confirmationAt dgiAt aloneAt expectAt expectOf headAt afterTag afterLength tagAt lengthAt pick atMost isBelow isSame
 set-fall-back = refl
 
@@ -31,12 +32,12 @@ other-dgi : storeDataAt (0x3A ∷ 0x06 ∷ 0x07 ∷ 0x4F ∷ 0x05 ∷ 0xA0 ∷ 0
 unfolding storeDataAt namedBy confirmationAt dgiAt aloneAt expectAt expectOf headAt afterTag afterLength tagAt lengthAt pick atMost isBelow isSame
 other-dgi = refl
 
-delete-two : deletionAt (0x4F ∷ 0x05 ∷ 0xA0 ∷ 0 ∷ 0 ∷ 0 ∷ 2 ∷ []) 0 7 ≡ deletion.Delete (partOf 2 7)
+delete-two : deletionAt (0x4F ∷ 0x05 ∷ 0xA0 ∷ 0 ∷ 0 ∷ 0 ∷ 2 ∷ []) 0 7 ≡ deletion.Delete (between 2 7)
 unfolding deletionAt verificationAt aloneAt expectAt expectOf headAt afterTag afterLength tagAt lengthAt pick atMost isBelow isSame
 delete-two = refl
 
 master-delete-two : deletionAt (0x4F ∷ 0x05 ∷ 0xA0 ∷ 0 ∷ 0 ∷ 0 ∷ 2 ∷ 0xB6 ∷ 0x0D ∷ 0x42 ∷ 1 ∷ 1 ∷ 0x45 ∷ 1 ∷ 2 ∷ 0x5F ∷ 0x20 ∷ 1 ∷ 3 ∷ 0x93 ∷ 1 ∷ 4 ∷ 0x9E ∷ 1 ∷ 0x55 ∷ []) 0 25
-    ≡ deletion.MasterDelete (partOf 2 7)
+    ≡ deletion.MasterDelete (between 2 7)
 unfolding deletionAt verificationAt aloneAt expectAt expectOf headAt afterTag afterLength tagAt lengthAt pick atMost isBelow isSame
 master-delete-two = refl
 

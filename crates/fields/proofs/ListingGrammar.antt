@@ -6,23 +6,24 @@ use mathlib.Core.Option.{Option, none, some}
 use mathlib.Core.Bool.{Bool}
 use native.Mathlib.Omega.{arith}
 use lib.ListN.{length}
+use Rattle.byte_string.specs.Bytes.{between, partOf}
 use Rattle.tlv.specs.Tlv.{expectAt}
 use Rattle.tlv.specs.declared.Element.the-variants as element
 use Rattle.tlv.specs.Encoding.{window, Bytes, encodeElement}
 use Rattle.choice.proofs.Branches.{each-lt, each-eq, nlt!, eq!, ne! }
 use Rattle.tlv.proofs.Inside.{expect-parts, expect-inside}
-use Rattle.tlv.proofs.Windows.{window-none, window-length}
+use Rattle.tlv.proofs.Windows.{window-none, window-length, window-part}
 use Rattle.tlv.proofs.ReadBack.{element-back}
 use Rattle.tlv.proofs.ReadBack as legal
 use Rattle.fields.specs.declared.Tags.{Tags}
 use Rattle.fields.specs.declared.Tags.the-variants as tags
 use Rattle.fields.specs.declared.Listing.{Listing}
 use Rattle.fields.specs.declared.Listing.the-variants as listing
-use Rattle.fields.specs.Alone.{aloneAt, partOf}
+use Rattle.fields.specs.Alone.{aloneAt}
 use Rattle.fields.specs.GetStatus.{rowsOf, tagsAt, listingAt}
-use Rattle.fields.specs.Grammar.{Named, ListedTag, Asked, asked, Sought, all, one, Short, listedOf, partBytes, encodeTags, encodeList, showsLife, showsFallBack, EncodesListed, ListingBack, ListingWritten}
+use Rattle.fields.specs.Grammar.{Named, ListedTag, Asked, asked, Sought, all, one, Short, listedOf, encodeTags, encodeList, showsLife, showsFallBack, EncodesListed, ListingBack, ListingWritten}
 use Rattle.fields.proofs.Only.{alone-expected}
-use Rattle.fields.proofs.Parts.{alone-back, alone-written, part-bytes, part-named}
+use Rattle.fields.proofs.Parts.{alone-back, alone-written, part-named}
 use Rattle.fields.proofs.ListedTags.{listed-back, listed-written}
 use Rattle.fields.proofs.Cases.{each-shown, same-value, no-value}
 use Rattle.tlv.proofs.Branches.{each-found}
@@ -55,8 +56,8 @@ module _ (s : List ℕ) (life shown : Bool) where
       rw (← r) refl
   who-back who (one named) start stop l q =
       let k = named .least in
-      let r : listing.One (partOf start stop) life shown ≡ rowsOf start stop life shown = ne! _ (omega arith) (nlt! _ (omega arith) refl) in
-      rw (← r) (ap (λ (a : List ℕ). some (asked a life shown)) (part-bytes s start stop (omega arith) ∙ q))
+      let r : listing.One (between start stop) life shown ≡ rowsOf start stop life shown = ne! _ (omega arith) (nlt! _ (omega arith) refl) in
+      rw (← r) (ap (λ (a : List ℕ). some (asked a life shown)) (window-part s start stop (omega arith) ∙ q))
 
 pub listing-back : ListingBack
 unfolding listingAt
@@ -131,16 +132,16 @@ module _ (s : List ℕ) (at end : ℕ) (w : Asked) (b : Bytes s) where
       each-shown Accepted (tagsAt s stop end) (no-value (Encoded w) w) λ life shown g.
       let x = expect-parts s at end 0x4F 0 16 start stop q in
       let i = x .inside in
-      let p : partBytes s (partOf start stop) ≡ window s start stop = part-bytes s start stop (i .ordered) in
+      let p : partOf s (between start stop) ≡ window s start stop = window-part s start stop (i .ordered) in
       each-eq Accepted
       (λ h.
       let m : start ≡ stop = omega arith in
       same-value Encoded (asked [] life shown) w
       (who-written start stop q [] life shown all (ap (λ (n : ℕ). window s n stop) m ∙ window-none s stop) g))
       (λ _. each-lt Accepted (λ _. no-value (Encoded w) w) (λ k.
-      let named : Named (partBytes s (partOf start stop)) = subst Named (sym p) (part-named s start stop (i .ordered) (omega arith) (omega arith) (x .most)) in
-      same-value Encoded (asked (partBytes s (partOf start stop)) life shown) w
-      (who-written start stop q (partBytes s (partOf start stop)) life shown (one named) (sym p) g)))
+      let named : Named (partOf s (between start stop)) = subst Named (sym p) (part-named s start stop (i .ordered) (omega arith) (omega arith) (x .most)) in
+      same-value Encoded (asked (partOf s (between start stop)) life shown) w
+      (who-written start stop q (partOf s (between start stop)) life shown (one named) (sym p) g)))
 
 pub listing-written : ListingWritten
 listing-written s at end w b q = accepted s at end w b q

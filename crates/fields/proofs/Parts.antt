@@ -4,7 +4,7 @@ use mathlib.Core.Path.{_≡_, sym, ap, _∙_}
 use mathlib.Core.List.{List, [], _∷_, append-nil}
 use native.Mathlib.Omega.{arith}
 use lib.ListN.{length}
-use Rattle.tlv.specs.Tlv.{byte}
+use Rattle.byte_string.specs.Bytes.{byte, pairAt}
 use Rattle.tlv.specs.declared.Element.the-variants as element
 use Rattle.tlv.specs.Encoding.{window, Bytes, encodeElement}
 use Rattle.choice.proofs.Branches.{each-lt, each-eq, nlt!, eq! }
@@ -13,9 +13,9 @@ use Rattle.tlv.proofs.Written.{element-written}
 use Rattle.tlv.proofs.ReadBack.{LegalTag, element-back}
 use Rattle.fields.specs.declared.Dgi.{Dgi}
 use Rattle.fields.specs.declared.Dgi.the-variants as dgi
-use Rattle.fields.specs.Alone.{aloneAt, partOf}
-use Rattle.fields.specs.StoreData.{numberAt, dgiAt}
-use Rattle.fields.specs.Grammar.{Named, partBytes, encodeDgi}
+use Rattle.fields.specs.Alone.{aloneAt}
+use Rattle.fields.specs.StoreData.{dgiAt}
+use Rattle.fields.specs.Grammar.{Named, encodeDgi}
 use Rattle.fields.proofs.Only.{alone-parts}
 
 -- ---- an element alone
@@ -51,7 +51,7 @@ module _ (s : List ℕ) (at end : ℕ) (ordered : at ≤ end) (held : end ≤ le
 
 pub record DgiParts (s : List ℕ) (at end number contents : ℕ) : Type 0 where
   pub place : contents ≡ at + 3
-  pub numbered : number ≡ numberAt s at
+  pub numbered : number ≡ pairAt s at
   pub fills : at + 3 + byte s (at + 2) ≡ end
   pub held : end ≤ length s
 
@@ -99,7 +99,7 @@ module _ (s : List ℕ) (at end : ℕ) (ordered : at ≤ end) (held : end ≤ le
       let w : window s (at + 3) end ≡ contents = ap (λ (n : ℕ). window s n end) (sym d) ∙ c .after in
       let r = c .room in
       let n : length contents ≡ end - (at + 3) = ap length (sym w) ∙ window-length s (at + 3) end held in
-      let k : number ≡ numberAt s at = omega arith in
+      let k : number ≡ pairAt s at = omega arith in
       record {
         found = nlt! _ held (nlt! _ (omega arith) (nlt! _ (omega arith) (eq! _ (omega arith) (ap (λ (n : ℕ). dgi.Found n (at + 3)) k))));
         room = omega arith;
@@ -109,8 +109,5 @@ module _ (s : List ℕ) (at end : ℕ) (ordered : at ≤ end) (held : end ≤ le
 -- ---- an AID in its place
 
 module _ (s : List ℕ) (start stop : ℕ) where
-  pub part-bytes : start ≤ stop → partBytes s (partOf start stop) ≡ window s start stop
-  part-bytes h = ap (window s start) (omega arith)
-
   pub part-named : start ≤ stop → stop ≤ length s → 5 ≤ stop - start → stop - start ≤ 16 → Named (window s start stop)
   part-named h i j k = let n = window-length s start stop i in record { least = omega arith; most = omega arith }

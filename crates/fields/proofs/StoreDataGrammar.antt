@@ -6,22 +6,22 @@ use mathlib.Core.List.{List, [], _∷_}
 use mathlib.Core.Option.{some}
 use native.Mathlib.Omega.{arith}
 use lib.ListN.{length}
-use Rattle.tlv.specs.Tlv.{byte}
+use Rattle.byte_string.specs.Bytes.{byte, pairAt, between, partOf}
 use Rattle.tlv.specs.declared.Element.the-variants as element
-use Rattle.tlv.specs.declared.Part.{Part}
+use Rattle.byte_string.specs.declared.Part.{Part}
 use Rattle.tlv.specs.Encoding.{window, Bytes, encodeNumber, encodeTag, encodeLength, encodeElement}
 use Rattle.choice.proofs.Branches.{each-eq, lt!, eq!, ne! }
-use Rattle.tlv.proofs.Windows.{window-starts}
+use Rattle.tlv.proofs.Windows.{window-starts, window-part}
 use Rattle.tlv.proofs.Written.{window-two}
 use Rattle.tlv.proofs.ReadBack.{one}
 use Rattle.fields.specs.declared.Dgi.the-variants as dgi
 use Rattle.fields.specs.declared.StoreData.{StoreData}
 use Rattle.fields.specs.declared.StoreData.the-variants as store
-use Rattle.fields.specs.Alone.{aloneAt, partOf}
-use Rattle.fields.specs.StoreData.{numberAt, dgiAt, confirmationAt, namedBy, storeDataAt}
-use Rattle.fields.specs.Grammar.{Named, Stored, enable, disable, setFallBack, confirmation, storedOf, partBytes, encodeDgi, EncodesStored, StoreDataBack, StoreDataWritten}
+use Rattle.fields.specs.Alone.{aloneAt}
+use Rattle.fields.specs.StoreData.{dgiAt, confirmationAt, namedBy, storeDataAt}
+use Rattle.fields.specs.Grammar.{Named, Stored, enable, disable, setFallBack, confirmation, storedOf, encodeDgi, EncodesStored, StoreDataBack, StoreDataWritten}
 use Rattle.fields.proofs.Only.{alone-expected, alone-parts}
-use Rattle.fields.proofs.Parts.{alone-back, alone-written, dgi-back, dgi-parts, dgi-written, part-bytes, part-named}
+use Rattle.fields.proofs.Parts.{alone-back, alone-written, dgi-back, dgi-parts, dgi-written, part-named}
 use Rattle.fields.proofs.Cases.{each-dgi, same-value, no-value}
 use Rattle.tlv.proofs.Branches.{each-found}
 
@@ -38,7 +38,7 @@ module _ (s : List ℕ) (at end : ℕ) (ordered : at ≤ end) (held : end ≤ le
   pub record AidBack (number : ℕ) (aid : List ℕ) : Type 0 where
     pub part : Part
     pub read : namedBy number part ≡ storeDataAt s at end
-    pub bytes : partBytes s part ≡ aid
+    pub bytes : partOf s part ≡ aid
 
   aid-back : (number : ℕ) (aid : List ℕ) → (number ≡ 0x3A08 → ⊥) → Named aid → window s at end ≡ encodeDgi number (encodeElement 0x4F aid)
       → AidBack number aid
@@ -49,9 +49,9 @@ module _ (s : List ℕ) (at end : ℕ) (ordered : at ≤ end) (held : end ≤ le
       let a = alone-back s (at + 3) end (d .room) held 0x4F 5 16 aid (one (omega arith) (omega arith)) (named .least) (named .most) (d .after) in
       let l = a .long in
       record {
-        part = partOf (a .start) end;
+        part = between (a .start) end;
         read = rw (← d .found) (ne! _ other (rw (← a .found) refl));
-        bytes = part-bytes s (a .start) end (omega arith) ∙ a .value;
+        bytes = window-part s (a .start) end (omega arith) ∙ a .value;
       }
 
   number-back : (number : ℕ) → window s at end ≡ encodeDgi 0x3A08 (encodeElement 0x4E (encodeNumber number))
@@ -65,7 +65,7 @@ module _ (s : List ℕ) (at end : ℕ) (ordered : at ≤ end) (held : end ≤ le
       let x = window-starts s (a .start) end (omega arith) held (number / 256) (number % 256 ∷ []) (a .value) in
       let y = window-starts s (a .start + 1) end (omega arith) held (number % 256) [] (x .after) in
       let f = x .first in let g = y .first in
-      let e : number ≡ numberAt s (a .start) = omega arith in
+      let e : number ≡ pairAt s (a .start) = omega arith in
       rw (← d .found) (eq! _ refl (rw (← a .found) (ap store.Confirm e)))
 
 pub store-data-back : StoreDataBack
@@ -94,15 +94,15 @@ module _ (s : List ℕ) (at end : ℕ) (v : Stored) (b : Bytes s) where
   Accepted z = storedOf s z ≡ some v → Encoded v
 
   module _ (number contents : ℕ) (d : dgi.Found number contents ≡ dgiAt s at end) (start stop : ℕ) where
-    aid-written : element.Found start stop ≡ aloneAt s contents end 0x4F 5 16 → Accepted (namedBy number (partOf start stop))
+    aid-written : element.Found start stop ≡ aloneAt s contents end 0x4F 5 16 → Accepted (namedBy number (between start stop))
     unfolding namedBy
     aid-written g =
         let p = dgi-parts s at end number contents d in
         let x = alone-expected s contents end 0x4F 5 16 start stop g in
         let k : start ≤ stop = x .inside .ordered in
         let f : stop ≡ end = alone-parts s contents end 0x4F 5 16 start stop g .fills in
-        let aid = partBytes s (partOf start stop) in
-        let e : aid ≡ window s start stop = part-bytes s start stop k in
+        let aid = partOf s (between start stop) in
+        let e : aid ≡ window s start stop = window-part s start stop k in
         let named : Named aid = subst Named (sym e) (part-named s start stop k (omega arith) (x .least) (x .most)) in
         let w : window s at end ≡ encodeDgi number (encodeElement 0x4F aid) =
         dgi-written s at end number contents b d
@@ -116,7 +116,7 @@ module _ (s : List ℕ) (at end : ℕ) (v : Stored) (b : Bytes s) where
         (λ _. each-eq Accepted (λ h. same-value Encoded (setFallBack aid) v (lies, (held, (named, by 0x3A05 h))))
         (λ _. no-value (Encoded v) v)))
 
-    number-written : number ≡ 0x3A08 → element.Found start stop ≡ aloneAt s contents end 0x4E 2 2 → Accepted (store.Confirm (numberAt s start))
+    number-written : number ≡ 0x3A08 → element.Found start stop ≡ aloneAt s contents end 0x4E 2 2 → Accepted (store.Confirm (pairAt s start))
     number-written h g =
         let p = dgi-parts s at end number contents d in
         let x = alone-expected s contents end 0x4E 2 2 start stop g in
@@ -125,7 +125,7 @@ module _ (s : List ℕ) (at end : ℕ) (v : Stored) (b : Bytes s) where
         let l = x .least in let m = x .most in
         let y : byte s start < 256 = b start in
         let z : byte s (start + 1) < 256 = b (start + 1) in
-        let n = numberAt s start in
+        let n = pairAt s start in
         let high : byte s start ≡ n / 256 = omega arith in
         let low : byte s (start + 1) ≡ n % 256 = omega arith in
         let c : window s start stop ≡ encodeNumber n =

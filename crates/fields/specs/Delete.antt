@@ -2,9 +2,10 @@
 -- the data field alone tells the two apart (000, Tables 20 and 33).
 use Prim.Native.Nat.{ℕ}
 use mathlib.Core.List.{List}
+use Rattle.byte_string.specs.Bytes.{between}
 use Rattle.choice.specs.Choice.{pick, isSame}
 use Rattle.tlv.specs.Tlv.{expectAt, onFound}
-use Rattle.fields.specs.Alone.{aloneAt, partOf}
+use Rattle.fields.specs.Alone.{aloneAt}
 use Rattle.fields.specs.declared.Verification.{Verification}
 use Rattle.fields.specs.declared.Verification.the-variants as verification
 use Rattle.fields.specs.declared.Deletion.{Deletion}
@@ -26,8 +27,8 @@ onFilled verification.Filled w x = x
 unfoldable pub deletionAt : List ℕ → ℕ → ℕ → Deletion
 deletionAt s at end =
     onFound (expectAt s at end 0x4F 5 16) deletion.Wrong λ start stop.
-    pick (isSame stop end) (deletion.Delete (partOf start stop))
+    pick (isSame stop end) (deletion.Delete (between start stop))
     (onFound (expectAt s stop end 0xB6 0 255) deletion.Wrong λ from to.
     onFilled (verificationAt s from to) deletion.Wrong
     (onFound (aloneAt s to end 0x9E 1 255) deletion.Wrong λ _ _.
-    deletion.MasterDelete (partOf start stop)))
+    deletion.MasterDelete (between start stop)))

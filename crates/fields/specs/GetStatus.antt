@@ -4,11 +4,12 @@
 use Prim.Native.Nat.{ℕ, zero, suc, _-_}
 use mathlib.Core.List.{List}
 use mathlib.Core.Bool.{Bool, true, false}
+use Rattle.byte_string.specs.Bytes.{between}
 use Rattle.choice.specs.Choice.{pick, atMost, isBelow, isSame}
 use Rattle.tlv.specs.Tlv.{tagAt, expectAt, onFound}
 use Rattle.tlv.specs.declared.TagRead.{TagRead}
 use Rattle.tlv.specs.declared.TagRead.the-variants as tag
-use Rattle.fields.specs.Alone.{aloneAt, partOf}
+use Rattle.fields.specs.Alone.{aloneAt}
 use Rattle.fields.specs.declared.Tags.{Tags}
 use Rattle.fields.specs.declared.Tags.the-variants as tags
 use Rattle.fields.specs.declared.Listing.{Listing}
@@ -53,7 +54,7 @@ abbrev pub rowsOf : ℕ → ℕ → Bool → Bool → Listing
 rowsOf start stop life fallBack =
     pick (isSame (stop - start) 0) (listing.All life fallBack)
     (pick (isBelow (stop - start) 5) listing.Wrong
-    (listing.One (partOf start stop) life fallBack))
+    (listing.One (between start stop) life fallBack))
 
 unfoldable pub listingAt : List ℕ → ℕ → ℕ → Listing
 listingAt s at end =

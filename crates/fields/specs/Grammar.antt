@@ -6,7 +6,7 @@ use mathlib.Core.List.{List, [], _∷_, _++_}
 use mathlib.Core.Option.{Option, none, some}
 use mathlib.Core.Bool.{Bool, true, false}
 use lib.ListN.{length}
-use Rattle.tlv.specs.declared.Part.{Part}
+use Rattle.byte_string.specs.Bytes.{partOf}
 use Rattle.tlv.specs.Encoding.{window, Bytes, encodeNumber, encodeTag, encodeElement}
 use Rattle.fields.specs.declared.StoreData.{StoreData}
 use Rattle.fields.specs.declared.StoreData.the-variants as store
@@ -17,9 +17,6 @@ use Rattle.fields.specs.declared.Listing.the-variants as listing
 use Rattle.fields.specs.StoreData.{storeDataAt}
 use Rattle.fields.specs.Delete.{deletionAt}
 use Rattle.fields.specs.GetStatus.{listingAt}
-
-abbrev pub partBytes : List ℕ → Part → List ℕ
-partBytes s part = window s (part .start) (part .start + part .len)
 
 -- an AID has 5 to 16 bytes
 pub record Named (aid : List ℕ) : Type 0 where
@@ -35,9 +32,9 @@ pub data Stored : Type 0 where
   confirmation : ℕ → Stored
 
 abbrev pub storedOf : List ℕ → StoreData → Option Stored
-storedOf s (store.Enable aid) = some (enable (partBytes s aid))
-storedOf s (store.Disable aid) = some (disable (partBytes s aid))
-storedOf s (store.SetFallBack aid) = some (setFallBack (partBytes s aid))
+storedOf s (store.Enable aid) = some (enable (partOf s aid))
+storedOf s (store.Disable aid) = some (disable (partOf s aid))
+storedOf s (store.SetFallBack aid) = some (setFallBack (partOf s aid))
 storedOf s (store.Confirm number) = some (confirmation number)
 storedOf s store.Wrong = none
 
@@ -67,8 +64,8 @@ pub data Deleted : Type 0 where
   masterDelete : List ℕ → Deleted
 
 abbrev pub deletedOf : List ℕ → Deletion → Option Deleted
-deletedOf s (deletion.Delete aid) = some (delete (partBytes s aid))
-deletedOf s (deletion.MasterDelete aid) = some (masterDelete (partBytes s aid))
+deletedOf s (deletion.Delete aid) = some (delete (partOf s aid))
+deletedOf s (deletion.MasterDelete aid) = some (masterDelete (partOf s aid))
 deletedOf s deletion.Wrong = none
 
 -- the values that a master delete has beside the AID, by their tags
@@ -178,7 +175,7 @@ asked who life shown = record { who = who; life = life; fallBackShown = shown }
 
 abbrev pub listedOf : List ℕ → Listing → Option Asked
 listedOf s (listing.All life shown) = some (asked [] life shown)
-listedOf s (listing.One part life shown) = some (asked (partBytes s part) life shown)
+listedOf s (listing.One part life shown) = some (asked (partOf s part) life shown)
 listedOf s listing.Wrong = none
 
 -- a GET STATUS is encoded in as many ways as there are lists that show the same tags

@@ -1,8 +1,10 @@
 // The data fields of STORE DATA, DELETE and GET STATUS. Every function reads a window of the whole command, from `at` up to `end`;
 // one that does not lie in it is wrong. An AID is handed on as its place in the command.
+
+use byte_string::Part;
+use byte_string::read_pair;
 use reader::only_element;
 use tlv::Element;
-use tlv::Part;
 use tlv::TagRead;
 use tlv::expect;
 use tlv::read_tag;
@@ -10,7 +12,7 @@ ghost use mathlib.Core.Path.{_≡_};
 ghost use Prim.Native.Nat.{ℕ, _+_, _≤_, _<_};
 ghost use lib.ListN.{length};
 ghost use Rattle.fields.specs.Alone.{aloneAt};
-ghost use Rattle.fields.specs.StoreData.{dgiAt, numberAt, confirmationAt, storeDataAt};
+ghost use Rattle.fields.specs.StoreData.{dgiAt, confirmationAt, storeDataAt};
 ghost use Rattle.fields.specs.Delete.{verificationAt, deletionAt};
 ghost use Rattle.fields.specs.GetStatus.{noted, listedAt, tagsAt, listingAt};
 
@@ -29,16 +31,6 @@ fn read_alone(s: &[u8], at: usize, end: usize, tag: u16, low: usize, high: usize
 pub enum Dgi {
     Found { dgi: u16, start: usize },
     Wrong,
-}
-
-fn read_number(s: &[u8], at: usize) -> u16
-    requires { ⌜ at + 1 < length (now s) ⌝ }
-    ensures { λ r. ⌜ r ≡ numberAt (now (s .entry)) at ⌝ }
-{
-    let next = at + 1;
-    let high = s[at] as u16;
-    let low = s[next] as u16;
-    high * 256 + low
 }
 
 fn read_dgi(s: &[u8], at: usize, end: usize) -> Dgi
@@ -63,7 +55,7 @@ fn read_dgi(s: &[u8], at: usize, end: usize) -> Dgi
     if end - start != count {
         return Dgi::Wrong;
     }
-    let dgi = read_number(s, at);
+    let dgi = read_pair(s, at);
     Dgi::Found { dgi, start }
 }
 
@@ -89,7 +81,7 @@ fn read_confirmation(s: &[u8], at: usize, end: usize) -> StoreData
     let Element::Found { start, stop: _ } = read_alone(s, at, end, 0x4E, 2, 2) else {
         return StoreData::Wrong;
     };
-    let number = read_number(s, start);
+    let number = read_pair(s, start);
     StoreData::Confirm(number)
 }
 

@@ -6,8 +6,8 @@ use mathlib.Core.List.{List, [], _++_, append-nil}
 use native.Mathlib.Omega.{arith}
 use lib.ListN.{length, take, drop, length-append}
 use lib.Seq.{take-append-seam, take-append-le, take-append-add}
-use Rattle.text.specs.Put.{put, after}
-use Rattle.text.proofs.PutLaws.{put-front, after-fits}
+use Rattle.byte_string.specs.Put.{put, after}
+use Rattle.byte_string.proofs.PutLaws.{put-front, after-fits}
 use Rattle.lines.specs.Window.{heldOf, keptOf, grownOf}
 use Rattle.lines.specs.declared.Window.{Window}
 use Rattle.lines.specs.Lines.{Line}

@@ -12,7 +12,7 @@ use Rattle.tlv.specs.declared.Element.{Element}
 use Rattle.tlv.specs.declared.Element.the-variants as element
 use Rattle.choice.proofs.Branches.{each-lt, each-eq}
 use Rattle.tlv.proofs.Inside.{Inside, length-inside}
-use Rattle.tlv.specs.declared.Part.{Part}
+use Rattle.byte_string.specs.declared.Part.{Part}
 use Rattle.tlv.specs.Tlv.{expectAt}
 use Rattle.install.specs.declared.Protocols.{Protocols}
 use Rattle.install.specs.declared.Protocols.the-variants as protocols

@@ -10,7 +10,7 @@ use Rattle.tlv.specs.declared.Element.the-variants as element
 use Rattle.tlv.specs.Encoding.{window, encodeLength, encodeElement}
 use Rattle.choice.proofs.Branches.{le!, nle!, nlt!, eq!, ne! }
 use Rattle.tlv.proofs.Inside.{expect-inside}
-use Rattle.tlv.proofs.Windows.{window-length, window-begins}
+use Rattle.tlv.proofs.Windows.{window-length, window-begins, window-part}
 use Rattle.tlv.proofs.ReadBack.{one, length-back, element-back}
 use Rattle.install.specs.declared.Protocols.the-variants as protocols
 use Rattle.install.specs.declared.Quota.the-variants as quota
@@ -186,5 +186,5 @@ install-back s at end capacity v o l x =
     let r = rights-back s (n .stop) end nw l free (x .privileged) (x .short) (n .after) in
     let rw′ = r .within in
     let p = parameters-back s (r .from) (r .to) capacity (v .quota) free (r .reached) (omega arith) (x .parameters) (x .short) (r .value) in
-    let e : n .start + (n .stop - n .start) ≡ n .stop = omega arith in
+    let e = window-part s (n .start) (n .stop) (n .reached) in
     rw (← n .found) (rw (← r .found) (rw (← p) (rw e (rw (n .value) refl))))

@@ -6,13 +6,14 @@ use mathlib.Core.List.{List, [], _∷_, _++_}
 use mathlib.Core.Option.{none, some}
 use native.Mathlib.Omega.{arith}
 use lib.ListN.{length}
+use Rattle.byte_string.specs.Bytes.{between, partOf}
 use Rattle.tlv.specs.Tlv.{expectAt}
 use Rattle.tlv.specs.declared.Element.{Element}
 use Rattle.tlv.specs.declared.Element.the-variants as element
 use Rattle.tlv.specs.Encoding.{window, Bytes, encodeLength, encodeElement}
 use Rattle.choice.proofs.Branches.{each-le, each-lt, each-eq}
 use Rattle.tlv.proofs.Inside.{expect-parts}
-use Rattle.tlv.proofs.Windows.{window-none, window-length, window-cut}
+use Rattle.tlv.proofs.Windows.{window-none, window-length, window-part, window-cut}
 use Rattle.tlv.proofs.Written.{length-written, element-written}
 use Rattle.install.specs.declared.Protocols.{Protocols}
 use Rattle.install.specs.declared.Protocols.the-variants as protocols
@@ -273,7 +274,7 @@ install-written s at end capacity v b =
     let r = rights-written s stop end from to d in
     let p = parameters-written s from to capacity number b g in
     let o = n .ordered in let w = n .within in let x = n .reached in
-    let e : record { aid = window s start (start + (stop - start)); quota = number } ≡ v = cc in
-    let f : window s start stop ≡ v .aid = ap (window s start) {x = stop} {y = start + (stop - start)} (omega arith) ∙ ap (λ (z : Created). z .aid) e in
+    let e : record { aid = partOf s (between start stop); quota = number } ≡ v = cc in
+    let f : window s start stop ≡ v .aid = sym (window-part s start stop (omega arith)) ∙ ap (λ (z : Created). z .aid) e in
     let h : number ≡ v .quota = ap (λ (z : Created). z .quota) e in
     (omega arith, (n .held, rw (← f, ← h) (whole s at end capacity start stop from to number n r p)))

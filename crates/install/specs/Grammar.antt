@@ -5,6 +5,7 @@ use mathlib.Core.Path.{_≡_}
 use mathlib.Core.List.{List, [], _∷_, _++_}
 use mathlib.Core.Option.{Option, none, some}
 use lib.ListN.{length}
+use Rattle.byte_string.specs.Bytes.{partOf}
 use Rattle.tlv.specs.Encoding.{window, Bytes, encodeLength, encodeElement}
 use Rattle.install.specs.declared.Installation.{Installation}
 use Rattle.install.specs.declared.Installation.the-variants as installation
@@ -86,7 +87,7 @@ pub record Created : Type 0 where
   pub quota : ℕ
 
 abbrev pub createdOf : List ℕ → Installation → Option Created
-createdOf s (installation.Create part quota) = some (record { aid = window s (part .start) (part .start + part .len); quota = quota })
+createdOf s (installation.Create part quota) = some (record { aid = partOf s part; quota = quota })
 createdOf s installation.Wrong = none
 
 -- reading an encoded field gives it back

@@ -3,6 +3,7 @@
 -- token (length 0)".
 use Prim.Native.Nat.{ℕ, _+_, _-_}
 use mathlib.Core.List.{List}
+use Rattle.byte_string.specs.Bytes.{between}
 use Rattle.choice.specs.Choice.{pick, isBelow, isSame}
 use Rattle.tlv.specs.Tlv.{lengthAt, onFound}
 use Rattle.tlv.specs.declared.LengthRead.{LengthRead}
@@ -53,4 +54,4 @@ installOf s at end capacity =
     onFound (namesAt s at end) installation.Wrong λ start stop.
     onFound (rightsAt s stop end) installation.Wrong λ from to.
     onGranted (parametersAt s from to capacity) installation.Wrong λ number.
-    installation.Create (record { start = start; len = stop - start }) number
+    installation.Create (between start stop) number

@@ -5,7 +5,8 @@ use mathlib.Core.Path.{_≡_}
 use mathlib.Core.List.{List}
 use lib.ListN.{length}
 use Rattle.choice.specs.Choice.{pick, atMost, isBelow, isSame}
-use Rattle.tlv.specs.Tlv.{byte, expectAt, onFound}
+use Rattle.byte_string.specs.Bytes.{pairAt}
+use Rattle.tlv.specs.Tlv.{expectAt, onFound}
 use Rattle.install.specs.declared.Protocols.{Protocols}
 use Rattle.install.specs.declared.Protocols.the-variants as protocols
 use Rattle.install.specs.declared.Quota.{Quota}
@@ -25,20 +26,9 @@ abbrev pub onListed : Protocols → Quota → Quota
 onListed protocols.Wrong q = quota.Wrong
 onListed protocols.Listed q = q
 
--- "high byte first"
-abbrev pub pairAt : List ℕ → ℕ → ℕ
-pairAt s at = byte s at * 256 + byte s (at + 1)
-
--- "2 or 4 bytes"
+-- "2 or 4 bytes", high byte first
 unfoldable pub numberAt : List ℕ → ℕ → ℕ → ℕ
 numberAt s start count = pick (isSame count 2) (pairAt s start) (pairAt s start * 65536 + pairAt s (start + 2))
-
--- so many bytes are there, and they are 2 or 4
-pub record Counted (s : List ℕ) (start count : ℕ) : Type 0 where
-  pub held : start + count ≤ length s
-  pub least : 2 ≤ count
-  pub most : count ≤ 4
-  pub notThree : count ≡ 3 → ⊥
 
 -- "1 up to capacity"
 unfoldable pub grantOf : ℕ → ℕ → Quota

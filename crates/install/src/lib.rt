@@ -1,14 +1,15 @@
 // Create's data field: GP's INSTALL, six fields each after its length, of which the ISD-P's AID and the quota are handed on.
 // Every function reads a window of the whole command, from `at` up to `end`; one that does not lie in it is wrong.
+use byte_string::Part;
+use byte_string::read_pair;
 use tlv::Element;
 use tlv::LengthRead;
-use tlv::Part;
 use tlv::expect;
 use tlv::read_length;
 ghost use mathlib.Core.Path.{_≡_};
-ghost use Prim.Native.Nat.{ℕ, _+_, _<_};
+ghost use Prim.Native.Nat.{_+_, _≤_};
 ghost use lib.ListN.{length};
-ghost use Rattle.install.specs.Parameters.{protocolsAt, pairAt, Counted, numberAt, grantOf, memoryAt, parametersAt};
+ghost use Rattle.install.specs.Parameters.{protocolsAt, numberAt, grantOf, memoryAt, parametersAt};
 ghost use Rattle.install.specs.Install.{prefixedAt, namesAt, rightsAt, installOf};
 
 enum Protocols {
@@ -30,19 +31,9 @@ fn read_protocols(s: &[u8], at: usize, end: usize) -> Protocols
     Protocols::Listed
 }
 
-fn read_pair(s: &[u8], at: usize) -> u16
-    requires { ⌜ at + 1 < length (now s) ⌝ }
-    ensures { λ r. ⌜ r ≡ pairAt (now (s .entry)) at ⌝ }
-{
-    let next = at + 1;
-    let high = s[at] as u16;
-    let low = s[next] as u16;
-    high * 256 + low
-}
-
 // A number of two bytes, or else of four.
 fn read_number(s: &[u8], start: usize, count: usize) -> u32
-    requires { ⌜ Counted (now s) start count ⌝ }
+    requires { ⌜ start + 2 ≤ length (now s) ⌝ }
     ensures { λ r. ⌜ r ≡ numberAt (now (s .entry)) start count ⌝ }
 {
     let high = read_pair(s, start) as u32;

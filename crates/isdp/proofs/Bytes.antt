@@ -1,40 +1,17 @@
--- Laws on byte strings as the loops go over them: a turn, and the end, of the comparison, of the test for zeros and of the padding.
+-- Laws on byte strings as the loops go over them: a turn, and the end, of the test for zeros and of the padding.
 -- Each turn takes `drop i` apart once. Assumes nothing.
 use mathlib.Core.Path.{_≡_, refl, ap, sym}
-use Prim.Native.Nat.{ℕ, suc, _+_, _-_, _≤_, _<_}
+use Prim.Native.Nat.{ℕ, zero, suc, _+_, _-_, _≤_, _<_}
 use native.Mathlib.Numerals.{add-one}
 use native.Mathlib.Omega.{arith}
 use mathlib.Core.List.{List, [], _∷_, _++_, append-nil}
-use mathlib.Core.Bool.{Bool, true, false, _&&_, and-false}
+use mathlib.Core.Bool.{Bool, true, false, _&&_}
 use lib.ListN.{length, getD, take, drop, set, replicate, drop-of-length-le}
 use lib.Seq.{drop-cons, set-at, take-suc, take-all, append-snoc, length-take-le}
 use lib.Dec.{leb, eqb}
-use borrow.Author.Tests.{eq-eqb, ne-eqb, le-leb, lt-leb, leb-true, leb-false}
-use Rattle.isdp.specs.Aids.{sameBytes, padded}
+use borrow.Author.Tests.{le-leb, lt-leb, leb-true, leb-false}
+use Rattle.isdp.specs.Aids.{padded}
 use Rattle.isdp.specs.Place.{zeros}
-
--- byte strings of different lengths differ
-pub same-length : (xs ys : List ℕ) → (length xs ≡ length ys → ⊥) → sameBytes xs ys ≡ false
-unfolding sameBytes
-same-length [] [] n = absurd (n refl)
-same-length [] (y ∷ ys) n = refl
-same-length (x ∷ xs) [] n = refl
-same-length (x ∷ xs) (y ∷ ys) n = rw (same-length xs ys (λ e. n (ap suc e))) (and-false (eqb x y))
-
--- one turn of the comparison
-module _ (xs ys : List ℕ) (i : ℕ) (h : i < length xs) (k : i < length ys) where
-  pub same-hit : getD xs i 0 ≡ getD ys i 0 → sameBytes (drop i xs) (drop i ys) ≡ sameBytes (drop (i + 1) xs) (drop (i + 1) ys)
-  unfolding sameBytes
-  same-hit e = rw (drop-cons xs i 0, drop-cons ys i 0, eq-eqb _ _ e, add-one)
-
-  pub same-miss : (getD xs i 0 ≡ getD ys i 0 → ⊥) → sameBytes (drop i xs) (drop i ys) ≡ false
-  unfolding sameBytes
-  same-miss e = rw (drop-cons xs i 0, drop-cons ys i 0, ne-eqb _ _ e)
-
--- the comparison has passed every byte
-pub same-end : (xs ys : List ℕ) (i : ℕ) → length xs ≤ i → length ys ≤ i → sameBytes (drop i xs) (drop i ys) ≡ true
-unfolding sameBytes
-same-end xs ys i h k = rw (drop-of-length-le xs h, drop-of-length-le ys k)
 
 pub zeros-step : (l : List ℕ) (i : ℕ) → i < length l → zeros (drop i l) ≡ (eqb (getD l i 0) 0 && zeros (drop (i + 1) l))
 unfolding zeros
@@ -76,3 +53,9 @@ unfolding padded
 pad-whole s e =
     let h : length s ≤ 16 = omega arith in
     rw (take-all 16 s h, e) (append-nil s)
+
+-- of a byte string that was cut, as many bytes as there are
+pub taken : (n : ℕ) (s : List ℕ) → take (length (take n s)) s ≡ take n s
+taken zero s = refl
+taken (suc n) [] = refl
+taken (suc n) (x ∷ xs) = ap (λ (l : List ℕ). x ∷ l) (taken n xs)

@@ -1,32 +1,32 @@
 -- One place of a sound card by the names of its parts, under another life cycle, and made anew. Assumes nothing.
-use mathlib.Core.Path.{_≡_, refl, sym}
+use mathlib.Core.Path.{_≡_, refl, sym, _∙_}
 use Prim.Native.Nat.{ℕ, zero, suc, _-_, _≤_}
 use native.Mathlib.Omega.{arith}
-use mathlib.Core.List.{List, _++_}
+use mathlib.Core.List.{List}
 use mathlib.Core.Bool.{Bool, true, false, not, cond, _&&_, false≢true}
 use lib.ListN.{length, drop, take, replicate, length-append, length-replicate}
-use lib.Seq.{drop-append-seam, take-all}
+use lib.Seq.{drop-append-seam, take-append-seam, take-all}
 use lib.Dec.{leb, eqb}
-use borrow.Author.Tests.{eqb-true, ne-eqb, eq-eqb, leb-true}
+use borrow.Author.Tests.{eqb-true, ne-eqb, leb-true}
 use Rattle.isdp.specs.Sizes.{leastAid, mostAid}
-use Rattle.isdp.specs.Aids.{padded}
+use Rattle.isdp.specs.Aids.{padded, aidOk, aidOf}
 use Rattle.isdp.specs.Policy.{policyOk}
 use Rattle.isdp.specs.LifeCycle.{disabled, isEnabled, withLife, off}
-use Rattle.isdp.specs.Place.{vacant, made, held, zeros, lifeOk, emptyOk, heldOk, placeOk}
+use Rattle.isdp.specs.Place.{vacant, made, held, zeros, lifeOk, heldOk, placeOk}
 use Rattle.isdp.specs.declared.Isdp.{Isdp}
 use Rattle.isdp.proofs.Bools.{and-l, and-r}
 
 -- the test of a held profile, by name (its life cycle apart)
 pub record Placed (k : ℕ) (p : Isdp) : Type 0 where
-  pub wide : length (p .aid) ≡ mostAid
+  pub wide : length (p .aid .bytes) ≡ mostAid
   pub there : held p ≡ true
-  pub five : leb leastAid (p .len) ≡ true
-  pub sixteen : leb (p .len) mostAid ≡ true
+  pub five : leb leastAid (p .aid .len) ≡ true
+  pub sixteen : leb (p .aid .len) mostAid ≡ true
   pub some : leb 1 (p .quota) ≡ true
   pub most : leb (p .quota) k ≡ true
   pub fits : leb (p .used) (p .quota) ≡ true
   pub rule : policyOk (p .policy) ≡ true
-  pub ended : zeros (drop (p .len) (p .aid)) ≡ true
+  pub ended : zeros (drop (p .aid .len) (p .aid .bytes)) ≡ true
 
 held-case : (w h a x r s z : Bool) → a ≡ false → (w && cond h (x && (r && z)) ((a && s) && z)) ≡ true → (w ≡ true) × (h ≡ true) × (r ≡ true) × (z ≡ true)
 held-case true true a x r s z n e = (refl, refl, and-l r z (and-r x (r && z) e), and-r r z (and-r x (r && z) e))
@@ -37,14 +37,14 @@ held-case false h a x r s z n e = absurd (false≢true e)
 pub placed : (k : ℕ) (p : Isdp) → eqb (p .life) 0 ≡ false → placeOk k p ≡ true → Placed k p
 unfolding placeOk
 placed k p n e =
-    let h = held-case (eqb (length (p .aid)) mostAid) (held p) (eqb (p .life) 0) (lifeOk (p .life)) (heldOk k p) (eqb (p .quota) 0 && (eqb (p .used) 0 && eqb (p .policy) 0)) (zeros (drop (p .len) (p .aid))) n e in
+    let h = held-case (eqb (length (p .aid .bytes)) mostAid) (held p) (eqb (p .life) 0) (lifeOk (p .life)) (heldOk k p) (eqb (p .quota) 0 && (eqb (p .used) 0 && eqb (p .policy) 0)) (zeros (drop (p .aid .len) (p .aid .bytes))) n e in
     let r : heldOk k p ≡ true = h .2 in
-    let r1 = and-r (leb leastAid (p .len)) _ r in
-    let r2 = and-r (leb (p .len) mostAid) _ r1 in
+    let r1 = and-r (leb leastAid (p .aid .len)) _ r in
+    let r2 = and-r (leb (p .aid .len) mostAid) _ r1 in
     let r3 = and-r (leb 1 (p .quota)) _ r2 in
     let r4 = and-r (leb (p .quota) k) _ r3 in
     record {
-      wide = eqb-true (length (p .aid)) mostAid (h .0);
+      wide = eqb-true (length (p .aid .bytes)) mostAid (h .0);
       there = h .1;
       five = and-l _ _ r;
       sixteen = and-l _ _ r1;
@@ -70,7 +70,7 @@ relife-case false h a x y r s z n e = absurd (false≢true e)
 pub relife : (k : ℕ) (p : Isdp) (v : ℕ) → eqb (p .life) 0 ≡ false → lifeOk v ≡ true → placeOk k p ≡ true → placeOk k (withLife p v) ≡ true
 unfolding placeOk
 relife k p v n o e =
-    rw o (relife-case (eqb (length (p .aid)) mostAid) (held p) (eqb (p .life) 0) (lifeOk (p .life)) (eqb v 0) (heldOk k p) (eqb (p .quota) 0 && (eqb (p .used) 0 && eqb (p .policy) 0)) (zeros (drop (p .len) (p .aid))) n e)
+    rw o (relife-case (eqb (length (p .aid .bytes)) mostAid) (held p) (eqb (p .life) 0) (lifeOk (p .life)) (eqb v 0) (heldOk k p) (eqb (p .quota) 0 && (eqb (p .used) 0 && eqb (p .policy) 0)) (zeros (drop (p .aid .len) (p .aid .bytes))) n e)
 
 off-ok-case : (k : ℕ) (p : Isdp) (b : Bool) → isEnabled p ≡ b → placeOk k p ≡ true → placeOk k (withLife p (cond b disabled (p .life))) ≡ true
 off-ok-case k p true e o = relife k p disabled (rw (eqb-true (p .life) _ e)) refl o
@@ -99,9 +99,25 @@ unfolding padded
 padded-length aid h =
     rw (take-all mostAid aid h, length-append aid (replicate (mostAid - length aid) 0), length-replicate {A = ℕ} (mostAid - length aid) 0) (omega arith)
 
-pub made-ok : (k : ℕ) (aid : List ℕ) (life quota used : ℕ) → lifeOk life ≡ true → leb leastAid (length aid) ≡ true → leb (length aid) mostAid ≡ true → leb 1 quota ≡ true → leb quota k ≡ true → leb used quota ≡ true → placeOk k (made aid life quota used) ≡ true
-made-ok k aid life quota used l five sixteen some most fits =
-    let h = leb-true leastAid (length aid) five in
-    let g = leb-true (length aid) mostAid sixteen in
-    placed-ok k (made aid life quota used) l
-    (record { wide = padded-length aid g; there = rw (ne-eqb (length aid) 0 (λ z. omega arith)); five = five; sixteen = sixteen; some = some; most = most; fits = fits; rule = refl; ended = padding aid g })
+-- a profile made anew bears the AID that it was made with
+module _ (aid : List ℕ) (life quota used : ℕ) (ok : aidOk aid ≡ true) where
+  five : leastAid ≤ length aid
+  five = leb-true leastAid (length aid) (and-l _ _ ok)
+
+  sixteen : length aid ≤ mostAid
+  sixteen = leb-true (length aid) mostAid (and-r (leb leastAid (length aid)) _ ok)
+
+  whole : take mostAid aid ≡ aid
+  whole = take-all mostAid aid sixteen
+
+  pub made-held : held (made aid life quota used) ≡ true
+  made-held = rw (whole, ne-eqb (length aid) 0 (λ z. let h = five in omega arith))
+
+  pub made-aid : aidOf (made aid life quota used) ≡ aid
+  unfolding padded
+  made-aid = take-append-seam (take mostAid aid) _ ∙ whole
+
+  pub made-ok : (k : ℕ) → lifeOk life ≡ true → leb 1 quota ≡ true → leb quota k ≡ true → leb used quota ≡ true → placeOk k (made aid life quota used) ≡ true
+  made-ok k l some most fits =
+      placed-ok k (made aid life quota used) l
+      (record { wide = padded-length aid sixteen; there = made-held; five = rw whole (and-l _ _ ok); sixteen = rw whole (and-r (leb leastAid (length aid)) _ ok); some = some; most = most; fits = fits; rule = refl; ended = rw whole (padding aid sixteen) })

@@ -10,5 +10,5 @@ use Rattle.isdp.specs.declared.Isdp.{Isdp}
 use Rattle.isdp.proofs.Isdp as I
 
 -- an AID has sixteen bytes
-pub wide : (p : Isdp) (vs : List Val) → Is (row I.the-type) p vs → length (p .aid) ≡ 16
+pub wide : (p : Isdp) (vs : List Val) → Is (row I.the-type) p vs → length (p .aid .bytes) ≡ 16
 wide p vs g = search needs

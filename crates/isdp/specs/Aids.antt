@@ -1,19 +1,12 @@
--- Document 01, 'Sizes' and 'The card': AIDs. Two are the same when their lengths and their bytes are.
+-- Document 01, 'Sizes' and 'The card': AIDs, as they come and as they are kept.
 use Prim.Native.Nat.{ℕ, _-_}
-use mathlib.Core.List.{List, [], _∷_, _++_}
-use mathlib.Core.Bool.{Bool, true, false, _&&_}
+use mathlib.Core.List.{List, _++_}
+use mathlib.Core.Bool.{Bool, _&&_}
 use lib.ListN.{length, take, replicate}
-use lib.Dec.{leb, eqb}
+use lib.Dec.{leb}
 use Rattle.isdp.specs.Sizes.{leastAid, mostAid}
 use Rattle.isdp.specs.declared.Isdp.{Isdp}
 use Rattle.isdp.specs.declared.Aid.{Aid}
-
--- two byte strings are the same
-unfoldable pub sameBytes : List ℕ → List ℕ → Bool
-sameBytes [] [] = true
-sameBytes [] (y ∷ ys) = false
-sameBytes (x ∷ xs) [] = false
-sameBytes (x ∷ xs) (y ∷ ys) = eqb x y && sameBytes xs ys
 
 -- "AID 5 to 16 bytes"
 abbrev pub aidOk : List ℕ → Bool
@@ -23,14 +16,18 @@ aidOk aid = leb leastAid (length aid) && leb (length aid) mostAid
 unfoldable pub padded : List ℕ → List ℕ
 padded aid = take mostAid aid ++ replicate (mostAid - length aid) 0
 
--- the AID of a place, as bytes
-abbrev pub aidOf : Isdp → List ℕ
-aidOf p = take (p .len) (p .aid)
-
--- the AID of a place, as it is handed out
-abbrev pub nameOf : Isdp → Aid
-nameOf p = record { bytes = p .aid; len = p .len }
+-- an AID as it is kept; of one that is too long, the first sixteen bytes
+abbrev pub named : List ℕ → Aid
+named aid = record { bytes = padded aid; len = length (take mostAid aid) }
 
 -- no AID
 abbrev pub noAid : Aid
 noAid = record { bytes = replicate mostAid 0; len = 0 }
+
+-- the bytes of an AID that is kept
+abbrev pub bytesOf : Aid → List ℕ
+bytesOf a = take (a .len) (a .bytes)
+
+-- the AID of a place, as bytes
+abbrev pub aidOf : Isdp → List ℕ
+aidOf p = bytesOf (p .aid)

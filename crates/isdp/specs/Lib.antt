@@ -2,5 +2,6 @@
 pub mod Sizes
 pub mod Aids
 pub mod Policy
+pub mod Profile
 pub mod LifeCycle
 pub mod Place

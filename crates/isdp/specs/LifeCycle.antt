@@ -1,7 +1,8 @@
--- Document 01, 'The card': the life cycle of an ISD-P (000, 2.2.1.3), and a place under another one.
+-- Document 01, 'The card': the life cycle of an ISD-P (000, 2.2.1.3), and a place with another life cycle, other used bytes, another policy.
 use Prim.Native.Nat.{ℕ}
 use mathlib.Core.Bool.{Bool, cond, _||_}
 use lib.Dec.{eqb}
+use Rattle.isdp.specs.Profile.{changed}
 use Rattle.isdp.specs.declared.Isdp.{Isdp}
 
 abbrev pub selectable : ℕ
@@ -24,16 +25,17 @@ abbrev pub isFinished : ℕ → Bool
 isFinished v = eqb v disabled || eqb v enabled
 
 abbrev pub withLife : Isdp → ℕ → Isdp
-withLife p v =
-    record { aid = p .aid; len = p .len; life = v; quota = p .quota; used = p .used; policy = p .policy }
+withLife p life = changed p life (p .used) (p .policy)
 
 abbrev pub withUsed : Isdp → ℕ → Isdp
-withUsed p u =
-    record { aid = p .aid; len = p .len; life = p .life; quota = p .quota; used = u; policy = p .policy }
+withUsed p used = changed p (p .life) used (p .policy)
+
+abbrev pub withPolicy : Isdp → ℕ → Isdp
+withPolicy p policy = changed p (p .life) (p .used) policy
 
 -- DISABLED, with this policy
 abbrev pub finish : Isdp → ℕ → Isdp
-finish p b = record { aid = p .aid; len = p .len; life = disabled; quota = p .quota; used = p .used; policy = b }
+finish p policy = withPolicy (withLife p disabled) policy
 
 -- an ENABLED place is DISABLED, any other stays
 abbrev pub off : Isdp → Isdp

@@ -2,26 +2,27 @@
 use Prim.Native.Nat.{ℕ}
 use mathlib.Core.List.{List, [], _∷_}
 use mathlib.Core.Bool.{Bool, true, false, not, cond, _&&_, _||_}
-use lib.ListN.{length, drop, replicate}
+use lib.ListN.{length, drop}
 use lib.Dec.{leb, eqb}
+use Rattle.byte_string.specs.Bytes.{sameBytes}
 use Rattle.isdp.specs.Sizes.{leastAid, mostAid}
-use Rattle.isdp.specs.Aids.{sameBytes, padded, aidOf}
+use Rattle.isdp.specs.Aids.{named, noAid, aidOf}
 use Rattle.isdp.specs.Policy.{policyOk}
+use Rattle.isdp.specs.Profile.{profile}
 use Rattle.isdp.specs.LifeCycle.{selectable, personalized, disabled, enabled}
 use Rattle.isdp.specs.declared.Isdp.{Isdp}
 
 -- a place that is not held
 abbrev pub vacant : Isdp
-vacant = record { aid = replicate mostAid 0; len = 0; life = 0; quota = 0; used = 0; policy = 0 }
+vacant = profile noAid 0 0 0 0
 
 -- a new profile: its policy is empty
 abbrev pub made : List ℕ → ℕ → ℕ → ℕ → Isdp
-made aid life quota used =
-    record { aid = padded aid; len = length aid; life = life; quota = quota; used = used; policy = 0 }
+made aid life quota used = profile (named aid) life quota used 0
 
 -- a place is held when it has an AID
 abbrev pub held : Isdp → Bool
-held p = not (eqb (p .len) 0)
+held p = not (eqb (p .aid .len) 0)
 
 -- the place is held and bears this AID
 unfoldable pub isFor : List ℕ → Isdp → Bool
@@ -47,15 +48,15 @@ emptyOk p = eqb (p .life) 0 && (eqb (p .quota) 0 && (eqb (p .used) 0 && eqb (p .
 -- the sizes and codings of a held place, its life cycle apart, which steps on the life cycle do not touch
 abbrev pub heldOk : ℕ → Isdp → Bool
 heldOk capacity p =
-    leb leastAid (p .len)
-    && (leb (p .len) mostAid
+    leb leastAid (p .aid .len)
+    && (leb (p .aid .len) mostAid
     && (leb 1 (p .quota)
     && (leb (p .quota) capacity && (leb (p .used) (p .quota) && policyOk (p .policy)))))
 
 -- the sizes and codings of one place; "bytes past an AID's length are zero"
 unfoldable pub placeOk : ℕ → Isdp → Bool
 placeOk capacity p =
-    eqb (length (p .aid)) mostAid
+    eqb (length (p .aid .bytes)) mostAid
     && cond (held p)
-    (lifeOk (p .life) && (heldOk capacity p && zeros (drop (p .len) (p .aid))))
-    (emptyOk p && zeros (drop (p .len) (p .aid)))
+    (lifeOk (p .life) && (heldOk capacity p && zeros (drop (p .aid .len) (p .aid .bytes))))
+    (emptyOk p && zeros (drop (p .aid .len) (p .aid .bytes)))

@@ -1,28 +1,30 @@
 // One ISD-P as the card holds it: AID, life cycle, quota, used bytes and policy, and the tests on it alone.
 // A place that is not held is the record of zeros; every function answers for every record, sound or not.
+use byte_string::same;
 ghost use mathlib.Core.Path.{_≡_};
 ghost use mathlib.Core.Bool.{cond, _&&_};
 ghost use Prim.Native.Nat.{_+_, _≤_};
 ghost use lib.ListN.{length, drop};
 ghost use lib.Dec.{leb, ltb, eqb};
-ghost use Rattle.isdp.specs.Aids.{sameBytes, aidOk, padded, noAid, nameOf};
+ghost use Rattle.isdp.specs.Sizes.{mostAid};
+ghost use Rattle.isdp.specs.Aids.{aidOk, padded, named, noAid, bytesOf};
 ghost use Rattle.isdp.specs.Policy.{policyOk, forbidsDisabling, forbidsDeletion, onceDisabled};
 ghost use Rattle.isdp.specs.LifeCycle.{isEnabled, withLife, withUsed, finish, off};
 ghost use Rattle.isdp.specs.Place.{vacant, made, isFor, zeros, lifeOk, emptyOk, heldOk, placeOk, clash};
 
-pub struct Isdp {
-    pub aid: [u8; 16],
-    pub len: usize,
-    pub life: u8,
-    pub quota: u32,
-    pub used: u32,
-    pub policy: u8,
-}
-
-// An AID by itself: its bytes with zeros after them, and its length; length 0 where there is none.
+// An AID: its bytes with zeros after them, and its length; length 0 where there is none.
 pub struct Aid {
     pub bytes: [u8; 16],
-    pub len: usize,
+    pub len: u8,
+}
+
+// The numbers stand first, so that a profile takes 28 bytes, one of them spare.
+pub struct Isdp {
+    pub quota: u32,
+    pub used: u32,
+    pub life: u8,
+    pub policy: u8,
+    pub aid: Aid,
 }
 
 impl Isdp {
@@ -33,23 +35,6 @@ impl Isdp {
     pub const DISABLED: u8 = 0x1F;
 
     pub const ENABLED: u8 = 0x3F;
-}
-
-// Are the two byte strings the same, in length too?
-pub fn same(a: &[u8], b: &[u8]) -> bool
-    ensures { λ r. ⌜ r ≡ sameBytes (now (a .entry)) (now (b .entry)) ⌝ }
-{
-    if a.len() != b.len() {
-        return false;
-    }
-    let mut i = 0;
-    while i < a.len() {
-        if a[i] != b[i] {
-            return false;
-        }
-        i += 1;
-    }
-    true
 }
 
 // Has the AID 5 to 16 bytes?
@@ -74,6 +59,40 @@ pub fn pad(aid: &[u8]) -> [u8; 16]
         i += 1;
     }
     bytes
+}
+
+impl Aid {
+    pub fn none() -> Aid
+        ensures { λ r. ⌜ r ≡ noAid ⌝ }
+    {
+        let bytes = [0u8; 16];
+        Aid { bytes, len: 0 }
+    }
+
+    // The AID as it is kept; of one that is too long, the first sixteen bytes.
+    pub fn of(aid: &[u8]) -> Aid
+        ensures { λ r. ⌜ r ≡ named (now (aid .entry)) ⌝ }
+    {
+        let bytes = pad(aid);
+        if aid.len() > 16 {
+            return Aid { bytes, len: 16 };
+        }
+        Aid {
+            bytes,
+            len: aid.len() as u8,
+        }
+    }
+
+    // How many of the sixteen bytes are the AID.
+    pub fn size(self) -> usize
+        ensures { λ r. ⌜ (r ≡ length (bytesOf self)) × (r ≤ mostAid) ⌝ }
+    {
+        let n = self.len as usize;
+        if n > 16 {
+            return 16;
+        }
+        n
+    }
 }
 
 // Is the policy byte legal?
@@ -133,8 +152,9 @@ fn life_ok(life: u8) -> bool
 fn held_ok(p: Isdp, capacity: u32) -> bool
     ensures { λ r. ⌜ r ≡ heldOk capacity p ⌝ }
 {
-    (5 <= p.len)
-        & ((p.len <= 16)
+    let aid = p.aid;
+    (5 <= aid.len)
+        & ((aid.len <= 16)
             & ((1 <= p.quota)
                 & ((p.quota <= capacity) & ((p.used <= p.quota) & policy_ok(p.policy)))))
 }
@@ -143,9 +163,10 @@ fn held_ok(p: Isdp, capacity: u32) -> bool
 pub fn place_ok(p: Isdp, capacity: u32) -> bool
     ensures { λ r. ⌜ r ≡ placeOk capacity p ⌝ }
 {
-    let bytes = p.aid;
-    let rest = zeros_from(bytes, p.len);
-    if p.len == 0 {
+    let aid = p.aid;
+    let bytes = aid.bytes;
+    let rest = zeros_from(bytes, aid.len as usize);
+    if aid.len == 0 {
         return empty_ok(p) & rest;
     }
     life_ok(p.life) & (held_ok(p, capacity) & rest)
@@ -155,14 +176,12 @@ pub fn place_ok(p: Isdp, capacity: u32) -> bool
 pub fn is_for(p: Isdp, aid: &[u8]) -> bool
     ensures { λ r. ⌜ r ≡ isFor (now (aid .entry)) p ⌝ }
 {
-    let n = p.len;
-    if n == 0 {
+    let name = p.aid;
+    if name.len == 0 {
         return false;
     }
-    let bytes = p.aid;
-    if n > 16 {
-        return same(&bytes, aid);
-    }
+    let n = name.size();
+    let bytes = name.bytes;
     same(&bytes[..n], aid)
 }
 
@@ -170,14 +189,12 @@ pub fn is_for(p: Isdp, aid: &[u8]) -> bool
 pub fn clashes(p: Isdp, q: Isdp) -> bool
     ensures { λ r. ⌜ r ≡ clash p q ⌝ }
 {
-    let n = p.len;
-    if n == 0 {
+    let name = p.aid;
+    if name.len == 0 {
         return false;
     }
-    let bytes = p.aid;
-    if n > 16 {
-        return is_for(q, &bytes);
-    }
+    let n = name.size();
+    let bytes = name.bytes;
     is_for(q, &bytes[..n])
 }
 
@@ -186,14 +203,13 @@ impl Isdp {
     pub fn none() -> Isdp
         ensures { λ r. ⌜ r ≡ vacant ⌝ }
     {
-        let aid = [0u8; 16];
+        let aid = Aid::none();
         Isdp {
-            aid,
-            len: 0,
-            life: 0,
             quota: 0,
             used: 0,
+            life: 0,
             policy: 0,
+            aid,
         }
     }
 
@@ -201,15 +217,13 @@ impl Isdp {
     pub fn made(aid: &[u8], life: u8, quota: u32, used: u32) -> Isdp
         ensures { λ r. ⌜ r ≡ made (now (aid .entry)) life quota used ⌝ }
     {
-        let bytes = pad(aid);
-        Isdp {
-            aid: bytes,
-            len: aid.len(),
-            life,
-            quota,
-            used,
-            policy: 0,
-        }
+        let name = Aid::of(aid);
+        let mut p = Isdp::none();
+        p.aid = name;
+        p.life = life;
+        p.quota = quota;
+        p.used = used;
+        p
     }
 
     pub fn with_life(self, life: u8) -> Isdp
@@ -257,25 +271,5 @@ impl Isdp {
             return false;
         }
         n <= self.quota - self.used
-    }
-
-    // The AID by itself.
-    pub fn name(self) -> Aid
-        ensures { λ r. ⌜ r ≡ nameOf self ⌝ }
-    {
-        let bytes = self.aid;
-        Aid {
-            bytes,
-            len: self.len,
-        }
-    }
-}
-
-impl Aid {
-    pub fn none() -> Aid
-        ensures { λ r. ⌜ r ≡ noAid ⌝ }
-    {
-        let bytes = [0u8; 16];
-        Aid { bytes, len: 0 }
     }
 }

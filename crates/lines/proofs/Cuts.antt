@@ -10,8 +10,8 @@ use native.Mathlib.Omega.{arith}
 use lib.ListN.{length, take, drop, length-append, length-take, length-drop}
 use lib.Seq.{take-take, take-append-seam}
 use Rattle.text.specs.Words.{before, part}
-use Rattle.text.specs.Put.{put, after}
-use Rattle.text.proofs.PutLaws.{put-put, put-front, length-put, after-fits}
+use Rattle.byte_string.specs.Put.{put, after}
+use Rattle.byte_string.proofs.PutLaws.{put-put, put-front, length-put, after-fits}
 use Rattle.lines.specs.Lines.{Line, Whole, linesOf}
 use Rattle.lines.specs.Window.{nextOf, heldOf, freshWindow}
 use Rattle.lines.specs.Cuts.{handed, drained, drainedTo, readBuffer, readWindow, steps, linesBy, AtMost, one, AnyCut, AnswersAtOnce, Settled, Session, over, step, read, AnySession}

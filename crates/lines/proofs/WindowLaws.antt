@@ -9,8 +9,8 @@ use native.Mathlib.Numerals.{add-one, unary-clauses}
 use lib.ListN.{length, take, drop, getD, set, length-drop, length-take}
 use lib.Seq.{take-nil, take-suc, take-all, length-take-le, getD-take, getD-drop}
 use Rattle.text.specs.Words.{part}
-use Rattle.text.specs.Put.{put, after}
-use Rattle.text.proofs.PutLaws.{set-put, put-put, put-above, after-fits}
+use Rattle.byte_string.specs.Put.{put, after}
+use Rattle.byte_string.proofs.PutLaws.{set-put, put-put, put-above, after-fits}
 use Rattle.lines.specs.Window.{windowOf}
 
 pub window-end : (at : ℕ) {e f : ℕ} (skipping : Bool) → e ≡ f → windowOf at e skipping ≡ windowOf at f skipping

@@ -6,7 +6,7 @@ use mathlib.Core.Path.{_≡_}
 use mathlib.Core.Bool.{Bool, true, false}
 use lib.ListN.{length}
 use Rattle.text.specs.Words.{part, before}
-use Rattle.text.specs.Put.{put}
+use Rattle.byte_string.specs.Put.{put}
 use Rattle.lines.specs.Lines.{Line, longest, lineEnd, linesOf}
 use Rattle.lines.specs.Lines as line
 use Rattle.lines.specs.Window.{nextOf, freshWindow, heldOf, keptOf, grownOf}

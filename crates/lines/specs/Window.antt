@@ -6,7 +6,7 @@ use mathlib.Core.Bool.{Bool, true, false}
 use lib.ListN.{length, take, drop}
 use Rattle.choice.specs.Choice.{pick, atMost, isBelow}
 use Rattle.text.specs.Words.{before}
-use Rattle.text.specs.Put.{after}
+use Rattle.byte_string.specs.Put.{after}
 use Rattle.lines.specs.Lines.{longest, lineEnd}
 use Rattle.lines.specs.declared.Window.{Window}
 use Rattle.lines.specs.declared.Found.{Found}

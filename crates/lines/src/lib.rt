@@ -4,7 +4,7 @@ use text::until;
 ghost use mathlib.Core.Path.{_≡_};
 ghost use Prim.Native.Nat.{_≤_, min};
 ghost use lib.ListN.{length};
-ghost use Rattle.text.specs.Put.{put};
+ghost use Rattle.byte_string.specs.Put.{put};
 ghost use Rattle.lines.specs.Window.{freshWindow, found, idle, tailFrom, lineFrom, stepOf, nextOf, heldOf, keptOf, grownOf};
 ghost use Rattle.text.specs.Words.{part};
 

@@ -9,8 +9,8 @@ use lib.ListN.{length}
 use lib.Dec.{eqb}
 use Rattle.status.specs.StatusWords.{isDone}
 use Rattle.status.specs.Rows.{wordOf}
-use Rattle.text.specs.Put.{put, Wrote}
-use Rattle.text.proofs.PutLaws.{after-fits, put-none}
+use Rattle.byte_string.specs.Put.{put, Wrote}
+use Rattle.byte_string.proofs.PutLaws.{after-fits, put-none}
 use Rattle.card.specs.Ticks.{ticksByPhase}
 use Rattle.card.specs.Answers.{Work, acceptedAt, refusedAt, handed, known}
 use Rattle.card.specs.declared.Card.{Card}
@@ -21,13 +21,13 @@ pub whole : {l m vs : List ℕ} {r : ℕ} → Wrote l 0 vs r m → length vs ≤
 whole {l} {m} {vs} {r} w h = let e = w .place ∙ after-fits (length l) 0 (length vs) (omega arith) in omega arith
 
 -- what is answered on a card known to be sound has the work's response where it is accepted, and none where it is refused
-response-case : (P : List ℕ → Type 0) (c : Card) (w : Work) (b : Bool) → P (w .response) → P [] → P (cond b (acceptedAt (ticksByPhase (w .step .card)) (w .step) (w .response)) (refusedAt (ticksByPhase c) c (wordOf (w .rows))) .response)
+response-case : (P : List ℕ → Type 0) (c : Card) (w : Work) (b : Bool) → P (w .response) → P [] → P (cond b (acceptedAt (ticksByPhase (w .step .card)) (wordOf (w .success) (w .rows)) (w .step) (w .response)) (refusedAt (ticksByPhase c) c (wordOf (w .success) (w .rows))) .response)
 response-case P c w true h n = h
 response-case P c w false h n = n
 
 module _ (c : Card) (w : Work) where
   known-response : (P : List ℕ → Type 0) → P (w .response) → P [] → P (known c w .response)
-  known-response P = response-case P c w (isDone (wordOf (w .rows)))
+  known-response P = response-case P c w (isDone (wordOf (w .success) (w .rows)))
 
   -- a call without a response has none, refused or not, and the buffer is as it was
   pub none-known : w .response ≡ [] → known c w .response ≡ []

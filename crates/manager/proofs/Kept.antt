@@ -10,6 +10,7 @@ use lib.Seq.{length-take-le}
 use borrow.Author.Tests.{le-leb, not-false}
 use Rattle.status.specs.StatusWords.{isDone}
 use Rattle.status.specs.Rows.{wordOf}
+use Rattle.status.specs.declared.Status.{Status}
 use Rattle.status.proofs.Tables.{passed}
 use Rattle.isdp.specs.Sizes.{leastAid, mostAid}
 use Rattle.isdp.specs.Aids.{aidOk}
@@ -17,7 +18,9 @@ use Rattle.isdp.proofs.Bools.{and-r, both}
 use Rattle.card.specs.Sound.{sound}
 use Rattle.card.specs.declared.Card.{Card}
 use Rattle.card.proofs.Outcomes.{decide-card, checked}
-use Rattle.tlv.specs.declared.Part.{Part}
+use Rattle.byte_string.specs.Bytes.{partOf}
+use Rattle.byte_string.specs.declared.Part.{Part}
+use Rattle.command.specs.Framing.{lengthWrong, classWrong, instructionWrong, parametersWrong, shapeWrong}
 use Rattle.command.specs.Requests.{fieldOf}
 use Rattle.command.specs.Places.{Placed, RequestIn}
 use Rattle.command.specs.declared.request.Request.{Request}
@@ -26,10 +29,10 @@ use Rattle.command.specs.declared.request.Field.{Field}
 use Rattle.command.specs.declared.request.Field.the-variants as field
 use Rattle.command.proofs.Within.{FieldIn, field-in}
 use Rattle.steps.specs.Steps.{stepOf, responseOf}
-use Rattle.steps.proofs.Rows.{Passed}
+use Rattle.steps.proofs.Rows.{Passed, named}
 use Rattle.steps.proofs.Kept.{Legal, step-kept}
-use Rattle.manager.specs.Calls.{Call, Call.Command, Call.Keyed, Call.Stored, Call.Finished, Call.Tick, Call.Lost, partOf, requestAsks, fieldAsks, asked}
-use Rattle.manager.specs.Table.{bufferShort, valuesWrong, rowsAfter, table}
+use Rattle.manager.specs.Calls.{Call, Call.Command, Call.Keyed, Call.Stored, Call.Finished, Call.Tick, Call.Lost, requestAsks, fieldAsks, asked}
+use Rattle.manager.specs.Table.{bufferShort, inCommand, valuesWrong, rowsAfter, table}
 use Rattle.manager.specs.Manager.{work, step, onSound, run}
 use Rattle.manager.specs.Statements.{OnSoundAgrees}
 
@@ -73,29 +76,29 @@ legal c Lost e = tt
 pub record Accepted (c : Card) (call : Call) : Type 0 where
   pub whole : sound c ≡ true
   pub buffer : bufferShort call ≡ false
+  pub length : inCommand lengthWrong call ≡ false
+  pub class : inCommand classWrong call ≡ false
+  pub instruction : inCommand instructionWrong call ≡ false
+  pub parameters : inCommand parametersWrong call ≡ false
+  pub shape : inCommand shapeWrong call ≡ false
   pub values : valuesWrong c call ≡ false
   pub card : Passed c (asked c call)
 
-pub rows-accepted : (c : Card) (call : Call) → isDone (wordOf (table c call)) ≡ true → Accepted c call
-rows-accepted c call e =
-    let p = passed (table c call) refl e in
-    let v = p .1 .1 .1 .1 .1 .1 .1 in
-    let k = v .1 in
-    record {
-      whole = not-false _ (p .0);
-      buffer = p .1 .0;
-      values = v .0;
-      card = record { change = k .0; target = k .1 .0; already = k .1 .1 .0; state = k .1 .1 .1 .0; policy = k .1 .1 .1 .1 .0; verdict = k .1 .1 .1 .1 .1 .0; room = k .1 .1 .1 .1 .1 .1 .0 };
-    }
+pub rows-accepted : (c : Card) (call : Call) (success : Status) → isDone (wordOf success (table c call)) ≡ true → Accepted c call
+rows-accepted c call success e =
+    let p = passed success (table c call) refl e in
+    let r = p .1 .1 in
+    let v = r .1 .1 .1 .1 .1 in
+    record { whole = not-false _ (p .0); buffer = p .1 .0; length = r .0; class = r .1 .0; instruction = r .1 .1 .0; parameters = r .1 .1 .1 .0; shape = r .1 .1 .1 .1 .0; values = v .0; card = named c (asked c call) (v .1) }
 
 -- the step of a call that the table accepts
-pub took-sound : (c : Card) (call : Call) → isDone (wordOf (table c call)) ≡ true → sound (stepOf c (asked c call) .card) ≡ true
-took-sound c call e = let p = rows-accepted c call e in step-kept c (asked c call) (legal c call (p .values)) (p .whole) (p .card)
+pub took-sound : (c : Card) (call : Call) → isDone (wordOf (work c call .success) (table c call)) ≡ true → sound (stepOf c (asked c call) .card) ≡ true
+took-sound c call e = let p = rows-accepted c call (work c call .success) e in step-kept c (asked c call) (legal c call (p .values)) (p .whole) (p .card)
 
 pub step-sound : (c : Card) (call : Call) → sound c ≡ true → sound (step c call .card) ≡ true
 unfolding step
 step-sound c call s =
-    decide-card (λ d. sound d ≡ true) c (wordOf (table c call)) (stepOf c (asked c call)) (responseOf c (asked c call)) (took-sound c call) s
+    decide-card (λ d. sound d ≡ true) c (wordOf (work c call .success) (table c call)) (stepOf c (asked c call)) (responseOf c (asked c call)) (took-sound c call) s
 
 pub run-sound : (c : Card) (calls : List Call) → sound c ≡ true → sound (run c calls) ≡ true
 unfolding run
@@ -103,7 +106,7 @@ run-sound c [] s = s
 run-sound c (call ∷ calls) s = run-sound (step c call .card) calls (step-sound c call s)
 
 -- a call that does not ask soundness again answers the same on a sound card
-call-kept : (c : Card) (call : Call) → sound c ≡ true → isDone (wordOf (rowsAfter c call)) ≡ true → sound (stepOf c (asked c call) .card) ≡ true
+call-kept : (c : Card) (call : Call) → sound c ≡ true → isDone (wordOf (work c call .success) (rowsAfter c call)) ≡ true → sound (stepOf c (asked c call) .card) ≡ true
 unfolding wordOf
 call-kept c call s e = took-sound c call (rw s e)
 

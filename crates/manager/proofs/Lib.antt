@@ -1,6 +1,4 @@
--- Laws that several proofs cite: parts of a command, responses in a buffer and how long they are, the table over a command read,
--- soundness kept.
-pub mod Parts
+-- Laws that several proofs cite: responses in a buffer and how long they are, the table over a command read, soundness kept.
 pub mod Buffers
 pub mod Readings
 pub mod Kept

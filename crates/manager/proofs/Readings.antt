@@ -3,16 +3,15 @@
 use mathlib.Core.Path.{_≡_, refl, ap, sym, _∙_}
 use Prim.Native.Nat.{ℕ, _≤_}
 use mathlib.Core.List.{List, _++_}
-use mathlib.Core.Bool.{Bool, true, false, cond}
+use mathlib.Core.Bool.{false}
 use borrow.Author.Tests.{le-ltb}
 use Rattle.status.specs.StatusWords.{isDone}
-use Rattle.status.specs.Rows.{Row, wordOf}
+use Rattle.status.specs.Rows.{wordOf}
 use Rattle.status.specs.declared.Status.{Status}
 use Rattle.card.specs.Ticks.{ticksByPhase}
 use Rattle.card.specs.Answers.{refusedAt, known}
 use Rattle.card.specs.declared.Card.{Card}
 use Rattle.command.specs.Reading.{readingRows, readOf}
-use Rattle.command.specs.Requests.{fieldOf}
 use Rattle.command.specs.declared.request.Request.{Request}
 use Rattle.command.specs.declared.request.Field.the-variants as field
 use Rattle.command.specs.declared.Reading.the-variants as reading
@@ -21,7 +20,7 @@ use Rattle.steps.specs.Conditions.{cardRows}
 use Rattle.steps.specs.Steps.{askedWork}
 use Rattle.manager.specs.Calls.{Call, Call.Command, requestAsks, fieldAsks, asked}
 use Rattle.manager.specs.Table.{leastBuffer, rowsAfter}
-use Rattle.manager.specs.Manager.{onSound}
+use Rattle.manager.specs.Manager.{work, onSound}
 use Rattle.manager.specs.Statements.{TableParts}
 
 module _ (c : Card) (verdict : ℕ) (s : List ℕ) (room : ℕ) (h : leastBuffer ≤ room) where
@@ -29,15 +28,15 @@ module _ (c : Card) (verdict : ℕ) (s : List ℕ) (room : ℕ) (h : leastBuffer
   call = Command verdict s room
 
   -- past the row of the buffer
-  pub past-buffer : wordOf (rowsAfter c call) ≡ wordOf (readingRows s (c .capacity) ++ cardRows c (asked c call))
+  pub past-buffer : wordOf (work c call .success) (rowsAfter c call) ≡ wordOf (work c call .success) (readingRows s (c .capacity) ++ cardRows c (asked c call))
   unfolding wordOf
   past-buffer = rw (le-ltb room leastBuffer h)
 
   -- a command that was not read
-  pub not-read : (w : Status) → reading.Refused w ≡ readOf s (c .capacity) → (wordOf (rowsAfter c call) ≡ w) × (isDone w ≡ false)
+  pub not-read : (w : Status) → reading.Refused w ≡ readOf s (c .capacity) → (wordOf (work c call .success) (rowsAfter c call) ≡ w) × (isDone w ≡ false)
   not-read w q =
       let r = refused-word s (c .capacity) w q in
-      (past-buffer ∙ rows-stop s (c .capacity) (cardRows c (asked c call)) (ap isDone (sym (r .0)) ∙ r .1) ∙ sym (r .0), r .1)
+      (past-buffer ∙ rows-stop s (c .capacity) (work c call .success) (cardRows c (asked c call)) (ap isDone (sym (r .0)) ∙ r .1) ∙ sym (r .0), r .1)
 
   pub refused-read : (w : Status) → reading.Refused w ≡ readOf s (c .capacity) → onSound c call ≡ refusedAt (ticksByPhase c) c w
   unfolding onSound
@@ -47,17 +46,17 @@ module _ (c : Card) (verdict : ℕ) (s : List ℕ) (room : ℕ) (h : leastBuffer
   pub asks-read : (r : Request) → reading.Read r ≡ readOf s (c .capacity) → asked c call ≡ requestAsks verdict s r
   asks-read r q = ap (fieldAsks verdict s) (sym (read-done s (c .capacity) r q .1))
 
-  pub word-read : (r : Request) → reading.Read r ≡ readOf s (c .capacity) → wordOf (rowsAfter c call) ≡ wordOf (cardRows c (asked c call))
-  word-read r q = past-buffer ∙ rows-pass s (c .capacity) (cardRows c (asked c call)) (read-passes s (c .capacity) r q)
+  pub word-read : (r : Request) → reading.Read r ≡ readOf s (c .capacity) → wordOf (work c call .success) (rowsAfter c call) ≡ wordOf (work c call .success) (cardRows c (asked c call))
+  word-read r q = past-buffer ∙ rows-pass s (c .capacity) (work c call .success) (cardRows c (asked c call)) (read-passes s (c .capacity) r q)
 
   pub known-read : (r : Request) → reading.Read r ≡ readOf s (c .capacity) → onSound c call ≡ known c (askedWork c (requestAsks verdict s r))
   unfolding onSound
   known-read r q = rw (word-read r q, asks-read r q)
 
 -- the rows that stand elsewhere are parts of the table
-pub table-parts : (c : Card) → TableParts c
+pub table-parts : (c : Card) (success : Status) → TableParts c success
 unfolding wordOf
-table-parts c =
+table-parts c success =
     record {
       command = λ verdict s room. refl;
       keyed-rows = λ aid. refl;

@@ -6,13 +6,12 @@ use native.Mathlib.Omega.{arith}
 use mathlib.Core.List.{List}
 use mathlib.Core.Bool.{Bool, true, false, cond}
 use lib.ListN.{length}
-use borrow.Author.Tests.{leb-true, not-false}
+use borrow.Author.Tests.{leb-true}
 use Rattle.status.specs.StatusWords.{isDone}
 use Rattle.status.specs.Rows.{wordOf}
 use Rattle.status.specs.declared.Status.{Status}
-use Rattle.status.proofs.Tables.{passed}
 use Rattle.isdp.specs.Sizes.{mostAid}
-use Rattle.isdp.specs.Aids.{nameOf, noAid}
+use Rattle.isdp.specs.Aids.{noAid}
 use Rattle.isdp.specs.declared.Aid.{Aid}
 use Rattle.places.specs.Places.{at, allOf}
 use Rattle.card.specs.Sound.{sound}
@@ -29,15 +28,16 @@ use Rattle.card.specs.Cards.{placeOf}
 use Rattle.steps.specs.Steps.{stepOf, actResponse, responseOf}
 use Rattle.manager.specs.Calls.{asked}
 use Rattle.manager.specs.Table.{table}
-use Rattle.manager.specs.Manager.{step}
+use Rattle.manager.specs.Manager.{work, step}
 use Rattle.manager.specs.Statements.{ResponseMost}
+use Rattle.manager.proofs.Kept.{rows-accepted}
 
 -- an AID handed out has sixteen bytes at the most
 abbrev bytesFit : Aid → Type 0
 bytesFit a = length (a .bytes) ≤ 16
 
-trial-gone : (c : Card) (previous : ℕ) → allOf aidFits (c .places) ≡ true → (b : Bool) → bytesFit (cond b (nameOf (at (c .places) previous)) noAid)
-trial-gone c previous f true = leb-true (length (at (c .places) previous .aid)) mostAid (all-at aidFits (c .places) previous f refl)
+trial-gone : (c : Card) (previous : ℕ) → allOf aidFits (c .places) ≡ true → (b : Bool) → bytesFit (cond b (at (c .places) previous .aid) noAid)
+trial-gone c previous f true = leb-true (length (at (c .places) previous .aid .bytes)) mostAid (all-at aidFits (c .places) previous f refl)
 trial-gone c previous f false = omega arith
 
 gone-fits : (c : Card) (p : Phase) → allOf aidFits (c .places) ≡ true → bytesFit (goneIn p c)
@@ -68,7 +68,7 @@ asked-most c getData s = omega (arith, data-length c)
 asked-most c tick s = omega arith
 asked-most c lost s = omega arith
 
-response-case : (c : Card) (w : Status) (s : Step) (rsp : List ℕ) (b : Bool) → isDone w ≡ b → (isDone w ≡ true → length rsp ≤ 255) → length (cond b (accepted s rsp) (refused c w) .response) ≤ 255
+response-case : (c : Card) (w : Status) (s : Step) (rsp : List ℕ) (b : Bool) → isDone w ≡ b → (isDone w ≡ true → length rsp ≤ 255) → length (cond b (accepted w s rsp) (refused c w) .response) ≤ 255
 unfolding accepted refused
 response-case c w s rsp true e f = f e
 response-case c w s rsp false e f = omega arith
@@ -76,5 +76,6 @@ response-case c w s rsp false e f = omega arith
 pub response-most : ResponseMost
 unfolding step
 response-most c call =
-    response-case c (wordOf (table c call)) (stepOf c (asked c call)) (responseOf c (asked c call)) (isDone (wordOf (table c call))) refl
-    (λ e. asked-most c (asked c call) (not-false _ (passed (table c call) refl e .0)))
+    let word = wordOf (work c call .success) (table c call) in
+    response-case c word (stepOf c (asked c call)) (responseOf c (asked c call)) (isDone word) refl
+    (λ e. asked-most c (asked c call) (rows-accepted c call (work c call .success) e .whole))

@@ -1,15 +1,13 @@
 -- Document 01, 'What is bought': the calls, and what each asks of a card once it is read.
 use Prim.Native.Nat.{ℕ}
 use mathlib.Core.List.{List}
-use mathlib.Core.Bool.{Bool}
-use lib.ListN.{take, drop}
-use Rattle.tlv.specs.declared.Part.{Part}
+use Rattle.byte_string.specs.Bytes.{partOf}
 use Rattle.command.specs.Requests.{fieldOf}
 use Rattle.command.specs.declared.request.Request.{Request}
 use Rattle.command.specs.declared.request.Request.the-variants as request
 use Rattle.command.specs.declared.request.Field.{Field}
 use Rattle.command.specs.declared.request.Field.the-variants as field
-use Rattle.steps.specs.Asked.{Act, Act.enable, Act.disable, Act.delete, Act.masterDelete, Act.setFallBack, Act.status, Act.keyed, Act.stored, Act.finished, Asked, Asked.unread, Asked.create, Asked.on, Asked.confirm, Asked.statusOfAll, Asked.getData, Asked.tick, Asked.lost}
+use Rattle.steps.specs.Asked.{Act.enable, Act.disable, Act.delete, Act.masterDelete, Act.setFallBack, Act.status, Act.keyed, Act.stored, Act.finished, Asked, Asked.unread, Asked.create, Asked.on, Asked.confirm, Asked.statusOfAll, Asked.getData, Asked.tick, Asked.lost}
 use Rattle.card.specs.declared.Card.{Card}
 use Rattle.manager.specs.declared.Call as declared
 use Rattle.manager.specs.declared.Call.the-variants as code
@@ -22,10 +20,6 @@ pub data Call : Type 0 where
   Finished : List ℕ → ℕ → Call
   Tick : Call
   Lost : Call
-
--- the bytes of a part of the command
-abbrev pub partOf : List ℕ → Part → List ℕ
-partOf s part = take (part .len) (drop (part .start) s)
 
 -- the call that the code's value names over the bytes it came in, with a response buffer of so many bytes lent
 abbrev pub callOf : List ℕ → ℕ → declared.Call → Call

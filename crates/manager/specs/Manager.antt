@@ -3,24 +3,24 @@
 use Prim.Native.Nat.{ℕ, _≤_}
 use mathlib.Core.List.{List, [], _∷_}
 use lib.ListN.{length}
-use Rattle.status.specs.Rows.{wordOf}
-use Rattle.card.specs.Answers.{Outcome, Work, accepted, settle, outcome, known}
+use Rattle.card.specs.Answers.{Outcome, Work, outcome, known}
 use Rattle.card.specs.declared.Card.{Card}
 use Rattle.card.specs.declared.Answer.{Answer}
-use Rattle.steps.specs.Steps.{stepOf, responseOf, Handed}
+use Rattle.steps.specs.Steps.{successOf, stepOf, responseOf, Handed}
 use Rattle.manager.specs.Calls.{Call, asked}
-use Rattle.manager.specs.Table.{table, rowsAfter}
+use Rattle.manager.specs.Table.{rowsAfter}
 
--- the work of a call: the rows after the first, the step, the response
+-- the work of a call: the rows after the first, the word of success, the step, the response
 abbrev pub work : Card → Call → Work
 work c call =
     record {
       rows = rowsAfter c call;
+      success = successOf c (asked c call);
       step = stepOf c (asked c call);
       response = responseOf c (asked c call);
     }
 
--- the answer: `settle c (wordOf (table c call)) (accepted step response)`
+-- the answer: the word of the table with its success otherwise, and where it is a success the step and the response
 unfoldable pub step : Card → Call → Outcome
 step c call = outcome c (work c call)
 

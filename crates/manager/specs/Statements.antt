@@ -5,6 +5,7 @@ use mathlib.Core.List.{List, _∷_, _++_}
 use mathlib.Core.Bool.{true}
 use lib.ListN.{length}
 use Rattle.status.specs.Rows.{row, wordOf}
+use Rattle.status.specs.declared.Status.{Status}
 use Rattle.status.specs.declared.Status.the-variants.{BufferShort}
 use Rattle.card.specs.Sound.{sound}
 use Rattle.card.specs.Answers.{soundRow}
@@ -25,12 +26,12 @@ OnSoundAgrees = (c : Card) (call : Call) → sound c ≡ true → onSound c call
 abbrev pub ResponseMost : Type 0
 ResponseMost = (c : Card) (call : Call) → length (step c call .response) ≤ 255
 
--- the table of a command is the rows of soundness and of the buffer, then those of reading, then the card's;
--- that of an inner call refuses as its values' row and then the card's rows do, that of tick and lost as the card's rows do
-pub record TableParts (c : Card) : Type 0 where
+-- the table of a command is the rows of soundness and of the buffer, then those of reading, then the card's; of an inner call, tick
+-- or lost the rows after soundness give the word that its values' row and then the card's rows give, whatever the word of success
+pub record TableParts (c : Card) (success : Status) : Type 0 where
   pub command : (verdict : ℕ) (s : List ℕ) (room : ℕ) → let call = Command verdict s room in table c call ≡ soundRow c ∷ row (bufferShort call) BufferShort ∷ (readingRows s (c .capacity) ++ cardRows c (asked c call))
-  pub keyed-rows : (aid : List ℕ) → wordOf (rowsAfter c (Keyed aid)) ≡ wordOf (innerWork c aid keyed .rows)
-  pub stored-rows : (aid : List ℕ) (n : ℕ) → wordOf (rowsAfter c (Stored aid n)) ≡ wordOf (innerWork c aid (stored n) .rows)
-  pub finished-rows : (aid : List ℕ) (policy : ℕ) → wordOf (rowsAfter c (Finished aid policy)) ≡ wordOf (innerWork c aid (finished policy) .rows)
-  pub tick-rows : wordOf (rowsAfter c Tick) ≡ wordOf (cardRows c tick)
-  pub lost-rows : wordOf (rowsAfter c Lost) ≡ wordOf (cardRows c lost)
+  pub keyed-rows : (aid : List ℕ) → wordOf success (rowsAfter c (Keyed aid)) ≡ wordOf success (innerWork c aid keyed .rows)
+  pub stored-rows : (aid : List ℕ) (n : ℕ) → wordOf success (rowsAfter c (Stored aid n)) ≡ wordOf success (innerWork c aid (stored n) .rows)
+  pub finished-rows : (aid : List ℕ) (policy : ℕ) → wordOf success (rowsAfter c (Finished aid policy)) ≡ wordOf success (innerWork c aid (finished policy) .rows)
+  pub tick-rows : wordOf success (rowsAfter c Tick) ≡ wordOf success (cardRows c tick)
+  pub lost-rows : wordOf success (rowsAfter c Lost) ≡ wordOf success (cardRows c lost)

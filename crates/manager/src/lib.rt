@@ -1,5 +1,8 @@
 // The manager of the root domain: one door for every call, answered whole.
 // `answer` asks first whether the card is sound; `answer_on_sound` is the same for a card known to be, for runs of many calls.
+use byte_string::Part;
+use byte_string::part_of;
+use byte_string::put_byte;
 use card::Answer;
 use card::Card;
 use command::Reading;
@@ -12,20 +15,18 @@ use responses::write_deleted;
 use responses::write_one_status;
 use responses::write_status;
 use status::Status;
-use text::put_byte;
-use tlv::Part;
 ghost use mathlib.Core.Path.{_≡_};
 ghost use mathlib.Core.List.{_∷_, []};
 ghost use mathlib.Core.Bool.{cond};
 ghost use Prim.Native.Nat.{_≤_};
 ghost use lib.ListN.{length};
 ghost use lib.Dec.{eqb};
-ghost use Rattle.text.specs.Put.{put};
+ghost use Rattle.byte_string.specs.Put.{put};
 ghost use Rattle.card.specs.Answers.{handed, known};
 ghost use Rattle.card.specs.Fresh.{freshOutcome};
 ghost use Rattle.steps.specs.Asked.{Act.status, Asked.on, Asked.confirm, Asked.statusOfAll, Asked.getData};
 ghost use Rattle.steps.specs.Steps.{askedWork};
-ghost use Rattle.manager.specs.Calls.{Call.Command, partOf, callOf, requestAsks};
+ghost use Rattle.manager.specs.Calls.{Call.Command, callOf, requestAsks};
 ghost use Rattle.manager.specs.Table.{leastBuffer};
 ghost use Rattle.manager.specs.Manager.{step, onSound, Served};
 
@@ -42,24 +43,6 @@ pub enum Call {
 
 // A lent response buffer has at least so many bytes.
 const BUFFER: usize = 256;
-
-// The bytes that a part names.
-pub fn part_of(bytes: &[u8], part: Part) -> &[u8]
-    ensures { λ r. ⌜ now r ≡ partOf (now (bytes .entry)) part ⌝ }
-{
-    let size = bytes.len();
-    let start = part.start;
-    if start > size {
-        return &bytes[size..];
-    }
-    let left = size - start;
-    let len = part.len;
-    if len > left {
-        return &bytes[start..];
-    }
-    let end = start + len;
-    &bytes[start..end]
-}
 
 // The response 00 of an accepted creation or deletion.
 fn acknowledged(answer: Answer, buf: &mut [u8]) -> Answer
@@ -85,7 +68,7 @@ fn confirm(card: Card, number: u16, buf: &mut [u8]) -> Answer
     let step = card.confirmed();
     let deleted = step.deleted;
     let n = write_deleted(deleted, buf, 0);
-    step.answer(n)
+    step.answer(Status::Done, n)
 }
 
 fn status_of_all(card: Card, life: bool, fallback: bool, buf: &mut [u8]) -> Answer
@@ -93,7 +76,8 @@ fn status_of_all(card: Card, life: bool, fallback: bool, buf: &mut [u8]) -> Answ
     ensures { λ r. ⌜ Served (now (buf .entry)) (known card (askedWork card (statusOfAll life fallback))) r (now (buf .exit)) ⌝ }
 {
     let n = write_status(card, life, fallback, buf, 0);
-    card.step_to(card, Aid::none()).answer(n)
+    card.step_since(card.last, Aid::none())
+        .answer(Status::Done, n)
 }
 
 fn status_of_one(card: Card, aid: &[u8], life: bool, fallback: bool, buf: &mut [u8]) -> Answer
@@ -104,7 +88,8 @@ fn status_of_one(card: Card, aid: &[u8], life: bool, fallback: bool, buf: &mut [
         return card.refused(Status::NotHeld);
     };
     let n = write_one_status(card, t, life, fallback, buf, 0);
-    card.step_to(card, Aid::none()).answer(n)
+    card.step_since(card.last, Aid::none())
+        .answer(Status::Done, n)
 }
 
 fn get_data(card: Card, buf: &mut [u8]) -> Answer
@@ -112,7 +97,8 @@ fn get_data(card: Card, buf: &mut [u8]) -> Answer
     ensures { λ r. ⌜ Served (now (buf .entry)) (known card (askedWork card getData)) r (now (buf .exit)) ⌝ }
 {
     let n = write_data(card, buf, 0);
-    card.step_to(card, Aid::none()).answer(n)
+    card.step_since(card.last, Aid::none())
+        .answer(Status::Done, n)
 }
 
 // What a request asks, done on a card known to be sound.
@@ -171,8 +157,8 @@ pub fn answer_on_sound(card: Card, call: Call, bytes: &[u8], buf: &mut [u8]) -> 
         Call::Keyed(aid) => steps::keyed(card, part_of(bytes, aid)),
         Call::Stored { aid, n } => steps::stored(card, part_of(bytes, aid), n),
         Call::Finished { aid, policy } => steps::finished(card, part_of(bytes, aid), policy),
-        Call::Tick => card.tick().answer(0),
-        Call::Lost => card.lost().answer(0),
+        Call::Tick => card.tick().answer(Status::Done, 0),
+        Call::Lost => card.lost().answer(Status::Done, 0),
     }
 }
 

@@ -4,11 +4,12 @@ use Prim.Native.Nat.{ℕ, zero, suc, _<_}
 use native.Mathlib.Omega.{arith}
 use mathlib.Core.List.{List, [], _∷_}
 use lib.ListN.{length, getD}
+use Rattle.isdp.specs.Profile.{profile}
 use Rattle.isdp.specs.declared.Isdp.{Isdp}
 use Rattle.places.specs.Places.{at}
 
 abbrev pub unread : Isdp
-unread = record { aid = []; len = 0; life = 0; quota = 0; used = 0; policy = 0 }
+unread = profile (record { bytes = []; len = 0 }) 0 0 0 0
 
 pub read : (l : List Isdp) (i : ℕ) → i < length l → getD l i unread ≡ at l i
 read [] i h = absurd (omega arith)

@@ -52,17 +52,17 @@ unfolding anyOf
 any-same t u h [] = refl
 any-same t u h (p ∷ ps) = rw (h p, any-same t u h ps)
 
-any-alike : (q x : Isdp) (l : List Isdp) (i : ℕ) → x .aid ≡ at l i .aid → x .len ≡ at l i .len → anyOf (clash q) (set l i x) ≡ anyOf (clash q) l
+any-alike : (q x : Isdp) (l : List Isdp) (i : ℕ) → x .aid ≡ at l i .aid → anyOf (clash q) (set l i x) ≡ anyOf (clash q) l
 unfolding anyOf
-any-alike q x [] i e f = refl
-any-alike q x (p ∷ ps) zero e f = rw (clash-right x p e f q)
-any-alike q x (p ∷ ps) (suc i) e f = rw (any-alike q x ps i e f)
+any-alike q x [] i e = refl
+any-alike q x (p ∷ ps) zero e = rw (clash-right x p e q)
+any-alike q x (p ∷ ps) (suc i) e = rw (any-alike q x ps i e)
 
-pub set-alike : (x : Isdp) (l : List Isdp) (i : ℕ) → x .aid ≡ at l i .aid → x .len ≡ at l i .len → distinct (set l i x) ≡ distinct l
+pub set-alike : (x : Isdp) (l : List Isdp) (i : ℕ) → x .aid ≡ at l i .aid → distinct (set l i x) ≡ distinct l
 unfolding distinct
-set-alike x [] i e f = refl
-set-alike x (p ∷ ps) zero e f = rw (any-same (clash x) (clash p) (clash-left x p e f) ps)
-set-alike x (p ∷ ps) (suc i) e f = rw (any-alike p x ps i e f, set-alike x ps i e f)
+set-alike x [] i e = refl
+set-alike x (p ∷ ps) zero e = rw (any-same (clash x) (clash p) (clash-left x p e) ps)
+set-alike x (p ∷ ps) (suc i) e = rw (any-alike p x ps i e, set-alike x ps i e)
 
 -- where neither the old nor the new one is enabled, nothing is seen of it by that test
 pub set-enabled : (x : Isdp) (l : List Isdp) (i : ℕ) → isEnabled x ≡ isEnabled (at l i) → (j : ℕ) → isEnabled (at (set l i x) j) ≡ isEnabled (at l j)

@@ -1,5 +1,5 @@
 // The card's places, searched and written over as a whole: nothing here knows of a phase or a command.
-// Every search answers for every record; a number past the last place reads as a place that is not held.
+// Every search answers for every record; a place's number is a byte, and past the last place it reads as a place that is not held.
 use isdp::Isdp;
 use isdp::clashes;
 use isdp::is_for;
@@ -16,29 +16,31 @@ ghost use Rattle.places.specs.Places.{at, seek, foundOf, isFree, quotas,
 pub const PLACES: usize = 8;
 
 pub enum Found {
-    At(usize),
+    At(u8),
     Nothing,
 }
 
 // The place at a number.
-pub fn at(places: [Isdp; PLACES], i: usize) -> Isdp
+pub fn at(places: [Isdp; PLACES], i: u8) -> Isdp
     ensures { λ r. ⌜ r ≡ at places i ⌝ }
 {
-    if i >= PLACES {
+    let n = i as usize;
+    if n >= PLACES {
         return Isdp::none();
     }
-    places[i]
+    places[n]
 }
 
 // The place at a number written anew.
-pub fn put(places: [Isdp; PLACES], i: usize, p: Isdp) -> [Isdp; PLACES]
+pub fn put(places: [Isdp; PLACES], i: u8, p: Isdp) -> [Isdp; PLACES]
     ensures { λ r. ⌜ r ≡ set places i p ⌝ }
 {
-    if i >= PLACES {
+    let n = i as usize;
+    if n >= PLACES {
         return places;
     }
     let mut all = places;
-    all[i] = p;
+    all[n] = p;
     all
 }
 
@@ -53,7 +55,7 @@ pub fn find(places: [Isdp; PLACES], aid: &[u8]) -> Found
         }
         let p = places[i];
         if is_for(p, aid) {
-            break Found::At(i);
+            break Found::At(i as u8);
         }
         i += 1;
     }
@@ -69,7 +71,7 @@ pub fn enabled(places: [Isdp; PLACES]) -> Found
             break Found::Nothing;
         }
         if places[i].life == Isdp::ENABLED {
-            break Found::At(i);
+            break Found::At(i as u8);
         }
         i += 1;
     }
@@ -84,8 +86,8 @@ pub fn free_place(places: [Isdp; PLACES]) -> Found
         if i == PLACES {
             break Found::Nothing;
         }
-        if places[i].len == 0 {
-            break Found::At(i);
+        if places[i].aid.len == 0 {
+            break Found::At(i as u8);
         }
         i += 1;
     }
@@ -197,7 +199,7 @@ fn all_off(places: [Isdp; PLACES]) -> [Isdp; PLACES]
 }
 
 // The place is enabled, and the one that was is disabled.
-pub fn enable_at(places: [Isdp; PLACES], i: usize) -> [Isdp; PLACES]
+pub fn enable_at(places: [Isdp; PLACES], i: u8) -> [Isdp; PLACES]
     ensures { λ r. ⌜ r ≡ enableAt places i ⌝ }
 {
     let all = all_off(places);

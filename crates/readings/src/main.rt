@@ -1,18 +1,18 @@
 // Reads lines of one hex word, each a command (`-` is the empty one), and writes how it is read with a capacity of 1000: the request, or
 // the word of its refusal. Empty lines and lines that begin with `#` are passed over.
+use byte_string::Part;
+use byte_string::put_byte;
+use byte_string::put_bytes;
 use command::Reading;
 use command::Request;
 use libc::STDIN_FILENO;
 use libc::STDOUT_FILENO;
 use text::HexRead;
-use text::put_byte;
-use text::put_bytes;
 use text::put_decimal;
 use text::put_hex;
 use text::put_hex_16;
 use text::read_hex;
 use text::until;
-use tlv::Part;
 ghost use Rattle.command.specs.Places.{Placed, RequestIn};
 
 const CAPACITY: u32 = 1000;

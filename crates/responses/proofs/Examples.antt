@@ -5,7 +5,7 @@ use Prim.Native.Nat.{ℕ}
 use mathlib.Core.List.{List, [], _∷_}
 use mathlib.Core.Bool.{true, false}
 use lib.ListN.{length}
-use Rattle.isdp.specs.Aids.{padded, noAid}
+use Rattle.isdp.specs.Aids.{padded, named, noAid}
 use Rattle.isdp.specs.LifeCycle.{disabled, enabled}
 use Rattle.isdp.specs.Place.{vacant, made}
 use Rattle.places.specs.Places.{quotas, countOf}
@@ -53,6 +53,6 @@ unfolding deletedResponse
 nothing-deleted = refl
 
 -- the true length, though Table 63 prints 16
-pub one-deleted : deletedResponse (record { bytes = padded aid-02; len = 5 }) ≡ 0x80 ∷ 0x07 ∷ 0x4F ∷ 0x05 ∷ 0xA0 ∷ 0x00 ∷ 0x00 ∷ 0x00 ∷ 0x02 ∷ []
+pub one-deleted : deletedResponse (named aid-02) ≡ 0x80 ∷ 0x07 ∷ 0x4F ∷ 0x05 ∷ 0xA0 ∷ 0x00 ∷ 0x00 ∷ 0x00 ∷ 0x02 ∷ []
 unfolding deletedResponse padded
 one-deleted = refl

@@ -1,14 +1,14 @@
--- How long the responses are: a row has 27 bytes at the most, so that the rows of eight places are within 255 bytes.
--- Assumes nothing.
+-- How long the responses are: a row has 27 bytes at the most, and the rows of a card as many as its places times that. Assumes nothing.
 use mathlib.Core.Path.{_≡_, refl}
 use Prim.Native.Nat.{ℕ, zero, suc, _*_, _≤_}
 use native.Mathlib.Omega.{arith}
 use mathlib.Core.List.{List, [], _∷_}
-use mathlib.Core.Bool.{Bool, true, false, cond, _&&_}
-use lib.ListN.{length, take, length-append, length-take}
+use mathlib.Core.Bool.{Bool, true, false, cond}
+use lib.ListN.{length, length-append, length-take}
 use lib.Dec.{leb, eqb}
 use borrow.Author.Tests.{leb-true, le-leb, eqb-true}
-use Rattle.isdp.specs.Sizes.{mostPlaces, mostAid, eidSize, mostCapacity, lastNumber}
+use Rattle.isdp.specs.Sizes.{mostPlaces, mostAid}
+use Rattle.isdp.specs.Aids.{bytesOf}
 use Rattle.isdp.specs.Place.{vacant, held, placeOk}
 use Rattle.isdp.specs.declared.Isdp.{Isdp}
 use Rattle.isdp.specs.declared.Aid.{Aid}
@@ -16,24 +16,25 @@ use Rattle.places.specs.Places.{at, allOf}
 use Rattle.card.specs.Sound.{sound}
 use Rattle.card.specs.declared.Card.{Card}
 use Rattle.isdp.proofs.Bools.{and-l, and-r, both}
-use Rattle.responses.specs.Responses.{aidElement, markOf, statusRow, rowOf, rowsFrom, statusResponse, oneStatus, dataResponse, deletedResponse}
+use Rattle.card.proofs.Sounds.{parts}
+use Rattle.responses.specs.Responses.{mostRow, aidElement, markOf, statusRow, rowOf, rowsFrom, statusResponse, oneStatus, dataResponse, deletedResponse}
 use Rattle.responses.proofs.Rows.{body-length, listed-small}
 
 -- the AID's bytes are sixteen at the most, as they are in every record of the code
 abbrev pub aidFits : Isdp → Bool
-aidFits p = leb (length (p .aid)) mostAid
+aidFits p = leb (length (p .aid .bytes)) mostAid
 
-row-case : (p : Isdp) (mark : ℕ) (life fallback there : Bool) → length (p .aid) ≤ 16 → length (cond there (statusRow p mark life fallback) []) ≤ 27
+row-case : (p : Isdp) (mark : ℕ) (life fallback there : Bool) → length (p .aid .bytes) ≤ 16 → length (cond there (statusRow p mark life fallback) []) ≤ mostRow
 unfolding statusRow
 row-case p mark life fallback true h =
-    omega (arith, body-length p mark life fallback, listed-small life fallback, length-take (p .len) (p .aid))
+    omega (arith, body-length p mark life fallback, listed-small life fallback, length-take (p .aid .len) (p .aid .bytes))
 row-case p mark life fallback false h = omega arith
 
-pub row-length : (p : Isdp) (mark : ℕ) (life fallback : Bool) → aidFits p ≡ true → length (rowOf p mark life fallback) ≤ 27
+pub row-length : (p : Isdp) (mark : ℕ) (life fallback : Bool) → aidFits p ≡ true → length (rowOf p mark life fallback) ≤ mostRow
 unfolding rowOf
-row-length p mark life fallback e = row-case p mark life fallback (held p) (leb-true (length (p .aid)) mostAid e)
+row-length p mark life fallback e = row-case p mark life fallback (held p) (leb-true (length (p .aid .bytes)) mostAid e)
 
-pub rows-length : (holder place : ℕ) (life fallback : Bool) (l : List Isdp) → allOf aidFits l ≡ true → length (rowsFrom holder place life fallback l) ≤ 27 * length l
+pub rows-length : (holder place : ℕ) (life fallback : Bool) (l : List Isdp) → allOf aidFits l ≡ true → length (rowsFrom holder place life fallback l) ≤ mostRow * length l
 unfolding rowsFrom allOf
 rows-length holder place life fallback [] e = omega arith
 rows-length holder place life fallback (p ∷ ps) e =
@@ -42,7 +43,7 @@ rows-length holder place life fallback (p ∷ ps) e =
     omega (arith, length-append (rowOf p (markOf holder place) life fallback) (rowsFrom holder (suc place) life fallback ps))
 
 -- GET STATUS of all, over any number of places
-pub status-length : (c : Card) (life fallback : Bool) → allOf aidFits (c .places) ≡ true → length (statusResponse c life fallback) ≤ 27 * length (c .places)
+pub status-length : (c : Card) (life fallback : Bool) → allOf aidFits (c .places) ≡ true → length (statusResponse c life fallback) ≤ mostRow * length (c .places)
 unfolding statusResponse
 status-length c life fallback e = rows-length (c .fallback) 0 life fallback (c .places) e
 
@@ -54,7 +55,7 @@ all-at t (p ∷ ps) zero e n = and-l (t p) (allOf t ps) e
 all-at t (p ∷ ps) (suc i) e n = all-at t ps i (and-r (t p) (allOf t ps) e) n
 
 -- GET STATUS of one
-pub one-length : (c : Card) (place : ℕ) (life fallback : Bool) → allOf aidFits (c .places) ≡ true → length (oneStatus c place life fallback) ≤ 27
+pub one-length : (c : Card) (place : ℕ) (life fallback : Bool) → allOf aidFits (c .places) ≡ true → length (oneStatus c place life fallback) ≤ mostRow
 unfolding oneStatus
 one-length c place life fallback e = row-length (at (c .places) place) (markOf (c .fallback) place) life fallback (all-at aidFits (c .places) place e refl)
 
@@ -66,30 +67,25 @@ all-more t u (p ∷ ps) f e = both (u p) (allOf u ps) (f p (and-l (t p) (allOf t
 ok-fits : (capacity : ℕ) (p : Isdp) → placeOk capacity p ≡ true → aidFits p ≡ true
 unfolding placeOk
 ok-fits capacity p e =
-    let h : length (p .aid) ≡ 16 = eqb-true (length (p .aid)) mostAid (and-l (eqb (length (p .aid)) mostAid) _ e) in
-    le-leb (length (p .aid)) mostAid (omega arith)
+    let h : length (p .aid .bytes) ≡ 16 = eqb-true (length (p .aid .bytes)) mostAid (and-l (eqb (length (p .aid .bytes)) mostAid) _ e) in
+    le-leb (length (p .aid .bytes)) mostAid (omega arith)
 
--- a sound card has such places, and eight of them
+-- a sound card has such places, and no more than a card can
 module _ (c : Card) (e : sound c ≡ true) where
   pub sound-fits : allOf aidFits (c .places) ≡ true
-  unfolding sound
-  sound-fits = all-more (placeOk (c .capacity)) aidFits (c .places) (ok-fits (c .capacity)) (and-l (allOf (placeOk (c .capacity)) (c .places)) _ (and-r (leb (c .capacity) mostCapacity) _ (and-r (leb 1 (c .capacity)) _ (and-r (eqb (length (c .eid)) eidSize && (eqb (length (c .places)) mostPlaces && leb (c .last) lastNumber)) _ e))))
+  sound-fits = all-more (placeOk (c .capacity)) aidFits (c .places) (ok-fits (c .capacity)) (parts c e .placed .each)
 
-  sound-full : length (c .places) ≡ mostPlaces
-  unfolding sound
-  sound-full = eqb-true (length (c .places)) mostPlaces (and-l (eqb (length (c .places)) mostPlaces) _ (and-r (eqb (length (c .eid)) eidSize) _ (and-l (eqb (length (c .eid)) eidSize && (eqb (length (c .places)) mostPlaces && leb (c .last) lastNumber)) _ e)))
-
-  pub sound-status-length : (life fallback : Bool) → length (statusResponse c life fallback) ≤ 216
+  pub sound-status-length : (life fallback : Bool) → length (statusResponse c life fallback) ≤ mostRow * mostPlaces
   sound-status-length life fallback =
       let h = status-length c life fallback sound-fits in
-      let k = sound-full in
+      let k = parts c e .sizes .full in
       omega arith
 
 pub data-length : (c : Card) → length (dataResponse c) ≡ 18
 unfolding dataResponse
 data-length c = refl
 
-deleted-case : (a : Aid) (gone : Bool) → length (a .bytes) ≤ 16 → length (cond gone [] (0x80 ∷ length (aidElement (take (a .len) (a .bytes))) ∷ aidElement (take (a .len) (a .bytes)))) ≤ 20
+deleted-case : (a : Aid) (gone : Bool) → length (a .bytes) ≤ 16 → length (cond gone [] (0x80 ∷ length (aidElement (bytesOf a)) ∷ aidElement (bytesOf a))) ≤ 20
 deleted-case a true h = omega arith
 deleted-case a false h = omega (arith, length-take (a .len) (a .bytes))
 

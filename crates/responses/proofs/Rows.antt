@@ -1,43 +1,27 @@
--- The code's pieces put together are the responses. A length over sixteen takes the whole array, which is what `take` takes too.
--- Assumes nothing.
-use mathlib.Core.Path.{_≡_, refl, sym, ap, _∙_}
-use Prim.Native.Nat.{ℕ, _+_, _≤_, _<_, min}
+-- The code's pieces put together are the responses. Assumes nothing.
+use mathlib.Core.Path.{_≡_, refl, ap}
+use Prim.Native.Nat.{ℕ, _+_, _≤_, _<_}
 use native.Mathlib.Numerals.{add-one}
 use native.Mathlib.Omega.{arith}
 use mathlib.Core.List.{List, [], _∷_, _++_, append-assoc}
 use mathlib.Core.Bool.{Bool, true, false, cond}
 use lib.ListN.{length, take, drop, getD, length-append, drop-of-length-le}
-use lib.Dec.{leb}
-use lib.Seq.{length-take-le, take-all, drop-cons}
-use borrow.Author.Tests.{leb-true, leb-false, eq-eqb, ne-eqb}
-use Rattle.isdp.specs.Aids.{aidOf}
+use lib.Seq.{drop-cons}
+use borrow.Author.Tests.{eq-eqb, ne-eqb}
+use Rattle.isdp.specs.Aids.{bytesOf, aidOf}
 use Rattle.isdp.specs.Place.{held}
 use Rattle.isdp.specs.declared.Isdp.{Isdp}
 use Rattle.isdp.specs.declared.Aid.{Aid}
 use Rattle.places.specs.Places.{at, countOf}
+use Rattle.isdp.proofs.Bytes.{taken}
 use Rattle.places.proofs.Records.{unread}
 use Rattle.card.specs.Cards.{freeIn}
 use Rattle.card.specs.declared.Card.{Card}
 use Rattle.responses.specs.Responses.{aidElement, lifeElement, markElement, markOf, listed, statusBody, statusRow, rowOf, rowsFrom, statusResponse, oneStatus, fourBytes, dataResponse, deletedResponse}
 
-cut-case : (bytes : List ℕ) (len n : ℕ) (fits : Bool) → leb len 16 ≡ fits → length bytes ≡ 16 → n ≡ min len 16 → take n bytes ≡ take len bytes
-cut-case bytes len n true t e m =
-    let h = leb-true len 16 t in
-    let f : n ≡ len = omega arith in
-    ap (λ (k : ℕ). take k bytes) f
-cut-case bytes len n false t e m =
-    let h = leb-false len 16 t in
-    take-all n bytes (omega arith) ∙ sym (take-all len bytes (omega arith))
-
--- the bytes that are written are the AID's
-pub cut : (bytes : List ℕ) (len n : ℕ) → length bytes ≡ 16 → n ≡ min len 16 → take n bytes ≡ take len bytes
-cut bytes len n e m = cut-case bytes len n (leb len 16) refl e m
-
-pub cut-length : (bytes : List ℕ) (len n : ℕ) → length bytes ≡ 16 → n ≡ min len 16 → n ≡ length (take len bytes)
-cut-length bytes len n e m = sym (length-take-le n bytes (omega arith)) ∙ ap length (cut bytes len n e m)
-
-pub aid-element : (bytes : List ℕ) (len n : ℕ) → length bytes ≡ 16 → n ≡ min len 16 → 0x4F ∷ n ∷ take n bytes ≡ aidElement (take len bytes)
-aid-element bytes len n e m = rw (cut bytes len n e m, ← cut-length bytes len n e m)
+-- as many bytes as the AID has, after their tag and their number
+pub aid-element : (a : Aid) (n : ℕ) → n ≡ length (bytesOf a) → 0x4F ∷ n ∷ take n (a .bytes) ≡ aidElement (bytesOf a)
+aid-element a n e = rw (e, taken (a .len) (a .bytes))
 
 pub listed-small : (life fallback : Bool) → cond life 4 0 + cond fallback 3 0 ≤ 7
 listed-small true true = omega arith
@@ -59,23 +43,22 @@ body-length p mark life fallback =
     let f = listed-length life fallback (p .life) mark in
     omega (arith, e, f)
 
-pub status-row : (p : Isdp) (mark : ℕ) (life fallback : Bool) (n m : ℕ) → length (p .aid) ≡ 16 → n ≡ min (p .len) 16 → m ≡ cond life 4 0 + cond fallback 3 0
+pub status-row : (p : Isdp) (mark : ℕ) (life fallback : Bool) (n m : ℕ) → n ≡ length (aidOf p) → m ≡ cond life 4 0 + cond fallback 3 0
     → (((0xE3 ∷ (n + 2 + m) ∷ []) ++ aidElement (aidOf p)) ++ listed life (lifeElement (p .life))) ++ listed fallback (markElement mark) ≡ statusRow p mark life fallback
 unfolding statusRow statusBody
-status-row p mark life fallback n m w e f =
+status-row p mark life fallback n m e f =
     let h = body-length p mark life fallback in
-    let k = cut-length (p .aid) (p .len) n w e in
-    let g : n + 2 + m ≡ length (statusBody p mark life fallback) = rw (h, ← k, f) refl in
+    let g : n + 2 + m ≡ length (statusBody p mark life fallback) = rw (h, e, f) refl in
     let rest = append-assoc (aidElement (aidOf p)) (listed life (lifeElement (p .life))) (listed fallback (markElement mark)) in
     rw g (ap (λ (xs : List ℕ). 0xE3 ∷ length (statusBody p mark life fallback) ∷ xs) rest)
 
-pub row-none : (p : Isdp) (mark : ℕ) (life fallback : Bool) → p .len ≡ 0 → [] ≡ rowOf p mark life fallback
+pub row-none : (p : Isdp) (mark : ℕ) (life fallback : Bool) → p .aid .len ≡ 0 → [] ≡ rowOf p mark life fallback
 unfolding rowOf
-row-none p mark life fallback e = rw (eq-eqb (p .len) 0 e)
+row-none p mark life fallback e = rw (eq-eqb (p .aid .len) 0 e)
 
-pub row-some : (p : Isdp) (mark : ℕ) (life fallback : Bool) → (p .len ≡ 0 → ⊥) → statusRow p mark life fallback ≡ rowOf p mark life fallback
+pub row-some : (p : Isdp) (mark : ℕ) (life fallback : Bool) → (p .aid .len ≡ 0 → ⊥) → statusRow p mark life fallback ≡ rowOf p mark life fallback
 unfolding rowOf
-row-some p mark life fallback e = rw (ne-eqb (p .len) 0 e)
+row-some p mark life fallback e = rw (ne-eqb (p .aid .len) 0 e)
 
 pub one-row : (c : Card) (place : ℕ) (life fallback : Bool) (p : Isdp) (mark : ℕ) → p ≡ at (c .places) place → mark ≡ markOf (c .fallback) place → rowOf p mark life fallback ≡ oneStatus c place life fallback
 unfolding oneStatus
@@ -104,10 +87,9 @@ pub deleted-none : (a : Aid) → a .len ≡ 0 → [] ≡ deletedResponse a
 unfolding deletedResponse
 deleted-none a e = rw (eq-eqb (a .len) 0 e)
 
-pub deleted-some : (a : Aid) (n : ℕ) → length (a .bytes) ≡ 16 → (a .len ≡ 0 → ⊥) → n ≡ min (a .len) 16
-    → 0x80 ∷ (n + 2) ∷ aidElement (take (a .len) (a .bytes)) ≡ deletedResponse a
+pub deleted-some : (a : Aid) (n : ℕ) → (a .len ≡ 0 → ⊥) → n ≡ length (bytesOf a)
+    → 0x80 ∷ (n + 2) ∷ aidElement (bytesOf a) ≡ deletedResponse a
 unfolding deletedResponse
-deleted-some a n w e m =
-    let k = cut-length (a .bytes) (a .len) n w m in
-    let g : n + 2 ≡ length (aidElement (take (a .len) (a .bytes))) = omega arith in
+deleted-some a n e m =
+    let g : n + 2 ≡ length (aidElement (bytesOf a)) = omega (arith, m) in
     rw (ne-eqb (a .len) 0 e, ← g)

@@ -3,9 +3,9 @@
 use Prim.Native.Nat.{ℕ, suc, _/_, _%_}
 use mathlib.Core.List.{List, [], _∷_, _++_}
 use mathlib.Core.Bool.{Bool, cond}
-use lib.ListN.{length, take}
+use lib.ListN.{length}
 use lib.Dec.{eqb}
-use Rattle.isdp.specs.Aids.{aidOf}
+use Rattle.isdp.specs.Aids.{bytesOf, aidOf}
 use Rattle.isdp.specs.Place.{held}
 use Rattle.isdp.specs.declared.Isdp.{Isdp}
 use Rattle.isdp.specs.declared.Aid.{Aid}
@@ -79,4 +79,4 @@ dataResponse c =
 unfoldable pub deletedResponse : Aid → List ℕ
 deletedResponse a =
     cond (eqb (a .len) 0) []
-    (0x80 ∷ length (aidElement (take (a .len) (a .bytes))) ∷ aidElement (take (a .len) (a .bytes)))
+    (0x80 ∷ length (aidElement (bytesOf a)) ∷ aidElement (bytesOf a))

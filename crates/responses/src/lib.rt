@@ -1,18 +1,19 @@
 // The responses of the commands, written into a lent buffer from a place on; each answers the place after what it wrote.
-// Every function answers for every record and every buffer: what does not fit is dropped, as the writers of `text` do.
+// Every function answers for every record and every buffer: what does not fit is dropped, as the writers of `byte_string` do.
+use byte_string::put_bytes;
 use card::Card;
 use isdp::Aid;
 use isdp::Isdp;
 use places::PLACES;
-use text::put_bytes;
 ghost use mathlib.Core.Path.{_≡_};
 ghost use mathlib.Core.Bool.{cond};
-ghost use Prim.Native.Nat.{_+_, _*_, _≤_, min};
-ghost use lib.ListN.{length, take};
+ghost use Prim.Native.Nat.{_+_, _*_, _≤_};
+ghost use lib.ListN.{length};
+ghost use Rattle.byte_string.specs.Put.{Wrote};
 ghost use Rattle.isdp.specs.Sizes.{mostPlaces};
+ghost use Rattle.isdp.specs.Aids.{bytesOf};
 ghost use Rattle.isdp.specs.Place.{held};
 ghost use Rattle.places.specs.Places.{countOf};
-ghost use Rattle.text.specs.Put.{Wrote};
 ghost use Rattle.responses.specs.Responses.{mostRow, aidElement, lifeElement, markElement, markOf, listed, statusRow, rowOf, statusResponse, oneStatus, dataResponse, deletedResponse, fourBytes};
 
 // The number of ISD-Ps, in the one byte that GET DATA has for it.
@@ -22,7 +23,7 @@ pub fn count_held(places: [Isdp; PLACES]) -> u8
     let mut n = 0;
     let mut i = 0;
     while i < PLACES {
-        if places[i].len != 0 {
+        if places[i].aid.len != 0 {
             n += 1;
         }
         i += 1;
@@ -30,20 +31,11 @@ pub fn count_held(places: [Isdp; PLACES]) -> u8
     n
 }
 
-// The bytes of an AID that an array of sixteen can have.
-fn held_bytes(len: usize) -> usize
-    ensures { λ r. ⌜ r ≡ min len 16 ⌝ }
+fn write_aid(aid: Aid, buf: &mut [u8], at: usize) -> usize
+    ensures { λ r. ⌜ Wrote (now (buf .entry)) at (aidElement (bytesOf aid)) r (now (buf .exit)) ⌝ }
 {
-    if len > 16 {
-        return 16;
-    }
-    len
-}
-
-fn write_aid(bytes: [u8; 16], len: usize, buf: &mut [u8], at: usize) -> usize
-    ensures { λ r. ⌜ Wrote (now (buf .entry)) at (aidElement (take len bytes)) r (now (buf .exit)) ⌝ }
-{
-    let n = held_bytes(len);
+    let n = aid.size();
+    let bytes = aid.bytes;
     let size = n as u8;
     let head = [0x4F, size];
     let k = put_bytes(buf, at, &head);
@@ -70,7 +62,7 @@ fn write_mark(mark: u8, asked: bool, buf: &mut [u8], at: usize) -> usize
     at
 }
 
-fn mark_of(holder: usize, place: usize) -> u8
+fn mark_of(holder: u8, place: u8) -> u8
     ensures { λ r. ⌜ r ≡ markOf holder place ⌝ }
 {
     if place == holder {
@@ -98,13 +90,13 @@ fn listed_size(life: bool, fallback: bool) -> u8
 fn write_row(p: Isdp, mark: u8, life: bool, fallback: bool, buf: &mut [u8], at: usize) -> usize
     ensures { λ r. ⌜ Wrote (now (buf .entry)) at (statusRow p mark life fallback) r (now (buf .exit)) ⌝ }
 {
-    let n = held_bytes(p.len);
+    let aid = p.aid;
+    let n = aid.size();
     let listed = listed_size(life, fallback);
     let size = n as u8 + 2 + listed;
     let head = [0xE3, size];
     let body = put_bytes(buf, at, &head);
-    let bytes = p.aid;
-    let state = write_aid(bytes, p.len, buf, body);
+    let state = write_aid(aid, buf, body);
     let last = write_life(p.life, life, buf, state);
     write_mark(mark, fallback, buf, last)
 }
@@ -113,7 +105,7 @@ fn write_row(p: Isdp, mark: u8, life: bool, fallback: bool, buf: &mut [u8], at: 
 fn write_place(p: Isdp, mark: u8, life: bool, fallback: bool, buf: &mut [u8], at: usize) -> usize
     ensures { λ r. ⌜ Wrote (now (buf .entry)) at (rowOf p mark life fallback) r (now (buf .exit)) × (length (rowOf p mark life fallback) ≤ mostRow) ⌝ }
 {
-    if p.len == 0 {
+    if p.aid.len == 0 {
         return at;
     }
     write_row(p, mark, life, fallback, buf, at)
@@ -129,7 +121,7 @@ pub fn write_status(card: Card, life: bool, fallback: bool, buf: &mut [u8], at: 
     let mut k = at;
     while i < PLACES {
         let p = places[i];
-        let mark = mark_of(holder, i);
+        let mark = mark_of(holder, i as u8);
         k = write_place(p, mark, life, fallback, buf, k);
         i += 1;
     }
@@ -139,7 +131,7 @@ pub fn write_status(card: Card, life: bool, fallback: bool, buf: &mut [u8], at: 
 // GET STATUS of the profile at a place.
 pub fn write_one_status(
     card: Card,
-    place: usize,
+    place: u8,
     life: bool,
     fallback: bool,
     buf: &mut [u8],
@@ -186,10 +178,9 @@ pub fn write_deleted(aid: Aid, buf: &mut [u8], at: usize) -> usize
     if aid.len == 0 {
         return at;
     }
-    let n = held_bytes(aid.len);
+    let n = aid.size();
     let size = n as u8 + 2;
     let head = [0x80, size];
     let k = put_bytes(buf, at, &head);
-    let bytes = aid.bytes;
-    write_aid(bytes, aid.len, buf, k)
+    write_aid(aid, buf, k)
 }

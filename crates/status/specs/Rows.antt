@@ -1,9 +1,8 @@
 -- Document 01, 'Status words': "Given exactly when, in this order". A table is a list of rows, each a condition and its word;
--- the word of a table is that of its first row whose condition holds, otherwise 90 00.
+-- the word of a table is that of its first row whose condition holds, otherwise the word of success that is handed in.
 use mathlib.Core.List.{List, [], _∷_}
 use mathlib.Core.Bool.{Bool, cond}
 use Rattle.status.specs.declared.Status.{Status}
-use Rattle.status.specs.declared.Status.the-variants.{Done}
 
 pub record Row : Type 0 where
   pub when : Bool
@@ -12,6 +11,6 @@ pub record Row : Type 0 where
 abbrev pub row : Bool → Status → Row
 row condition word = record { when = condition; word = word }
 
-unfoldable pub wordOf : List Row → Status
-wordOf [] = Done
-wordOf (r ∷ rs) = cond (r .when) (r .word) (wordOf rs)
+unfoldable pub wordOf : Status → List Row → Status
+wordOf success [] = success
+wordOf success (r ∷ rs) = cond (r .when) (r .word) (wordOf success rs)

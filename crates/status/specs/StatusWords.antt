@@ -19,7 +19,7 @@ numberOf VerdictWrong = 0x6982
 numberOf NoRoom = 0x6A84
 numberOf Done = 0x9000
 
--- 90 00 and no other word is a success
+-- the words that are a success, and no others: 90 00. A call is accepted exactly where its word is one of them
 abbrev pub isDone : Status → Bool
 isDone Unsound = false
 isDone BufferShort = false

@@ -5,25 +5,27 @@ use Prim.Native.Nat.{ℕ, _+_, _≤_, _<_}
 use native.Mathlib.Omega.{arith}
 use mathlib.Core.List.{List, [], _∷_}
 use mathlib.Core.Bool.{Bool, true, false, not, cond, _&&_, false≢true}
-use lib.ListN.{length, set, drop, length-set}
-use lib.Seq.{take-append-seam, take-all, getD-set-other}
-use lib.Dec.{leb, eqb}
-use borrow.Author.Tests.{eqb-true, ne-eqb, le-leb, leb-true, not-true}
-use Rattle.isdp.specs.Sizes.{leastAid, mostAid}
-use Rattle.isdp.specs.Aids.{sameBytes, padded, aidOf, aidOk}
-use Rattle.isdp.specs.LifeCycle.{selectable, isEnabled}
+use lib.ListN.{length, drop}
+use lib.Seq.{getD-set-other}
+use lib.Dec.{eqb}
+use borrow.Author.Tests.{eqb-true, le-leb, not-true}
+use Rattle.isdp.specs.Sizes.{mostAid}
+use Rattle.byte_string.specs.Bytes.{sameBytes}
+use Rattle.isdp.specs.Aids.{aidOf, aidOk}
+use Rattle.isdp.specs.LifeCycle.{selectable}
 use Rattle.isdp.specs.Place.{vacant, made, held, isFor, clash, zeros, lifeOk, emptyOk, heldOk, placeOk}
 use Rattle.isdp.specs.declared.Isdp.{Isdp}
 use Rattle.isdp.proofs.Bools.{and-l, and-r, or-l, or-r}
-use Rattle.isdp.proofs.Alike.{same-sym}
-use Rattle.isdp.proofs.Placed.{made-ok}
+use Rattle.byte_string.proofs.Alike.{same-sym}
+use Rattle.isdp.proofs.Placed.{made-held, made-aid, made-ok}
 use Rattle.places.specs.Places.{at, seek, isFree, quotas, anyOf}
 use Rattle.places.proofs.Seeks.{seek-at, seek-below}
-use Rattle.places.proofs.Sets.{set-all, set-count, set-quotas, set-distinct, all-at}
-use Rattle.card.specs.Cards.{profileOf, freePlace, withPlaces}
+use Rattle.places.proofs.Sets.{set-quotas, set-distinct, all-at}
+use Rattle.card.specs.Cards.{profileOf, freePlace, filled}
 use Rattle.card.specs.declared.Card.{Card}
 use Rattle.card.specs.declared.Phase.the-variants.{Quiet}
 use Rattle.card.proofs.Sounds.{Sound, done-nonzero}
+use Rattle.card.proofs.Rewrites.{sets}
 
 -- an AID that no place bears
 not-held : (p : Isdp) (aid : List ℕ) → held p ≡ false → isFor aid p ≡ false
@@ -50,27 +52,14 @@ module _ (aid : List ℕ) (quota : ℕ) (ok : aidOk aid ≡ true) where
   abbrev new : Isdp
   new = made aid selectable quota 0
 
-  five : leastAid ≤ length aid
-  five = leb-true leastAid (length aid) (and-l _ _ ok)
-
-  sixteen : length aid ≤ mostAid
-  sixteen = leb-true (length aid) mostAid (and-r (leb leastAid (length aid)) _ ok)
-
-  is-held : held new ≡ true
-  is-held = rw (ne-eqb (length aid) 0 (λ z. let h = five in omega arith))
-
-  made-aid : aidOf new ≡ aid
-  unfolding padded
-  made-aid = rw (take-all mostAid aid sixteen) (take-append-seam aid _)
-
   new-first : (q : Isdp) → isFor aid q ≡ false → clash new q ≡ false
   unfolding clash
-  new-first q e = rw (is-held, made-aid) e
+  new-first q e = rw (made-held aid selectable quota 0 ok, made-aid aid selectable quota 0 ok) e
 
   new-second : (p : Isdp) → isFor aid p ≡ false → clash p new ≡ false
   unfolding clash isFor
   new-second p e =
-      rw (made-aid, same-sym (aidOf p) aid) (and-swap (held new) (held p) (sameBytes (aidOf p) aid) is-held e)
+      rw (made-aid aid selectable quota 0 ok, same-sym (aidOf p) aid) (and-swap (held new) (held p) (sameBytes (aidOf p) aid) (made-held aid selectable quota 0 ok) e)
 
 -- a place not held is empty
 empty-case : (w h s x z : Bool) → h ≡ false → (w && cond h x (s && z)) ≡ true → s ≡ true
@@ -81,28 +70,22 @@ empty-case false h s x z n e = absurd (false≢true e)
 pub empty : (k : ℕ) (p : Isdp) → held p ≡ false → placeOk k p ≡ true → emptyOk p ≡ true
 unfolding placeOk
 empty k p h e =
-    empty-case (eqb (length (p .aid)) mostAid) (held p) (emptyOk p) (lifeOk (p .life) && (heldOk k p && zeros (drop (p .len) (p .aid)))) (zeros (drop (p .len) (p .aid))) h e
+    empty-case (eqb (length (p .aid .bytes)) mostAid) (held p) (emptyOk p) (lifeOk (p .life) && (heldOk k p && zeros (drop (p .aid .len) (p .aid .bytes)))) (zeros (drop (p .aid .len) (p .aid .bytes))) h e
 
-pub creates : (c : Card) (aid : List ℕ) (quota : ℕ) → Sound c → c .phase ≡ Quiet → aidOk aid ≡ true → 1 ≤ quota → quota + quotas (c .places) ≤ c .capacity → held (profileOf c aid) ≡ false → freePlace c < length (c .places) → Sound (withPlaces c (set (c .places) (freePlace c) (made aid selectable quota 0)))
+pub creates : (c : Card) (aid : List ℕ) (quota : ℕ) → Sound c → c .phase ≡ Quiet → aidOk aid ≡ true → 1 ≤ quota → quota + quotas (c .places) ≤ c .capacity → held (profileOf c aid) ≡ false → freePlace c < length (c .places) → Sound (filled c (freePlace c) (made aid selectable quota 0))
 creates c aid quota s q ok low fits free k =
     let l = c .places in
     let t = freePlace c in
     let x = made aid selectable quota 0 in
-    let m = empty (c .capacity) (at l t) (not-true (held (at l t)) (seek-below isFree l k)) (all-at (placeOk (c .capacity)) l t k (s .each)) in
+    let m = empty (c .capacity) (at l t) (not-true (held (at l t)) (seek-below isFree l k)) (all-at (placeOk (c .capacity)) l t k (s .placed .each)) in
     let life : at l t .life ≡ 0 = eqb-true _ _ (and-l (eqb (at l t .life) 0) _ m) in
     let z : at l t .quota ≡ 0 = eqb-true _ _ (and-l (eqb (at l t .quota) 0) _ (and-r (eqb (at l t .life) 0) _ m)) in
-    let n : c .fallback ≡ t → ⊥ = λ w. done-nonzero (at l (c .fallback) .life) (s .resort) (ap (λ (i : ℕ). at l i .life) w ∙ life) in
+    let n : c .fallback ≡ t → ⊥ = λ w. done-nonzero (at l (c .fallback) .life) (s .roles .resort) (ap (λ (i : ℕ). at l i .life) w ∙ life) in
     let a = never l aid free in
-    record {
-      named = s .named;
-      full = length-set l t x ∙ s .full;
-      numbered = s .numbered;
-      some = s .some;
-      most = s .most;
-      each = set-all (placeOk (c .capacity)) x (made-ok (c .capacity) aid selectable quota 0 refl (and-l _ _ ok) (and-r (leb leastAid (length aid)) _ ok) (le-leb 1 quota low) (le-leb quota (c .capacity) (omega arith)) (le-leb 0 quota (omega arith))) l t (s .each);
-      apart = set-distinct x l t (any-less (clash x) (isFor aid) (new-first aid quota ok) l a) (any-less (λ p. clash p x) (isFor aid) (new-second aid quota ok) l a) (s .apart);
-      one = set-count isEnabled x l t (rw life) ∙ s .one;
-      resort = rw (getD-set-other l t (c .fallback) x vacant n) (s .resort);
-      room = let r = set-quotas x l t k in omega arith;
-      phased = rw q tt;
-    }
+    sets c t x (c .phase) s
+    (made-ok aid selectable quota 0 ok (c .capacity) refl (le-leb 1 quota low) (le-leb quota (c .capacity) (omega arith)) (le-leb 0 quota (omega arith)))
+    (rw life)
+    (set-distinct x l t (any-less (clash x) (isFor aid) (new-first aid quota ok) l a) (any-less (λ p. clash p x) (isFor aid) (new-second aid quota ok) l a) (s .placed .apart))
+    (let r = set-quotas x l t k in omega arith)
+    (rw (getD-set-other l t (c .fallback) x vacant n) (s .roles .resort))
+    (rw q tt)

@@ -3,7 +3,6 @@
 use mathlib.Core.Path.{_≡_, refl, sym, _∙_}
 use Prim.Native.Nat.{ℕ}
 use mathlib.Core.Bool.{true, false}
-use lib.ListN.{set}
 use lib.Dec.{leb, eqb}
 use borrow.Author.Tests.{eqb-false, ne-eqb}
 use Rattle.isdp.specs.Policy.{policyOk}
@@ -14,7 +13,7 @@ use Rattle.isdp.proofs.Placed.{Placed, placed, placed-ok, relife}
 use Rattle.places.specs.Places.{at}
 use Rattle.places.proofs.Lives.{within}
 use Rattle.places.proofs.Sets.{all-at}
-use Rattle.card.specs.Cards.{withPlaces}
+use Rattle.card.specs.Cards.{rewritten}
 use Rattle.card.specs.declared.Card.{Card}
 use Rattle.card.proofs.Sounds.{Sound}
 use Rattle.card.proofs.Rewrites.{rewrites}
@@ -28,7 +27,7 @@ module _ (c : Card) (i v : ℕ) (s : Sound c) (e : at (c .places) i .life ≡ v)
   there z = eqb-false v 0 n (sym e ∙ z)
 
   ok : placeOk (c .capacity) p ≡ true
-  ok = all-at (placeOk (c .capacity)) (c .places) i (within (c .places) i there) (s .each)
+  ok = all-at (placeOk (c .capacity)) (c .places) i (within (c .places) i there) (s .placed .each)
 
   pub parted : Placed (c .capacity) p
   parted = placed (c .capacity) p (ne-eqb _ _ there) ok
@@ -48,18 +47,18 @@ module _ (c : Card) (i v : ℕ) (s : Sound c) (e : at (c .places) i .life ≡ v)
       placed-ok (c .capacity) (finish p b) refl
       (record { wide = k .wide; there = k .there; five = k .five; sixteen = k .sixteen; some = k .some; most = k .most; fits = k .fits; rule = l; ended = k .ended })
 
-pub keyed-at : (c : Card) (i : ℕ) → Sound c → at (c .places) i .life ≡ selectable → Sound (withPlaces c (set (c .places) i (withLife (at (c .places) i) personalized)))
+pub keyed-at : (c : Card) (i : ℕ) → Sound c → at (c .places) i .life ≡ selectable → Sound (rewritten c i (withLife (at (c .places) i) personalized))
 keyed-at c i s e =
     let d : isFinished (at (c .places) i .life) ≡ false = rw e in
-    rewrites c i (withLife (at (c .places) i) personalized) s (there c i selectable s e refl) d refl (lively c i selectable s e refl personalized refl) refl refl refl
+    rewrites c i (withLife (at (c .places) i) personalized) s (there c i selectable s e refl) d refl (lively c i selectable s e refl personalized refl) refl refl
 
-pub stored-at : (c : Card) (i u : ℕ) → Sound c → at (c .places) i .life ≡ personalized → leb u (at (c .places) i .quota) ≡ true → Sound (withPlaces c (set (c .places) i (withUsed (at (c .places) i) u)))
+pub stored-at : (c : Card) (i u : ℕ) → Sound c → at (c .places) i .life ≡ personalized → leb u (at (c .places) i .quota) ≡ true → Sound (rewritten c i (withUsed (at (c .places) i) u))
 stored-at c i u s e l =
     let d : isFinished (at (c .places) i .life) ≡ false = rw e in
     let w : isEnabled (withUsed (at (c .places) i) u) ≡ false = rw e in
-    rewrites c i (withUsed (at (c .places) i) u) s (there c i personalized s e refl) d w (fuller c i personalized s e refl u refl l) refl refl refl
+    rewrites c i (withUsed (at (c .places) i) u) s (there c i personalized s e refl) d w (fuller c i personalized s e refl u refl l) refl refl
 
-pub finished-at : (c : Card) (i b : ℕ) → Sound c → at (c .places) i .life ≡ personalized → policyOk b ≡ true → Sound (withPlaces c (set (c .places) i (finish (at (c .places) i) b)))
+pub finished-at : (c : Card) (i b : ℕ) → Sound c → at (c .places) i .life ≡ personalized → policyOk b ≡ true → Sound (rewritten c i (finish (at (c .places) i) b))
 finished-at c i b s e l =
     let d : isFinished (at (c .places) i .life) ≡ false = rw e in
-    rewrites c i (finish (at (c .places) i) b) s (there c i personalized s e refl) d refl (finisher c i personalized s e refl b l) refl refl refl
+    rewrites c i (finish (at (c .places) i) b) s (there c i personalized s e refl) d refl (finisher c i personalized s e refl b l) refl refl

@@ -1,33 +1,30 @@
 -- Every step keeps a sound card sound: each act by the facts that its passed rows give, and the law of what it does to the card.
 -- What the rows do not say, that the values read are legal, is the hypothesis `Legal`.
-use mathlib.Core.Path.{_≡_, refl, sym, subst}
+use mathlib.Core.Path.{_≡_, refl, sym}
 use Prim.Native.Nat.{ℕ, _+_, _≤_}
 use native.Mathlib.Omega.{arith}
 use mathlib.Core.List.{List}
 use mathlib.Core.Bool.{true, false, not, _&&_, false≢true}
-use lib.ListN.{set}
 use lib.Dec.{ltb, eqb}
 use borrow.Author.Tests.{eqb-true, leb-true, ltb-true, not-true, not-false}
-use Rattle.isdp.specs.Sizes.{mostPlaces, wait}
+use Rattle.isdp.specs.Sizes.{mostPlaces}
 use Rattle.isdp.specs.Aids.{aidOk}
 use Rattle.isdp.specs.Policy.{policyOk}
-use Rattle.isdp.specs.LifeCycle.{disabled, enabled, personalized, isEnabled, isFinished}
-use Rattle.isdp.specs.Place.{vacant}
+use Rattle.isdp.specs.LifeCycle.{disabled, personalized, isEnabled}
 use Rattle.isdp.proofs.Bools.{and-l, and-r, or-l, or-r}
 use Rattle.places.specs.Places.{at}
-use Rattle.places.proofs.Lives.{enable-at, within}
-use Rattle.card.specs.Cards.{isQuiet, placeOf, profileOf, enabledPlace, freePlace, freeIn, withChange, withPlaces, withFallback}
-use Rattle.card.specs.Clock.{nextOf, opened}
+use Rattle.card.specs.Cards.{isQuiet, placeOf, profileOf, freePlace, freeIn, cleared}
+use Rattle.card.specs.Clock.{opened}
 use Rattle.card.specs.Sound.{sound}
 use Rattle.card.specs.Steps.{tickStep, lostStep, confirmStep}
 use Rattle.card.specs.declared.Card.{Card}
 use Rattle.card.specs.declared.Phase.{Phase}
 use Rattle.card.specs.declared.Phase.the-variants.{Quiet, Trial, Back, Fallen}
-use Rattle.card.proofs.Sounds.{Sound, parts, whole, nonzero, tick-sound, lost-sound}
-use Rattle.card.proofs.Rewrites.{deletes, confirm-sound}
+use Rattle.card.proofs.Sounds.{parts, whole, tick-sound, lost-sound}
+use Rattle.card.proofs.Rewrites.{deletes, refalls, confirm-sound}
 use Rattle.steps.specs.Asked.{Act, Act.enable, Act.disable, Act.delete, Act.masterDelete, Act.setFallBack, Act.status, Act.keyed, Act.stored, Act.finished, Asked, Asked.unread, Asked.create, Asked.on, Asked.confirm, Asked.statusOfAll, Asked.getData, Asked.tick, Asked.lost}
 use Rattle.steps.specs.Steps.{stepOf}
-use Rattle.steps.proofs.Rows.{Passed, rows-passed}
+use Rattle.steps.proofs.Rows.{Passed}
 use Rattle.steps.proofs.Inner.{keyed-at, stored-at, finished-at}
 use Rattle.steps.proofs.Opens.{opens, fallback-life}
 use Rattle.steps.proofs.Creates.{creates}
@@ -61,51 +58,26 @@ Legal c tick = Unit {0}
 Legal c lost = Unit {0}
 
 -- no change is open
-pub quiet-is : (p : Phase) → isQuiet p ≡ true → p ≡ Quiet
-quiet-is Quiet e = refl
-quiet-is (Trial q l n) e = absurd (false≢true e)
-quiet-is (Back l n) e = absurd (false≢true e)
-quiet-is (Fallen l n) e = absurd (false≢true e)
-
 quietly : (p : Phase) → not (isQuiet p) ≡ false → p ≡ Quiet
-quietly p e = quiet-is p (not-false _ e)
-
--- another fall-back
-refalls : (c : Card) (i : ℕ) → Sound c → c .phase ≡ Quiet → isFinished (at (c .places) i .life) ≡ true → Sound (withFallback c i)
-refalls c i s q d = record { named = s .named; full = s .full; numbered = s .numbered; some = s .some; most = s .most; each = s .each; apart = s .apart; one = s .one; resort = d; room = s .room; phased = rw q tt }
-
--- a deletion while no change is open
-clears : (c : Card) (i : ℕ) → Sound c → c .phase ≡ Quiet → at (c .places) i .life ≡ disabled → eqb i (c .fallback) ≡ false → Sound (withPlaces c (set (c .places) i vacant))
-clears c i s q d n =
-    subst (λ (p : Phase). Sound (withChange c (c .last) p (set (c .places) i vacant))) (sym q) (deletes c i s d n)
-
--- what an enabling leaves: place t enabled, Trial, and the place enabled before as the previous one
-pub record Opened (c : Card) (t : ℕ) (d : Card) : Type 0 where
-  pub still : sound d ≡ true
-  pub trial : d .phase ≡ Trial (enabledPlace c) wait (nextOf (c .last))
-  pub asked : at (d .places) t .life ≡ enabled
-
-opened-at : (c : Card) (t : ℕ) → sound c ≡ true → at (c .places) t .life ≡ disabled → Opened c t (opened c t)
-opened-at c t s d =
-    record { still = whole _ (opens c t (parts c s) d); trial = refl; asked = enable-at (c .places) t (within (c .places) t (nonzero _ 30 d)) }
+quietly Quiet e = refl
+quietly (Trial q l n) e = absurd (false≢true (sym e))
+quietly (Back l n) e = absurd (false≢true (sym e))
+quietly (Fallen l n) e = absurd (false≢true (sym e))
 
 module _ (c : Card) (aid : List ℕ) (s : sound c ≡ true) where
-  pub enable-opens : Passed c (on aid enable) → Opened c (placeOf c aid) (opened c (placeOf c aid))
-  enable-opens p = opened-at c (placeOf c aid) s (eqb-true _ _ (not-false _ (p .state)))
+  opens-kept : (t : ℕ) → at (c .places) t .life ≡ disabled → sound (opened c t) ≡ true
+  opens-kept t d = whole _ (opens c t (parts c s) d)
 
-  pub disable-opens : Passed c (on aid disable) → Opened c (c .fallback) (opened c (c .fallback))
-  disable-opens p =
-      let h = not-false _ (p .state) in
-      opened-at c (c .fallback) s (fallback-life c (placeOf c aid) (parts c s) (and-l (isEnabled (profileOf c aid)) _ h) (not-true _ (and-r (isEnabled (profileOf c aid)) _ h)))
-
-  delete-kept : not (isQuiet (c .phase)) ≡ false → not (eqb (profileOf c aid .life) disabled && not (eqb (placeOf c aid) (c .fallback))) ≡ false → sound (withPlaces c (set (c .places) (placeOf c aid) vacant)) ≡ true
+  delete-kept : not (isQuiet (c .phase)) ≡ false → not (eqb (profileOf c aid .life) disabled && not (eqb (placeOf c aid) (c .fallback))) ≡ false → sound (cleared c (placeOf c aid)) ≡ true
   delete-kept q d =
       let h = not-false _ d in
-      whole _ (clears c (placeOf c aid) (parts c s) (quietly (c .phase) q) (eqb-true _ _ (and-l (eqb (profileOf c aid .life) disabled) _ h)) (not-true _ (and-r (eqb (profileOf c aid .life) disabled) _ h)))
+      whole _ (deletes c (placeOf c aid) (parts c s) (quietly (c .phase) q) (eqb-true _ _ (and-l (eqb (profileOf c aid .life) disabled) _ h)) (not-true _ (and-r (eqb (profileOf c aid .life) disabled) _ h)))
 
   act-kept : (act : Act) → LegalAct act → Passed c (on aid act) → sound (stepOf c (on aid act) .card) ≡ true
-  act-kept enable h p = enable-opens p .still
-  act-kept disable h p = disable-opens p .still
+  act-kept enable h p = opens-kept (placeOf c aid) (eqb-true _ _ (not-false _ (p .state)))
+  act-kept disable h p =
+      let h = not-false _ (p .state) in
+      opens-kept (c .fallback) (fallback-life c (placeOf c aid) (parts c s) (and-l (isEnabled (profileOf c aid)) _ h) (not-true _ (and-r (isEnabled (profileOf c aid)) _ h)))
   act-kept delete h p = delete-kept (p .change) (p .state)
   act-kept (masterDelete verdict) h p = delete-kept (p .change) (p .state)
   act-kept setFallBack h p = whole _ (refalls c (placeOf c aid) (parts c s) (quietly (c .phase) (p .change)) (not-false _ (p .state)))
@@ -119,8 +91,8 @@ module _ (c : Card) (aid : List ℕ) (s : sound c ≡ true) where
   create-kept : (quota : ℕ) → Sizes c aid quota → Passed c (create aid quota) → sound (stepOf c (create aid quota) .card) ≡ true
   create-kept quota h p =
       let w = parts c s in
-      let f = w .full in
-      let m = w .room in
+      let f = w .sizes .full in
+      let m = w .placed .room in
       let k = ltb-true (freePlace c) mostPlaces (not-false _ (or-l (not (ltb (freePlace c) mostPlaces)) _ (p .room))) in
       let q = leb-true quota (freeIn c) (not-false _ (or-r (not (ltb (freePlace c) mostPlaces)) _ (p .room))) in
       whole _ (creates c aid quota w (quietly (c .phase) (p .change)) (h .named) (h .some) (let u = h .some in omega arith) (p .already) (omega arith))

@@ -46,7 +46,7 @@ only (p ∷ ps) (suc i) (suc j) c e f = ap suc (only ps i j (one-less (isEnabled
 
 -- the enabled place of a sound card is enabled
 pub enabled-life : (c : Card) → Sound c → at (c .places) (enabledPlace c) .life ≡ enabled
-enabled-life c s = eqb-true _ _ (enabled-at (c .places) (s .one))
+enabled-life c s = eqb-true _ _ (enabled-at (c .places) (s .roles .one))
 
 -- a DISABLED place t is enabled: Trial
 pub opens : (c : Card) (t : ℕ) → Sound c → at (c .places) t .life ≡ disabled → Sound (opened c t)
@@ -62,11 +62,11 @@ left true y h g = refl
 left false y h g = absurd (false≢true (sym g ∙ h))
 
 off-case : (c : Card) (t : ℕ) (b : Bool) → isEnabled (at (c .places) (c .fallback)) ≡ b → Sound c → isEnabled (at (c .places) t) ≡ true → eqb t (c .fallback) ≡ false → b ≡ false
-off-case c t true q s v n = absurd (eqb-false t (c .fallback) n (only (c .places) t (c .fallback) (s .one) v q))
+off-case c t true q s v n = absurd (eqb-false t (c .fallback) n (only (c .places) t (c .fallback) (s .roles .one) v q))
 off-case c t false q s v n = refl
 
 -- where another place is enabled the fall-back is DISABLED
 pub fallback-life : (c : Card) (t : ℕ) → Sound c → isEnabled (at (c .places) t) ≡ true → eqb t (c .fallback) ≡ false → at (c .places) (c .fallback) .life ≡ disabled
 fallback-life c t s v n =
     let f = at (c .places) (c .fallback) in
-    eqb-true _ _ (left (eqb (f .life) disabled) (isEnabled f) (s .resort) (off-case c t (isEnabled f) refl s v n))
+    eqb-true _ _ (left (eqb (f .life) disabled) (isEnabled f) (s .roles .resort) (off-case c t (isEnabled f) refl s v n))

@@ -2,14 +2,13 @@
 use Prim.Native.Nat.{ℕ, _+_}
 use mathlib.Core.List.{List, [], _∷_}
 use mathlib.Core.Path.{_≡_}
-use lib.ListN.{set}
 use Rattle.status.specs.Rows.{row}
-use Rattle.status.specs.declared.Status.the-variants.{DataWrong}
+use Rattle.status.specs.declared.Status.{Status}
+use Rattle.status.specs.declared.Status.the-variants.{DataWrong, Done}
 use Rattle.isdp.specs.Aids.{noAid}
 use Rattle.isdp.specs.LifeCycle.{selectable, personalized, withLife, withUsed, finish}
-use Rattle.isdp.specs.Place.{vacant, made}
-use Rattle.isdp.specs.declared.Isdp.{Isdp}
-use Rattle.card.specs.Cards.{placeOf, profileOf, freePlace, withPlaces, withFallback}
+use Rattle.isdp.specs.Place.{made}
+use Rattle.card.specs.Cards.{placeOf, profileOf, freePlace, filled, cleared, rewritten, withFallback}
 use Rattle.card.specs.Clock.{opened}
 use Rattle.card.specs.Steps.{stepTo, tickStep, lostStep, confirmStep}
 use Rattle.card.specs.Answers.{Outcome, Work, handed}
@@ -17,7 +16,7 @@ use Rattle.card.specs.declared.Card.{Card}
 use Rattle.card.specs.declared.Step.{Step}
 use Rattle.card.specs.declared.Answer.{Answer}
 use Rattle.responses.specs.Responses.{statusResponse, oneStatus, dataResponse, deletedResponse}
-use Rattle.text.specs.Put.{put}
+use Rattle.byte_string.specs.Put.{put}
 use Rattle.steps.specs.Asked.{Act, Act.enable, Act.disable, Act.delete, Act.masterDelete, Act.setFallBack, Act.status, Act.keyed, Act.stored, Act.finished, Asked, Asked.unread, Asked.create, Asked.on, Asked.confirm, Asked.statusOfAll, Asked.getData, Asked.tick, Asked.lost}
 use Rattle.steps.specs.Conditions.{innerWrong, cardRows}
 
@@ -25,30 +24,26 @@ use Rattle.steps.specs.Conditions.{innerWrong, cardRows}
 abbrev pub still : Card → Step
 still c = stepTo c c noAid
 
--- the profile with this AID is written anew
-abbrev pub rewritten : Card → List ℕ → Isdp → Step
-rewritten c aid p = stepTo c (withPlaces c (set (c .places) (placeOf c aid) p)) noAid
-
 abbrev pub actStep : Card → List ℕ → Act → Step
 -- "Enable: .. They trade states; Trial."
 actStep c aid enable = stepTo c (opened c (placeOf c aid)) noAid
 -- "Disable: .. The fall-back is enabled; Trial."
 actStep c aid disable = stepTo c (opened c (c .fallback)) noAid
 -- "Delete", "Master delete is the same without policy, with the token verdict"
-actStep c aid delete = rewritten c aid vacant
-actStep c aid (masterDelete verdict) = rewritten c aid vacant
+actStep c aid delete = stepTo c (cleared c (placeOf c aid)) noAid
+actStep c aid (masterDelete verdict) = stepTo c (cleared c (placeOf c aid)) noAid
 -- "Set fall-back: .. Naming the holder changes nothing"
 actStep c aid setFallBack = stepTo c (withFallback c (placeOf c aid)) noAid
 actStep c aid (status life fallback) = still c
 -- "Keyed: .. to PERSONALIZED", "Stored n: .. used grows by n (0 allowed)", "Finished with a policy: .. to DISABLED"
-actStep c aid keyed = rewritten c aid (withLife (profileOf c aid) personalized)
-actStep c aid (stored n) = rewritten c aid (withUsed (profileOf c aid) (profileOf c aid .used + n))
-actStep c aid (finished policy) = rewritten c aid (finish (profileOf c aid) policy)
+actStep c aid keyed = stepTo c (rewritten c (placeOf c aid) (withLife (profileOf c aid) personalized)) noAid
+actStep c aid (stored n) = stepTo c (rewritten c (placeOf c aid) (withUsed (profileOf c aid) (profileOf c aid .used + n))) noAid
+actStep c aid (finished policy) = stepTo c (rewritten c (placeOf c aid) (finish (profileOf c aid) policy)) noAid
 
 abbrev pub stepOf : Card → Asked → Step
 stepOf c unread = still c
 -- "Create: the lowest free place, SELECTABLE, used 0, empty policy."
-stepOf c (create aid quota) = stepTo c (withPlaces c (set (c .places) (freePlace c) (made aid selectable quota 0))) noAid
+stepOf c (create aid quota) = stepTo c (filled c (freePlace c) (made aid selectable quota 0)) noAid
 stepOf c (on aid act) = actStep c aid act
 stepOf c (confirm number) = confirmStep c
 stepOf c (statusOfAll life fallback) = still c
@@ -78,14 +73,19 @@ responseOf c getData = dataResponse c
 responseOf c tick = []
 responseOf c lost = []
 
+-- "Otherwise 90 00": the word of success
+abbrev pub successOf : Card → Asked → Status
+successOf c a = Done
+
 abbrev pub askedWork : Card → Asked → Work
-askedWork c a = record { rows = cardRows c a; step = stepOf c a; response = responseOf c a }
+askedWork c a = record { rows = cardRows c a; success = successOf c a; step = stepOf c a; response = responseOf c a }
 
 -- the work of an inner call: the row of its values stands before the card's rows
 abbrev pub innerWork : Card → List ℕ → Act → Work
 innerWork c aid act =
     record {
       rows = row (innerWrong aid act) DataWrong ∷ cardRows c (on aid act);
+      success = successOf c (on aid act);
       step = actStep c aid act;
       response = actResponse c aid act;
     }

@@ -32,8 +32,10 @@ pub fn create(card: Card, aid: &[u8], quota: u32) -> Answer
     if quota > card.free() {
         return card.refused(Status::NoRoom);
     }
-    let after = card.with_place(t, Isdp::made(aid, Isdp::SELECTABLE, quota, 0));
-    card.step_to(after, Aid::none()).answer(1)
+    let after = card.filled(t, Isdp::made(aid, Isdp::SELECTABLE, quota, 0));
+    after
+        .step_since(card.last, Aid::none())
+        .answer(Status::Done, 1)
 }
 
 pub fn enable(card: Card, aid: &[u8]) -> Answer
@@ -54,7 +56,10 @@ pub fn enable(card: Card, aid: &[u8]) -> Answer
     if forbids_disabling(e.policy) {
         return card.refused(Status::PolicyForbids);
     }
-    card.step_to(card.opened(t), Aid::none()).answer(0)
+    let after = card.opened(t);
+    after
+        .step_since(card.last, Aid::none())
+        .answer(Status::Done, 0)
 }
 
 pub fn disable(card: Card, aid: &[u8]) -> Answer
@@ -75,8 +80,10 @@ pub fn disable(card: Card, aid: &[u8]) -> Answer
     if forbids_disabling(p.policy) {
         return card.refused(Status::PolicyForbids);
     }
-    card.step_to(card.opened(card.fallback), Aid::none())
-        .answer(0)
+    let after = card.opened(card.fallback);
+    after
+        .step_since(card.last, Aid::none())
+        .answer(Status::Done, 0)
 }
 
 pub fn delete(card: Card, aid: &[u8]) -> Answer
@@ -96,8 +103,10 @@ pub fn delete(card: Card, aid: &[u8]) -> Answer
     if forbids_deletion(p.policy) {
         return card.refused(Status::PolicyForbids);
     }
-    let after = card.with_place(t, Isdp::none());
-    card.step_to(after, Aid::none()).answer(1)
+    let after = card.cleared(t);
+    after
+        .step_since(card.last, Aid::none())
+        .answer(Status::Done, 1)
 }
 
 pub fn master_delete(card: Card, aid: &[u8], verdict: u8) -> Answer
@@ -116,8 +125,10 @@ pub fn master_delete(card: Card, aid: &[u8], verdict: u8) -> Answer
     if verdict != 1 {
         return card.refused(Status::VerdictWrong);
     }
-    let after = card.with_place(t, Isdp::none());
-    card.step_to(after, Aid::none()).answer(1)
+    let after = card.cleared(t);
+    after
+        .step_since(card.last, Aid::none())
+        .answer(Status::Done, 1)
 }
 
 pub fn set_fall_back(card: Card, aid: &[u8]) -> Answer
@@ -135,7 +146,10 @@ pub fn set_fall_back(card: Card, aid: &[u8]) -> Answer
     if !may {
         return card.refused(Status::StateWrong);
     }
-    card.step_to(card.with_fallback(t), Aid::none()).answer(0)
+    let after = card.with_fallback(t);
+    after
+        .step_since(card.last, Aid::none())
+        .answer(Status::Done, 0)
 }
 
 // SELECTABLE to PERSONALIZED.
@@ -152,8 +166,10 @@ pub fn keyed(card: Card, aid: &[u8]) -> Answer
     if p.life != Isdp::SELECTABLE {
         return card.refused(Status::StateWrong);
     }
-    let after = card.with_place(t, p.with_life(Isdp::PERSONALIZED));
-    card.step_to(after, Aid::none()).answer(0)
+    let after = card.rewritten(t, p.with_life(Isdp::PERSONALIZED));
+    after
+        .step_since(card.last, Aid::none())
+        .answer(Status::Done, 0)
 }
 
 // n bytes more in a PERSONALIZED profile.
@@ -174,8 +190,10 @@ pub fn stored(card: Card, aid: &[u8], n: u32) -> Answer
         return card.refused(Status::NoRoom);
     }
     let used = p.used + n;
-    let after = card.with_place(t, p.with_used(used));
-    card.step_to(after, Aid::none()).answer(0)
+    let after = card.rewritten(t, p.with_used(used));
+    after
+        .step_since(card.last, Aid::none())
+        .answer(Status::Done, 0)
 }
 
 // PERSONALIZED to DISABLED, with its policy.
@@ -193,6 +211,8 @@ pub fn finished(card: Card, aid: &[u8], policy: u8) -> Answer
     if !done {
         return card.refused(Status::StateWrong);
     }
-    let after = card.with_place(t, p.finish(policy));
-    card.step_to(after, Aid::none()).answer(0)
+    let after = card.rewritten(t, p.finish(policy));
+    after
+        .step_since(card.last, Aid::none())
+        .answer(Status::Done, 0)
 }

@@ -7,15 +7,15 @@ use mathlib.Core.List.{List, [], _∷_}
 use mathlib.Core.Bool.{Bool, true, false}
 use lib.ListN.{length, getD, set, drop, length-drop}
 use Rattle.choice.specs.Choice.{pick, isBelow}
-use Rattle.text.specs.Words.{sameOf}
+use Rattle.byte_string.specs.Bytes.{sameBytes}
 use Rattle.text.specs.Hex.{nibbleOf, pairsOf, isHex, byteOf, spelled, spelledIn, hexByteOf, hexReadOf, hexLeft, hexText, hexWord}
 use Rattle.text.specs.declared.hex.Byte.the-variants as byte
 use Rattle.text.specs.declared.hex.HexRead.{HexRead}
 use Rattle.text.specs.declared.hex.HexRead.the-variants.{Bytes, NoRoom, Wrong}
-use Rattle.text.specs.Put.{put}
+use Rattle.byte_string.specs.Put.{put}
 use Rattle.choice.proofs.Branches.{each, by-lt, yes!, no!, lt!, nlt! }
-use Rattle.text.proofs.PutLaws.{put-none, put-cons}
-use Rattle.text.proofs.Rest.{rest, rest-one, rest-two, rest-end}
+use Rattle.byte_string.proofs.PutLaws.{put-none, put-cons}
+use Rattle.byte_string.proofs.Rest.{rest, rest-one, rest-two, rest-end}
 
 module _ (s : List ℕ) (i : ℕ) (o : Bool) (q : pairsOf (rest s i) ≡ o) where
   pub pairs-end : length s ≤ i → true ≡ o
@@ -87,7 +87,7 @@ unfolding isHex
 hex-none [] h = refl
 hex-none (c ∷ cs) h = absurd (omega arith)
 
-pub hex-some : (s : List ℕ) → (length s ≡ 0 → ⊥) → isHex s ≡ pick (sameOf s (45 ∷ [])) true (pairsOf s)
+pub hex-some : (s : List ℕ) → (length s ≡ 0 → ⊥) → isHex s ≡ pick (sameBytes s (45 ∷ [])) true (pairsOf s)
 unfolding isHex
 hex-some [] h = absurd (h refl)
 hex-some (c ∷ cs) h = refl

@@ -9,7 +9,7 @@ use Rattle.text.specs.Numbers.{digitsOn, decimalOf, digitsText}
 use Rattle.text.specs.declared.numbers.Number.{Number}
 use Rattle.text.specs.declared.numbers.Number.the-variants.{Value, Wrong}
 use Rattle.choice.proofs.Branches.{by-lt, lt!, nlt! }
-use Rattle.text.proofs.Rest.{rest, rest-one, rest-end}
+use Rattle.byte_string.proofs.Rest.{rest, rest-one, rest-end}
 
 pub decimal-none : (most : ℕ) (s : List ℕ) → length s ≡ 0 → Wrong ≡ decimalOf most s
 unfolding decimalOf

@@ -8,7 +8,7 @@ use native.Mathlib.Omega.{arith}
 use native.Mathlib.Nat.{pow-suc}
 use lib.ListN.{length, length-append}
 use lib.Dec.{eqb}
-use Rattle.text.specs.Words.{sameOf}
+use Rattle.byte_string.specs.Bytes.{sameBytes}
 use Rattle.text.specs.Hex.{nibbleOf, pairsOf, isHex, byteOf, spelled, hexReadOf, hexLeft, glyphOf, hexText, hexWord}
 use Rattle.text.specs.Numbers.{digitsOn, decimalOf, digitsText, decimalText}
 use Rattle.text.specs.declared.hex.HexRead.the-variants.{Bytes}
@@ -47,7 +47,7 @@ pairs-text (b ∷ bs) =
     sym (nlt! _ (omega arith) (nlt! _ (omega arith) (sym (pairs-text bs))))
 
 word-is-hex : (bs : List ℕ) → isHex (hexWord bs) ≡ true
-unfolding isHex hexWord hexText sameOf
+unfolding isHex hexWord hexText sameBytes
 word-is-hex [] = sym (yes! _ refl refl)
 word-is-hex (b ∷ bs) = sym (no! _ (and-false (eqb (glyphOf (b / 16)) 45)) (sym (pairs-text (b ∷ bs))))
 

@@ -8,7 +8,7 @@ use lib.ListN.{length, getD, drop, drop-of-length-le}
 use lib.Seq.{drop-cons}
 use lib.Dec.{eqb}
 use borrow.Author.Tests.{eq-eqb, ne-eqb}
-use Rattle.text.specs.Words.{before, leading, sameOf}
+use Rattle.text.specs.Words.{before, leading}
 use Rattle.choice.proofs.Branches.{eq!, ne! }
 
 module _ (b : ℕ) (s : List ℕ) (i : ℕ) where
@@ -35,24 +35,3 @@ module _ (b : ℕ) (s : List ℕ) (i : ℕ) where
   pub leading-end : length s ≤ i → leading b (drop i s) ≡ 0
   unfolding leading
   leading-end h = rw (drop-of-length-le s h)
-
--- byte strings of different lengths differ
-pub same-length : (xs ys : List ℕ) → (length xs ≡ length ys → ⊥) → sameOf xs ys ≡ false
-unfolding sameOf
-same-length [] [] n = absurd (n refl)
-same-length [] (y ∷ ys) n = refl
-same-length (x ∷ xs) [] n = refl
-same-length (x ∷ xs) (y ∷ ys) n = rw (same-length xs ys (λ e. n (ap suc e))) (and-false (eqb x y))
-
-module _ (xs ys : List ℕ) (i : ℕ) (h : i < length xs) (k : i < length ys) where
-  pub same-hit : getD xs i 0 ≡ getD ys i 0 → sameOf (drop i xs) (drop i ys) ≡ sameOf (drop (i + 1) xs) (drop (i + 1) ys)
-  unfolding sameOf
-  same-hit e = rw (drop-cons xs i 0, drop-cons ys i 0, eq-eqb _ _ e, add-one)
-
-  pub same-miss : (getD xs i 0 ≡ getD ys i 0 → ⊥) → sameOf (drop i xs) (drop i ys) ≡ false
-  unfolding sameOf
-  same-miss e = rw (drop-cons xs i 0, drop-cons ys i 0, ne-eqb _ _ e)
-
-pub same-end : (xs ys : List ℕ) (i : ℕ) → length xs ≤ i → length ys ≤ i → sameOf (drop i xs) (drop i ys) ≡ true
-unfolding sameOf
-same-end xs ys i h k = rw (drop-of-length-le xs h, drop-of-length-le ys k)

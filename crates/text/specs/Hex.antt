@@ -4,7 +4,7 @@ use mathlib.Core.List.{List, [], _∷_}
 use mathlib.Core.Bool.{Bool, true, false}
 use lib.ListN.{length}
 use Rattle.choice.specs.Choice.{pick, atMost, isBelow}
-use Rattle.text.specs.Words.{sameOf}
+use Rattle.byte_string.specs.Bytes.{sameBytes}
 use Rattle.text.specs.declared.hex.Byte.{Byte}
 use Rattle.text.specs.declared.hex.Byte.the-variants as byte
 use Rattle.text.specs.declared.hex.HexRead.{HexRead}
@@ -29,7 +29,7 @@ pairsOf (a ∷ b ∷ r) = pick (isBelow 15 (nibbleOf a)) false (pick (isBelow 15
 -- is it a byte string? The empty text is none: `-` stands for no bytes
 unfoldable pub isHex : List ℕ → Bool
 isHex [] = false
-isHex (c ∷ cs) = pick (sameOf (c ∷ cs) (45 ∷ [])) true (pairsOf (c ∷ cs))
+isHex (c ∷ cs) = pick (sameBytes (c ∷ cs) (45 ∷ [])) true (pairsOf (c ∷ cs))
 
 -- the byte that two digits spell. (A digit's value is below 16.)
 unfoldable pub byteOf : ℕ → ℕ → ℕ

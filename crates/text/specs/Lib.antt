@@ -1,5 +1,4 @@
--- Text in bytes: what its words, numbers and byte strings are, and what writing it leaves in a buffer.
+-- Text in bytes: what its words, numbers and byte strings are.
 pub mod Words
 pub mod Numbers
 pub mod Hex
-pub mod Put

@@ -2,9 +2,7 @@
 -- `fieldAt` tell the next word or field by its place.
 use Prim.Native.Nat.{ℕ, suc, _+_, _-_}
 use mathlib.Core.List.{List, [], _∷_, _++_}
-use mathlib.Core.Bool.{Bool, true, false, _&&_}
 use lib.ListN.{length, take, drop}
-use lib.Dec.{eqb}
 use Rattle.choice.specs.Choice.{pick, atMost, isBelow, isSame}
 use Rattle.text.specs.declared.words.Word.{Word}
 use Rattle.text.specs.declared.words.Word.the-variants.{Span, End}
@@ -18,12 +16,6 @@ before b (c ∷ cs) = pick (isSame c b) 0 (suc (before b cs))
 unfoldable pub leading : ℕ → List ℕ → ℕ
 leading b [] = 0
 leading b (c ∷ cs) = pick (isSame c b) (suc (leading b cs)) 0
-
-unfoldable pub sameOf : List ℕ → List ℕ → Bool
-sameOf [] [] = true
-sameOf [] (y ∷ ys) = false
-sameOf (x ∷ xs) [] = false
-sameOf (x ∷ xs) (y ∷ ys) = eqb x y && sameOf xs ys
 
 -- the elements from a on, before e
 abbrev pub part : List ℕ → ℕ → ℕ → List ℕ

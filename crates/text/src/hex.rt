@@ -2,9 +2,9 @@
 ghost use mathlib.Core.Path.{_≡_};
 ghost use Prim.Native.Nat.{_+_, _*_, _≤_};
 ghost use lib.ListN.{length};
-ghost use Rattle.text.specs.Put.{put};
+ghost use Rattle.byte_string.specs.Put.{put};
 ghost use Rattle.text.specs.Hex.{nibbleOf, byteOf, pairsOf, isHex, spelled, spelledIn, hexByteOf, hexReadOf, hexLeft};
-use crate::words::same;
+use byte_string::same;
 
 // The value of a hex digit, or 16.
 fn nibble(c: u8) -> u8

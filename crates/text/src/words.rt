@@ -2,7 +2,7 @@
 ghost use mathlib.Core.Path.{_≡_};
 ghost use Prim.Native.Nat.{_+_};
 ghost use lib.ListN.{length, drop};
-ghost use Rattle.text.specs.Words.{before, leading, wordAt, fieldAt, wordsOf, sameOf};
+ghost use Rattle.text.specs.Words.{before, leading, wordAt, fieldAt, wordsOf};
 
 // The first place from `at` on that holds b, or the end.
 pub fn until(s: &[u8], at: usize, b: u8) -> usize
@@ -75,21 +75,4 @@ pub fn count_words(s: &[u8]) -> usize
         count += 1;
     }
     count
-}
-
-// Are the two byte strings the same?
-pub fn same(a: &[u8], b: &[u8]) -> bool
-    ensures { λ r. ⌜ r ≡ sameOf (now (a .entry)) (now (b .entry)) ⌝ }
-{
-    if a.len() != b.len() {
-        return false;
-    }
-    let mut i = 0;
-    while i < a.len() {
-        if a[i] != b[i] {
-            return false;
-        }
-        i += 1;
-    }
-    true
 }

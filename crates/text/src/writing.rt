@@ -1,34 +1,12 @@
-// Text written into a lent buffer from a place on. What does not fit is dropped; the answer is the place after what was written,
-// so that one writer goes on where another ended, and a text that reaches the buffer's end stays there.
+// Text written into a lent buffer from a place on, as `byte_string` writes bytes: what does not fit is dropped, and the answer is
+// the place after what was written.
+use byte_string::put_byte;
 ghost use mathlib.Core.Path.{_≡_};
 ghost use mathlib.Core.List.{_∷_, []};
 ghost use Prim.Native.Nat.{_/_, _%_};
-ghost use Rattle.text.specs.Put.{Wrote};
+ghost use Rattle.byte_string.specs.Put.{Wrote};
 ghost use Rattle.text.specs.Numbers.{digitsText, decimalText};
 ghost use Rattle.text.specs.Hex.{glyphOf, hexText, hexWord};
-
-pub fn put_byte(buf: &mut [u8], at: usize, byte: u8) -> usize
-    ensures { λ r. ⌜ Wrote (now (buf .entry)) at (byte ∷ []) r (now (buf .exit)) ⌝ }
-{
-    if at < buf.len() {
-        buf[at] = byte;
-        return at + 1;
-    }
-    at
-}
-
-// A byte string as it stands.
-pub fn put_bytes(buf: &mut [u8], at: usize, text: &[u8]) -> usize
-    ensures { λ r. ⌜ Wrote (now (buf .entry)) at (now (text .entry)) r (now (buf .exit)) ⌝ }
-{
-    let mut i = 0;
-    let mut k = at;
-    while i < text.len() {
-        k = put_byte(buf, k, text[i]);
-        i += 1;
-    }
-    k
-}
 
 // The hex digit of the low four bits.
 fn glyph(n: u8) -> u8

@@ -10,7 +10,8 @@ use Rattle.tlv.specs.declared.TagRead.{TagRead}
 use Rattle.tlv.specs.declared.TagRead.the-variants as tag
 use Rattle.tlv.specs.declared.LengthRead.{LengthRead}
 use Rattle.tlv.specs.declared.LengthRead.the-variants as len
-use Rattle.tlv.specs.Tlv.{byte, tagAt, lengthAt, headAt, afterTag, afterLength, expectAt, expectOf}
+use Rattle.byte_string.specs.Bytes.{byte}
+use Rattle.tlv.specs.Tlv.{tagAt, lengthAt, headAt, afterTag, afterLength, expectAt, expectOf}
 use Rattle.choice.proofs.Branches.{le!, nle!, lt!, nlt!, eq!, ne!, each-le, each-lt, each-eq}
 
 pub record Agree (l s : List ℕ) (end : ℕ) : Type 0 where

@@ -10,7 +10,8 @@ use Rattle.tlv.specs.declared.TagRead.the-variants as tag
 use Rattle.tlv.specs.declared.LengthRead.the-variants as len
 use Rattle.tlv.specs.declared.HeadRead.the-variants as head
 use Rattle.tlv.specs.declared.Element.the-variants as element
-use Rattle.tlv.specs.Tlv.{byte, isConstructed, tagAt, lengthAt, headAt, afterTag, afterLength, expectAt, expectOf}
+use Rattle.byte_string.specs.Bytes.{byte}
+use Rattle.tlv.specs.Tlv.{isConstructed, tagAt, lengthAt, headAt, afterTag, afterLength, expectAt, expectOf}
 use Rattle.tlv.specs.Encoding.{window, encodeNumber, encodeTag, encodeLength, encodeElement}
 use Rattle.choice.proofs.Branches.{each-lt, le!, nle!, lt!, nlt!, eq!, ne! }
 use Rattle.tlv.proofs.Windows.{window-starts, window-begins}

@@ -7,7 +7,8 @@ use native.Mathlib.Omega.{arith}
 use native.Mathlib.Numerals.{add-one}
 use lib.ListN.{length, take, drop, length-append, take-append-drop}
 use lib.Seq.{take-take, length-take-le, drop-append-le, take-at, drop-at, slice-empty, slice-cons, length-slice}
-use Rattle.tlv.specs.Tlv.{byte}
+use Rattle.byte_string.specs.Bytes.{byte, between, partOf}
+use Rattle.byte_string.proofs.Parts.{part-cut}
 use Rattle.tlv.specs.Encoding.{window}
 
 module _ (s : List ℕ) where
@@ -18,6 +19,13 @@ module _ (s : List ℕ) where
   pub window-length : (from to : ℕ) → to ≤ length s → length (window s from to) ≡ to - from
   unfolding window
   window-length from to h = length-slice from to s h
+
+  -- the part between two places is the window
+  pub window-part : (from to : ℕ) → from ≤ to → partOf s (between from to) ≡ window s from to
+  unfolding window
+  window-part from to h =
+      let e : from + (to - from) ≡ to = omega arith in
+      sym (part-cut from (to - from) s) ∙ ap (λ (n : ℕ). drop from (take n s)) e
 
   pub window-cut : (from mid to : ℕ) → from ≤ mid → mid ≤ to → to ≤ length s → window s from to ≡ window s from mid ++ window s mid to
   unfolding window

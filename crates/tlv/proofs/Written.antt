@@ -10,7 +10,8 @@ use Rattle.tlv.specs.declared.TagRead.the-variants as tag
 use Rattle.tlv.specs.declared.LengthRead.{LengthRead}
 use Rattle.tlv.specs.declared.LengthRead.the-variants as len
 use Rattle.tlv.specs.declared.Element.the-variants as element
-use Rattle.tlv.specs.Tlv.{byte, tagAt, lengthAt, expectAt}
+use Rattle.byte_string.specs.Bytes.{byte}
+use Rattle.tlv.specs.Tlv.{tagAt, lengthAt, expectAt}
 use Rattle.tlv.specs.Encoding.{window, Bytes, encodeTag, encodeLength, encodeElement}
 use Rattle.choice.proofs.Branches.{each-le, each-lt, each-eq, lt!, nlt! }
 use Rattle.tlv.proofs.Inside.{expect-parts, expect-inside, head-parts, tag-inside, length-inside}

@@ -5,7 +5,7 @@ use mathlib.Core.List.{List, [], _∷_, _++_}
 use lib.ListN.{length}
 use lib.Seq.{slice}
 use Rattle.choice.specs.Choice.{pick, isBelow}
-use Rattle.tlv.specs.Tlv.{byte}
+use Rattle.byte_string.specs.Bytes.{byte}
 
 -- the bytes from `from` up to `to`
 unfoldable pub window : List ℕ → ℕ → ℕ → List ℕ

@@ -1,10 +1,11 @@
 -- Document 01, 'Reading a command', TLV: a tag, a length, an element, in the window of the bytes from `at` up to `end`.
 -- A window that does not lie in the bytes, `at` past `end` or `end` past their number, is wrong.
-use Prim.Native.Nat.{ℕ, _+_, _-_, _*_, _/_, _%_}
+use Prim.Native.Nat.{ℕ, _+_, _-_, _/_, _%_}
 use mathlib.Core.List.{List}
 use mathlib.Core.Bool.{Bool}
-use lib.ListN.{length, getD}
+use lib.ListN.{length}
 use lib.Dec.{eqb}
+use Rattle.byte_string.specs.Bytes.{byte, pairAt}
 use Rattle.choice.specs.Choice.{pick, atMost, isBelow, isSame}
 use Rattle.tlv.specs.declared.TagRead.{TagRead}
 use Rattle.tlv.specs.declared.TagRead.the-variants as tag
@@ -14,9 +15,6 @@ use Rattle.tlv.specs.declared.HeadRead.{HeadRead}
 use Rattle.tlv.specs.declared.HeadRead.the-variants as head
 use Rattle.tlv.specs.declared.Element.{Element}
 use Rattle.tlv.specs.declared.Element.the-variants as element
-
-abbrev pub byte : List ℕ → ℕ → ℕ
-byte s i = getD s i 0
 
 -- "bit 20 (hex) of the first byte marks a constructed tag"
 abbrev pub isConstructed : ℕ → Bool
@@ -30,7 +28,7 @@ tagAt s at end =
     (pick (isSame (byte s at % 32) 31)
     (pick (atMost end (at + 1)) tag.Wrong
     (pick (atMost 0x80 (byte s (at + 1))) tag.Wrong
-    (tag.Tag (byte s at * 256 + byte s (at + 1)) (isConstructed (byte s at)) (at + 1 + 1))))
+    (tag.Tag (pairAt s at) (isConstructed (byte s at)) (at + 1 + 1))))
     (tag.Tag (byte s at) (isConstructed (byte s at)) (at + 1))))
 
 -- "length is 00-7F, or 81 with 80-FF; other forms are wrong"

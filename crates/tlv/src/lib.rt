@@ -127,12 +127,6 @@ pub fn read_head(s: &[u8], at: usize, end: usize) -> HeadRead
     }
 }
 
-// A value handed on: the place of its first byte in the slice read, and how many bytes it has.
-pub struct Part {
-    pub start: usize,
-    pub len: usize,
-}
-
 pub enum Element {
     Found { start: usize, stop: usize },
     Wrong,

@@ -1,7 +1,5 @@
-use Rattle.fields.proofs.Only.{alone-expected}
 use Rattle.fields.specs.StoreData.{confirmationAt}
-use mathlib.Core.Path.{refl, sym, _∙_}
-use native.Mathlib.Omega.{arith}
+use mathlib.Core.Path.{refl}
 use borrow.Author.Needs.{needs}
 use Rattle.fields.proofs.read_confirmation.Statement.{statement}
 use Rattle.fields.proofs.read_confirmation.Tie as tie
@@ -19,15 +17,12 @@ returns : tie.Need-returns
 unfolding confirmationAt
 returns c = rw (← c .before .before .read-alone .ensures) (rw (c .enum-told .given .1) refl)
 
-read-number-requires : tie.Need-read-number-requires
-read-number-requires c κs =
-    let g = c .before .start .given in
-    let e = alone-expected _ _ _ _ _ _ (g .0 .0) (g .0 .1 .0) (sym (g .1) ∙ c .before .before .before .read-alone .ensures) in
-    omega arith
+read-pair-requires : tie.Need-read-pair-requires
+read-pair-requires c κs = search needs
 
 returns-2 : tie.Need-returns-2
 unfolding confirmationAt
-returns-2 c = rw (← c .before .before .before .before .read-alone .ensures) (rw (c .before .before .start .given .1) (rw (c .read-number .ensures) refl))
+returns-2 c = rw (← c .before .before .before .before .read-alone .ensures) (rw (c .before .before .start .given .1) (rw (c .read-pair .ensures) refl))
 
 pub read-confirmation-spec : {M : Type 1} → statement M
 read-confirmation-spec =
@@ -37,5 +32,5 @@ read-confirmation-spec =
     enum-known-start
     enum-told
     returns
-    read-number-requires
+    read-pair-requires
     returns-2)

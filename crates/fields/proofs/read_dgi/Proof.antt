@@ -42,12 +42,12 @@ returns-5 : tie.Need-returns-5
 unfolding dgiAt
 returns-5 c = nlt! _ (omega arith) (nlt! _ (omega arith) (nlt! _ (omega arith) (ne! _ (omega arith) refl)))
 
-read-number-requires : tie.Need-read-number-requires
-read-number-requires c κs = search needs
+read-pair-requires : tie.Need-read-pair-requires
+read-pair-requires c κs = search needs
 
 returns-6 : tie.Need-returns-6
 unfolding dgiAt
-returns-6 c = nlt! _ (omega arith) (nlt! _ (omega arith) (nlt! _ (omega arith) (eq! _ (omega arith) (rw (c .read-number .ensures) refl))))
+returns-6 c = nlt! _ (omega arith) (nlt! _ (omega arith) (nlt! _ (omega arith) (eq! _ (omega arith) (rw (c .read-pair .ensures) refl))))
 
 pub read-dgi-spec : {M : Type 1} → statement M
 read-dgi-spec =
@@ -63,5 +63,5 @@ read-dgi-spec =
     add-start
     sub-if5
     returns-5
-    read-number-requires
+    read-pair-requires
     returns-6)

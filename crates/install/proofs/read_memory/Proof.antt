@@ -32,7 +32,7 @@ unfolding memoryAt
 returns-3 c = rw (← c .before .before .before .before .before .expect .ensures) (rw (c .before .before .before .start .given .1) (eq! _ (omega arith) (eq! _ (omega arith) refl)))
 
 read-number-requires : tie.Need-read-number-requires
-read-number-requires c κs = let g = c .before .before .before .start .given in let i = expect-parts _ _ _ _ _ _ (g .0 .0) (g .0 .1 .0) (sym (g .1) ∙ c .before .before .before .before .before .expect .ensures) in let j = i .inside in record { held = omega arith; least = omega arith; most = omega arith; notThree = omega arith }
+read-number-requires c κs = let g = c .before .before .before .start .given in let i = expect-parts _ _ _ _ _ _ (g .0 .0) (g .0 .1 .0) (sym (g .1) ∙ c .before .before .before .before .before .expect .ensures) in let j = i .inside in let k = i .least in omega arith
 
 grant-requires : tie.Need-grant-requires
 grant-requires c κs = search needs

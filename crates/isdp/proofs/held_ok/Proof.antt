@@ -1,3 +1,4 @@
+-- `isdp::held_ok`: the tests are the definition's, the policy's by its function.
 use borrow.Author.Needs.{needs}
 use Rattle.isdp.proofs.held_ok.Statement.{statement}
 use Rattle.isdp.proofs.held_ok.Tie as tie

@@ -1,9 +1,13 @@
+-- `isdp::place_ok`: the AID has sixteen bytes by its type, and the tests are the definition's.
 use borrow.Author.Tests.{eq-eqb, ne-eqb}
 use Rattle.isdp.specs.Place.{placeOk}
 use Rattle.isdp.proofs.Records.{wide}
 use borrow.Author.Needs.{needs}
 use Rattle.isdp.proofs.place_ok.Statement.{statement}
 use Rattle.isdp.proofs.place_ok.Tie as tie
+
+cast-zeros-from : tie.Need-cast-zeros-from
+cast-zeros-from c = search needs
 
 zeros-from-requires : tie.Need-zeros-from-requires
 zeros-from-requires c κs = search needs
@@ -14,8 +18,8 @@ empty-ok-requires c κs = search needs
 returns : tie.Need-returns
 unfolding placeOk
 returns c = let z = c .before .before .before in
-    let s = z .before .before in
-    rw (wide (s .args .p) _ (s .good .0), eq-eqb (s .args .p .len) 0 (c .before .if1 .taken), c .empty-ok .ensures, z .zeros-from .ensures)
+    let s = z .before .before .before .before in
+    rw (wide (s .args .p) _ (s .good .0), eq-eqb (s .args .p .aid .len) 0 (c .before .if1 .taken), c .empty-ok .ensures, z .zeros-from .ensures)
 
 life-ok-requires : tie.Need-life-ok-requires
 life-ok-requires c κs = search needs
@@ -26,13 +30,14 @@ held-ok-requires c κs = search needs
 returns-2 : tie.Need-returns-2
 unfolding placeOk
 returns-2 c = let z = c .before .before .before .before in
-    let s = z .before .before in
-    rw (wide (s .args .p) _ (s .good .0), ne-eqb (s .args .p .len) 0 (c .before .before .if1 .left), c .before .life-ok .ensures, c .held-ok .ensures, z .zeros-from .ensures)
+    let s = z .before .before .before .before in
+    rw (wide (s .args .p) _ (s .good .0), ne-eqb (s .args .p .aid .len) 0 (c .before .before .if1 .left), c .before .life-ok .ensures, c .held-ok .ensures, z .zeros-from .ensures)
 
 pub place-ok-spec : {M : Type 1} → statement M
 place-ok-spec =
     tie.close
     (tie.spec
+    cast-zeros-from
     zeros-from-requires
     empty-ok-requires
     returns

@@ -1,6 +1,6 @@
 -- `grown` meets its contract: without room the window stays as it is.
 use native.Mathlib.Omega.{arith}
-use Rattle.text.specs.Put.{after}
+use Rattle.byte_string.specs.Put.{after}
 use Rattle.lines.proofs.WindowLaws.{window-end}
 use borrow.Author.Needs.{needs}
 use Rattle.lines.proofs.grown.Statement.{statement}

@@ -1,5 +1,5 @@
 -- `keep` meets its contract: the clamped places hold the same bytes, which `move_down` puts to the front.
-use Rattle.text.proofs.PutLaws.{put-as}
+use Rattle.byte_string.proofs.PutLaws.{put-as}
 use Rattle.lines.proofs.WindowLaws.{window-end, held-part, held-length}
 use borrow.Author.Needs.{needs}
 use Rattle.lines.proofs.keep.Statement.{statement}

@@ -5,8 +5,8 @@ use mathlib.Core.Path.{_≡_, refl, sym}
 use Prim.Native.Nat.{_-_, _≤_}
 use lib.ListN.{length, take, length-set}
 use Rattle.text.specs.Words.{part}
-use Rattle.text.specs.Put.{put}
-use Rattle.text.proofs.PutLaws.{put-none}
+use Rattle.byte_string.specs.Put.{put}
+use Rattle.byte_string.proofs.PutLaws.{put-none}
 use Rattle.lines.proofs.WindowLaws.{move-turn, move-done}
 use Rattle.lines.proofs.move_down.Statement.{statement}
 use Rattle.lines.proofs.move_down.Tie as tie

@@ -3,7 +3,7 @@ use mathlib.Core.Path.{ap, sym, _∙_}
 use native.Mathlib.Omega.{arith}
 use lib.ListN.{length}
 use borrow.Author.Tests.{not-true, not-false}
-use Rattle.text.proofs.PutLaws.{put-none}
+use Rattle.byte_string.proofs.PutLaws.{put-none}
 use Rattle.card.specs.Answers.{handed}
 use Rattle.card.proofs.Outcomes.{stopped}
 use Rattle.manager.specs.Calls.{Call, callOf}

@@ -4,8 +4,8 @@ use native.Mathlib.Omega.{arith}
 use lib.ListN.{length}
 use borrow.Author.Tests.{lt-ltb}
 use Rattle.status.specs.Rows.{wordOf}
-use Rattle.text.proofs.PutLaws.{put-none}
-use Rattle.command.specs.Reading.{wordIn}
+use Rattle.byte_string.proofs.PutLaws.{put-none}
+use Rattle.command.specs.Reading.{readingWord}
 use Rattle.manager.specs.Table.{leastBuffer}
 use Rattle.manager.specs.Manager.{onSound}
 use Rattle.manager.proofs.Readings.{refused-read, known-read}
@@ -28,7 +28,7 @@ returns-2 c =
     let r = o .before .before in
     let s = start r in
     let e = refused-read (s .args .card) (s .args .verdict) (s .args .bytes .now) (length (s .args .buf .now)) (omega arith) _ (sym (o .enum-told .given .1) ∙ r .read .ensures) in
-    let w = c .before .word .ensures ∙ ap wordIn (o .enum-told .given .1) in
+    let w = c .before .word .ensures ∙ ap readingWord (o .enum-told .given .1) in
     (record { answer = rw e (rw w at (c .refused2 .ensures)); content = rw e (sym (put-none _ 0)) }, rw (c .refused2 .ensures) (omega arith))
 
 returns-3 : tie.Need-returns-3

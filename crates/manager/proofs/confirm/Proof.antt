@@ -4,45 +4,21 @@ use native.Mathlib.Omega.{arith}
 use borrow.Author.Tests.{not-true, not-false}
 use Rattle.status.specs.Rows.{wordOf}
 use Rattle.manager.proofs.Buffers.{whole}
-use Rattle.text.proofs.PutLaws.{put-none}
+use Rattle.byte_string.proofs.PutLaws.{put-none}
 use borrow.Author.Needs.{needs}
 use Rattle.manager.proofs.confirm.Statement.{statement}
 use Rattle.manager.proofs.confirm.Tie as tie
-
-is-quiet-requires : tie.Need-is-quiet-requires
-is-quiet-requires c κs = search needs
-
-refused-requires : tie.Need-refused-requires
-refused-requires c κs = search needs
 
 returns : tie.Need-returns
 unfolding wordOf
 returns c = let e = sym (c .before .before .is-quiet .ensures) ∙ c .before .if1 .taken in
     (record { answer = rw e (c .refused .ensures); content = rw e (sym (put-none _ 0)) }, rw (c .refused .ensures) (omega arith))
 
-is-outstanding-requires : tie.Need-is-outstanding-requires
-is-outstanding-requires c κs = search needs
-
-refused-requires-2 : tie.Need-refused-requires-2
-refused-requires-2 c κs = search needs
-
 returns-2 : tie.Need-returns-2
 unfolding wordOf
 returns-2 c = let e = sym (c .before .before .before .before .is-quiet .ensures) ∙ c .before .before .before .if1 .left in
     let f = sym (c .before .before .is-outstanding .ensures) ∙ not-true _ (c .before .if2 .taken) in
     (record { answer = rw (e, f) (c .refused2 .ensures); content = rw (e, f) (sym (put-none _ 0)) }, rw (c .refused2 .ensures) (omega arith))
-
-confirmed-requires : tie.Need-confirmed-requires
-confirmed-requires c κs = search needs
-
-write-deleted-requires : tie.Need-write-deleted-requires
-write-deleted-requires c κs = search needs
-
-answer-requires : tie.Need-answer-requires
-answer-requires c κs = search needs
-
-same-length : tie.Need-same-length
-same-length c = search needs
 
 returns-3 : tie.Need-returns-3
 unfolding wordOf
@@ -58,14 +34,14 @@ pub confirm-spec : {M : Type 1} → statement M
 confirm-spec =
     tie.close
     (tie.spec
-    is-quiet-requires
-    refused-requires
+    (λ c κs. search needs)
+    (λ c κs. search needs)
     returns
-    is-outstanding-requires
-    refused-requires-2
+    (λ c κs. search needs)
+    (λ c κs. search needs)
     returns-2
-    confirmed-requires
-    write-deleted-requires
-    answer-requires
-    same-length
+    (λ c κs. search needs)
+    (λ c κs. search needs)
+    (λ c κs. search needs)
+    (λ c. search needs)
     returns-3)

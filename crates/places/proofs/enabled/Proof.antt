@@ -1,3 +1,4 @@
+-- `places::enabled`: no place before i is enabled; the search is i and what is found in the places left.
 use mathlib.Core.Path.{_≡_}
 use Prim.Native.Nat.{_+_, _-_, _≤_}
 use native.Mathlib.Omega.{arith}
@@ -26,6 +27,9 @@ mul-if2 c = search needs
 
 element-copy-out-if2 : tie.Need-element-copy-out-if2 Inv-loop μ-loop
 element-copy-out-if2 c = search needs
+
+cast-t10 : tie.Need-cast-t10 Inv-loop μ-loop
+cast-t10 c = search needs
 
 add-i : tie.Need-add-i Inv-loop μ-loop
 add-i c = search needs
@@ -63,6 +67,7 @@ enabled-spec =
     loop-holds
     mul-if2
     element-copy-out-if2
+    cast-t10
     add-i
     loop-less
     loop-again

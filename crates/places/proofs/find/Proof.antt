@@ -1,3 +1,4 @@
+-- `places::find`: no place before i bears the AID; the search is i and what is found in the places left.
 use mathlib.Core.Path.{_≡_, sym, _∙_}
 use Prim.Native.Nat.{_+_, _-_, _≤_}
 use native.Mathlib.Omega.{arith}
@@ -28,6 +29,9 @@ array-copy-out-p c = search needs
 
 is-for-requires : tie.Need-is-for-requires Inv-loop μ-loop
 is-for-requires c κs = search needs
+
+cast-t13 : tie.Need-cast-t13 Inv-loop μ-loop
+cast-t13 c = search needs
 
 add-i : tie.Need-add-i Inv-loop μ-loop
 add-i c = search needs
@@ -66,6 +70,7 @@ find-spec =
     mul-p
     array-copy-out-p
     is-for-requires
+    cast-t13
     add-i
     loop-less
     loop-again

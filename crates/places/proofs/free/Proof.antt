@@ -1,3 +1,4 @@
+-- `places::free`: what is left of the capacity, less the quotas left, is the answer.
 use mathlib.Core.Path.{_≡_}
 use Prim.Native.Nat.{_-_, _≤_}
 use native.Mathlib.Omega.{arith}

@@ -1,3 +1,4 @@
+-- `places::free_place`: no place before i is free; the search is i and what is found in the places left.
 use mathlib.Core.Path.{_≡_}
 use Prim.Native.Nat.{_+_, _-_, _≤_}
 use native.Mathlib.Omega.{arith}
@@ -26,6 +27,9 @@ mul-if2 c = search needs
 element-copy-out-if2 : tie.Need-element-copy-out-if2 Inv-loop μ-loop
 element-copy-out-if2 c = search needs
 
+cast-t10 : tie.Need-cast-t10 Inv-loop μ-loop
+cast-t10 c = search needs
+
 add-i : tie.Need-add-i Inv-loop μ-loop
 add-i c = search needs
 
@@ -36,7 +40,7 @@ loop-again : tie.Need-loop-again Inv-loop μ-loop
 loop-again c = let s = c .before .before .before in
     let o = c .before .before .loop in
     let n : length (s .args .t1) ≡ mostPlaces = search needs in
-    let m = seek-miss isFree (s .args .t1) unread (o .i) (omega arith) (rw (ne-eqb (getD (s .args .t1) (o .i) unread .len) 0 (c .if2 .left))) in
+    let m = seek-miss isFree (s .args .t1) unread (o .i) (omega arith) (rw (ne-eqb (getD (s .args .t1) (o .i) unread .aid .len) 0 (c .if2 .left))) in
     (search needs, omega (arith, o .inv))
 
 returns : tie.Need-returns Inv-loop μ-loop
@@ -50,7 +54,7 @@ returns-2 : tie.Need-returns-2 Inv-loop μ-loop
 returns-2 c = let s = c .before .before .before in
     let o = c .before .before .loop in
     let n : length (s .args .t1) ≡ mostPlaces = search needs in
-    let m = seek-hit isFree (s .args .t1) unread (o .i) (omega arith) (rw (eq-eqb (getD (s .args .t1) (o .i) unread .len) 0 (c .if2 .taken))) in
+    let m = seek-hit isFree (s .args .t1) unread (o .i) (omega arith) (rw (eq-eqb (getD (s .args .t1) (o .i) unread .aid .len) 0 (c .if2 .taken))) in
     found-at (seek isFree (s .args .t1)) (o .i) (omega (arith, o .inv)) (omega arith)
 
 pub free-place-spec : {M : Type 1} → statement M
@@ -62,6 +66,7 @@ free-place-spec =
     loop-holds
     mul-if2
     element-copy-out-if2
+    cast-t10
     add-i
     loop-less
     loop-again

@@ -1,3 +1,4 @@
+-- `places::within`: what is left of the capacity is held against the quotas left.
 use mathlib.Core.Path.{_≡_, sym, _∙_}
 use Prim.Native.Nat.{_+_, _-_, _≤_}
 use native.Mathlib.Omega.{arith}

@@ -43,7 +43,7 @@ loop-again c = let s = c .before .before .before in
     let i = c .before .before .loop .i in
     let n : length (s .args .t1) ≡ mostPlaces = search needs in
     let e = count-step held (s .args .t1) unread i (omega arith) in
-    ⊎-elim (λ w. let g = rw (ne-eqb (getD (s .args .t1) i unread .len) 0 (w .0 .taken)) at e in omega arith) (λ w. let g = rw (eq-eqb (getD (s .args .t1) i unread .len) 0 (w .0 .left)) at e in omega arith) (c .if1 .came)
+    ⊎-elim (λ w. let g = rw (ne-eqb (getD (s .args .t1) i unread .aid .len) 0 (w .0 .taken)) at e in omega arith) (λ w. let g = rw (eq-eqb (getD (s .args .t1) i unread .aid .len) 0 (w .0 .left)) at e in omega arith) (c .if1 .came)
 
 returns : tie.Need-returns Inv-loop μ-loop
 returns c = let s = c .before .before in

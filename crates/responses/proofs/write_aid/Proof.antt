@@ -1,16 +1,16 @@
--- `responses::write_aid`: tag and length, then the bytes; a length over sixteen takes the whole array, as `take` does.
+-- `responses::write_aid`: tag and length, then as many of the sixteen bytes as the AID has.
 use mathlib.Core.Path.{_≡_, sym}
 use native.Mathlib.Omega.{arith}
 use lib.ListN.{length}
 use lib.Seq.{length-take-le}
-use Rattle.text.proofs.PutLaws.{wrote-as, wrote-then}
+use Rattle.byte_string.proofs.PutLaws.{wrote-as, wrote-then}
 use Rattle.responses.proofs.Rows.{aid-element}
 use borrow.Author.Needs.{needs}
 use Rattle.responses.proofs.write_aid.Statement.{statement}
 use Rattle.responses.proofs.write_aid.Tie as tie
 
-held-bytes-requires : tie.Need-held-bytes-requires
-held-bytes-requires c κs = search needs
+size-requires : tie.Need-size-requires
+size-requires c κs = search needs
 
 cast-size : tie.Need-cast-size
 cast-size c = search needs
@@ -22,12 +22,14 @@ put-bytes-requires : tie.Need-put-bytes-requires
 put-bytes-requires c κs = search needs
 
 array-share-prefix-bytes : tie.Need-array-share-prefix-bytes
-array-share-prefix-bytes c = search needs
+array-share-prefix-bytes c = let s = c .before .before .before .before .before .before .before .before .before in
+    let n : length (s .args .aid .bytes) ≡ 16 = search needs in
+    omega arith
 
 slice-aggregate-put-bytes-2 : tie.Need-slice-aggregate-put-bytes-2
-slice-aggregate-put-bytes-2 c = let s = c .before .before .before .before .before .before .before .before .before in
-    let n : length (s .args .t1) ≡ 16 = search needs in
-    sym (length-take-le _ (s .args .t1) (omega arith))
+slice-aggregate-put-bytes-2 c = let s = c .before .before .before .before .before .before .before .before .before .before in
+    let n : length (s .args .aid .bytes) ≡ 16 = search needs in
+    sym (length-take-le _ (s .args .aid .bytes) (omega arith))
 
 put-bytes-requires-2 : tie.Need-put-bytes-requires-2
 put-bytes-requires-2 c κs = search needs
@@ -36,15 +38,13 @@ same-length : tie.Need-same-length
 same-length c = search needs
 
 returns : tie.Need-returns
-returns c = let s = c .before .before .before .before .before .before .before .before .before .before .before .before in
-    let n : length (s .args .t1) ≡ 16 = search needs in
-    wrote-as _ (aid-element (s .args .t1) (s .args .len) _ n (c .before .before .before .before .before .before .before .before .before .before .held-bytes .ensures)) (wrote-then (c .before .before .before .before .before .before .before .put-bytes .ensures) (c .before .before .put-bytes2 .ensures))
+returns c = wrote-as _ (aid-element (c .before .before .before .before .before .before .before .before .before .before .before .before .before .args .aid) _ (c .before .before .before .before .before .before .before .before .before .before .before .size .ensures .0)) (wrote-then (c .before .before .before .before .before .before .before .put-bytes .ensures) (c .before .before .put-bytes2 .ensures))
 
 pub write-aid-spec : {M : Type 1} → statement M
 write-aid-spec =
     tie.close
     (tie.spec
-    held-bytes-requires
+    size-requires
     cast-size
     slice-aggregate-put-bytes
     put-bytes-requires

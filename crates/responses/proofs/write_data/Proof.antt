@@ -1,5 +1,5 @@
 -- `responses::write_data`: four texts one after the other are the response (`data-bytes`).
-use Rattle.text.proofs.PutLaws.{wrote-as, wrote-then}
+use Rattle.byte_string.proofs.PutLaws.{wrote-as, wrote-then}
 use Rattle.responses.proofs.Rows.{data-bytes}
 use borrow.Author.Needs.{needs}
 use Rattle.responses.proofs.write_data.Statement.{statement}

@@ -3,7 +3,7 @@ use native.Mathlib.Omega.{arith}
 use Rattle.responses.proofs.Lengths.{deleted-length}
 use mathlib.Core.Path.{_≡_}
 use lib.ListN.{length}
-use Rattle.text.proofs.PutLaws.{wrote-as, wrote-then, wrote-none}
+use Rattle.byte_string.proofs.PutLaws.{wrote-as, wrote-then, wrote-none}
 use Rattle.responses.proofs.Rows.{deleted-none, deleted-some}
 use borrow.Author.Needs.{needs}
 use Rattle.responses.proofs.write_deleted.Statement.{statement}
@@ -14,8 +14,8 @@ returns c = let s = c .before .before .before in
     let n : length (s .args .aid .bytes) ≡ 16 = search needs in
     (wrote-as _ (deleted-none _ (c .if1 .taken)) (wrote-none _ _), deleted-length (s .args .aid) (omega arith))
 
-held-bytes-requires : tie.Need-held-bytes-requires
-held-bytes-requires c κs = search needs
+size-requires : tie.Need-size-requires
+size-requires c κs = search needs
 
 cast-size : tie.Need-cast-size
 cast-size c = search needs
@@ -36,16 +36,16 @@ same-length : tie.Need-same-length
 same-length c = search needs
 
 returns-2 : tie.Need-returns-2
-returns-2 c = let s = c .before .before .before .before .before .before .before .before .before .before .before .before .before .before in
+returns-2 c = let s = c .before .before .before .before .before .before .before .before .before .before .before .before .before in
     let n : length (s .args .aid .bytes) ≡ 16 = search needs in
-    (wrote-as _ (deleted-some (s .args .aid) _ n (c .before .before .before .before .before .before .before .before .before .before .before .if1 .left) (c .before .before .before .before .before .before .before .before .before .before .held-bytes .ensures)) (wrote-then (c .before .before .before .before .before .before .before .put-bytes .ensures) (c .before .before .write-aid .ensures)), deleted-length (s .args .aid) (omega arith))
+    (wrote-as _ (deleted-some (s .args .aid) _ (c .before .before .before .before .before .before .before .before .before .before .if1 .left) (c .before .before .before .before .before .before .before .before .before .size .ensures .0)) (wrote-then (c .before .before .before .before .before .before .put-bytes .ensures) (c .before .before .write-aid .ensures)), deleted-length (s .args .aid) (omega arith))
 
 pub write-deleted-spec : {M : Type 1} → statement M
 write-deleted-spec =
     tie.close
     (tie.spec
     returns
-    held-bytes-requires
+    size-requires
     cast-size
     add-size
     slice-aggregate-put-bytes

@@ -1,5 +1,5 @@
 -- `responses::write_mark`: the element where it is asked for, else nothing.
-use Rattle.text.proofs.PutLaws.{wrote-none}
+use Rattle.byte_string.proofs.PutLaws.{wrote-none}
 use borrow.Author.Needs.{needs}
 use Rattle.responses.proofs.write_mark.Statement.{statement}
 use Rattle.responses.proofs.write_mark.Tie as tie

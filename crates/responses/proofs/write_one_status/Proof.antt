@@ -1,5 +1,5 @@
 -- `responses::write_one_status`: the place and its mark are those of the definition (`one-row`).
-use Rattle.text.proofs.PutLaws.{wrote-as}
+use Rattle.byte_string.proofs.PutLaws.{wrote-as}
 use Rattle.responses.proofs.Rows.{one-row}
 use borrow.Author.Needs.{needs}
 use Rattle.responses.proofs.write_one_status.Statement.{statement}

@@ -1,15 +1,13 @@
 -- `responses::write_row`: the head and the three elements one after the other are the row (`status-row`).
-use mathlib.Core.Path.{_≡_}
 use native.Mathlib.Omega.{arith}
-use lib.ListN.{length}
-use Rattle.text.proofs.PutLaws.{wrote-as, wrote-then}
+use Rattle.byte_string.proofs.PutLaws.{wrote-as, wrote-then}
 use Rattle.responses.proofs.Rows.{listed-small, status-row}
 use borrow.Author.Needs.{needs}
 use Rattle.responses.proofs.write_row.Statement.{statement}
 use Rattle.responses.proofs.write_row.Tie as tie
 
-held-bytes-requires : tie.Need-held-bytes-requires
-held-bytes-requires c κs = search needs
+size-requires : tie.Need-size-requires
+size-requires c κs = search needs
 
 listed-size-requires : tie.Need-listed-size-requires
 listed-size-requires c κs = search needs
@@ -21,9 +19,9 @@ add-size : tie.Need-add-size
 add-size c = search needs
 
 add-size-2 : tie.Need-add-size-2
-add-size-2 c = let s = c .before .before .before in
+add-size-2 c = let s = c .before .before .before .before in
     let h = listed-small (s .args .life) (s .args .fallback) in
-    omega (arith, c .listed-size .ensures, c .before .held-bytes .ensures)
+    omega (arith, c .listed-size .ensures, c .before .size .ensures .1)
 
 slice-aggregate-put-bytes : tie.Need-slice-aggregate-put-bytes
 slice-aggregate-put-bytes c = search needs
@@ -44,15 +42,14 @@ same-length : tie.Need-same-length
 same-length c = search needs
 
 returns : tie.Need-returns
-returns c = let s = c .before .before .before .before .before .before .before .before .before .before .before .before .before .before .before .before .before .before .before .before .before in
-    let n : length (s .args .p .aid) ≡ 16 = search needs in
-    wrote-as _ (status-row (s .args .p) (s .args .mark) (s .args .life) (s .args .fallback) _ _ n (c .before .before .before .before .before .before .before .before .before .before .before .before .before .before .before .before .before .before .before .held-bytes .ensures) (c .before .before .before .before .before .before .before .before .before .before .before .before .before .before .before .before .before .before .listed-size .ensures)) (wrote-then (wrote-then (wrote-then (c .before .before .before .before .before .before .before .before .before .before .before .before .before .before .before .put-bytes .ensures) (c .before .before .before .before .before .before .before .before .before .before .write-aid .ensures)) (c .before .before .before .before .before .before .write-life .ensures)) (c .before .before .write-mark .ensures))
+returns c = let s = c .before .before .before .before .before .before .before .before .before .before .before .before .before .before .before .before .before .before .before .before .before .args in
+    wrote-as _ (status-row (s .p) (s .mark) (s .life) (s .fallback) _ _ (c .before .before .before .before .before .before .before .before .before .before .before .before .before .before .before .before .before .before .size .ensures .0) (c .before .before .before .before .before .before .before .before .before .before .before .before .before .before .before .before .before .listed-size .ensures)) (wrote-then (wrote-then (wrote-then (c .before .before .before .before .before .before .before .before .before .before .before .before .before .before .put-bytes .ensures) (c .before .before .before .before .before .before .before .before .before .before .write-aid .ensures)) (c .before .before .before .before .before .before .write-life .ensures)) (c .before .before .write-mark .ensures))
 
 pub write-row-spec : {M : Type 1} → statement M
 write-row-spec =
     tie.close
     (tie.spec
-    held-bytes-requires
+    size-requires
     listed-size-requires
     cast-size
     add-size

@@ -5,7 +5,7 @@ use native.Mathlib.Omega.{arith}
 use lib.ListN.{length, getD, drop, length-append}
 use Rattle.isdp.specs.Sizes.{mostPlaces}
 use Rattle.card.proofs.Records.{full}
-use Rattle.text.proofs.PutLaws.{Writing, writing-starts, writing-as, writing-goes, writing-ends, wrote-as}
+use Rattle.byte_string.proofs.PutLaws.{Writing, writing-starts, writing-as, writing-goes, writing-ends, wrote-as}
 use Rattle.responses.specs.Responses.{mostRow, rowOf, rowsFrom}
 use Rattle.places.proofs.Records.{unread}
 use Rattle.responses.proofs.Rows.{rows-step, rows-end, status-rows}
@@ -27,6 +27,9 @@ mul-p c = search needs
 
 array-copy-out-p : tie.Need-array-copy-out-p Inv-loop μ-loop
 array-copy-out-p c = search needs
+
+cast-mark-of : tie.Need-cast-mark-of Inv-loop μ-loop
+cast-mark-of c = search needs
 
 mark-of-requires : tie.Need-mark-of-requires Inv-loop μ-loop
 mark-of-requires c κs = search needs
@@ -72,6 +75,7 @@ write-status-spec =
     loop-holds
     mul-p
     array-copy-out-p
+    cast-mark-of
     mark-of-requires
     write-place-requires
     add-i

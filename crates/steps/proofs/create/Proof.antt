@@ -1,151 +1,91 @@
--- `steps::create`: each exit gives the tests of the rows before it.
-use mathlib.Core.Path.{sym, _∙_}
+-- `steps::create`: the rows of the change, of an AID already held, of a free place and of the room left, each passed or stopped at.
+use mathlib.Core.Path.{_≡_, sym, _∙_}
+use Prim.Native.Nat.{_<_}
+use mathlib.Core.Bool.{true, false}
 use borrow.Author.Tests.{lt-ltb, le-ltb, le-leb, lt-leb, not-true, not-false}
 use Rattle.status.specs.Rows.{wordOf}
 use Rattle.isdp.specs.Sizes.{mostPlaces}
-use Rattle.places.proofs.Seeks.{held-none, held-some, found-hit, found-miss}
-use Rattle.card.specs.Cards.{freePlace, freeIn}
-use Rattle.card.proofs.Records.{full}
+use Rattle.isdp.specs.Place.{held}
+use Rattle.places.proofs.Seeks.{found-hit, found-miss}
+use Rattle.card.specs.Cards.{isQuiet, profileOf, freePlace}
+use Rattle.steps.proofs.Targets.{absent, found}
 use borrow.Author.Needs.{needs}
 use Rattle.steps.proofs.create.Statement.{statement}
 use Rattle.steps.proofs.create.Tie as tie
 
-is-quiet-requires : tie.Need-is-quiet-requires
-is-quiet-requires c κs = search needs
+abbrev start : tie.Else1 → tie.Start
+start c = c .before .before .before
 
-refused-requires : tie.Need-refused-requires
-refused-requires c κs = search needs
+quiet : (c : tie.Else1) → isQuiet (start c .args .card .phase) ≡ true
+quiet c = sym (c .before .is-quiet .ensures) ∙ not-false _ (c .if1 .left)
 
 returns : tie.Need-returns
 unfolding wordOf
 returns c = rw (sym (c .before .before .is-quiet .ensures) ∙ not-true _ (c .before .if1 .taken)) (c .refused .ensures)
 
-place-of-requires : tie.Need-place-of-requires
-place-of-requires c κs = search needs
-
-enum-told : tie.Need-enum-told
-enum-told c = search needs
-
-enum-told-2 : tie.Need-enum-told-2
-enum-told-2 c = search needs
-
-refused-requires-2 : tie.Need-refused-requires-2
-refused-requires-2 c κs = search needs
-
 returns-2 : tie.Need-returns-2
 unfolding wordOf
-returns-2 c = let po = c .before .before .before in
-    let e = po .before in
-    let s = e .before .before .before in
-    let card = s .args .card in
-    let aid = s .args .aid .now in
-    let n = full card _ (s .good .0) in
-    let ok = sym (e .before .is-quiet .ensures) ∙ not-false _ (e .if1 .left) in
-    let h = held-some (card .places) aid _ n (sym (po .place-of .ensures) ∙ c .before .enum-told2 .given .1) in
-    rw (ok, h .1) (c .refused2 .ensures)
+returns-2 c =
+    let o = c .before .before .before in
+    let s = start (o .before) in
+    rw (quiet (o .before), found (s .args .card) (s .args .aid .now) (s .good .0) (o .place-of .ensures) (c .before .enum-told2 .given .1) .there) (c .refused2 .ensures)
 
-free-place-requires : tie.Need-free-place-requires
-free-place-requires c κs = search needs
+abbrev asking : tie.After-free-place → tie.Else1
+asking c = c .before .before .before .before
 
-enum-known-t : tie.Need-enum-known-t
-enum-known-t c = search needs
-
-enum-told-3 : tie.Need-enum-told-3
-enum-told-3 c = search needs
-
-refused-requires-3 : tie.Need-refused-requires-3
-refused-requires-3 c κs = search needs
+free : (c : tie.After-free-place) → let s = start (asking c) in held (profileOf (s .args .card) (s .args .aid .now)) ≡ false
+free c = let s = start (asking c) in absent (s .args .card) (s .args .aid .now) (s .good .0) (c .before .before .before .place-of .ensures) (c .before .enum-told .given .1)
 
 returns-3 : tie.Need-returns-3
 unfolding wordOf
-returns-3 c = let f = c .before .before .before in
-    let m = f .before in
-    let po = m .before .before in
-    let e = po .before in
-    let s = e .before .before .before in
-    let card = s .args .card in
-    let aid = s .args .aid .now in
-    let n = full card _ (s .good .0) in
-    let ok = sym (e .before .is-quiet .ensures) ∙ not-false _ (e .if1 .left) in
-    let z = held-none (card .places) aid n (sym (po .place-of .ensures) ∙ m .enum-told .given .1) in
-    rw (ok, z, le-ltb (freePlace card) mostPlaces (found-miss (freePlace card) (sym (f .free-place .ensures) ∙ c .before .enum-told3 .given .1))) (c .refused3 .ensures)
+returns-3 c =
+    let f = c .before .before .before in
+    rw (quiet (asking f), free f, le-ltb _ mostPlaces (found-miss _ (sym (f .free-place .ensures) ∙ c .before .enum-told3 .given .1))) (c .refused3 .ensures)
 
-free-requires : tie.Need-free-requires
-free-requires c κs = search needs
+abbrev seeking : tie.After-known-told → tie.After-free-place
+seeking c = c .before .before .before
 
-refused-requires-4 : tie.Need-refused-requires-4
-refused-requires-4 c κs = search needs
+vacancy : (c : tie.After-known-told) → let n = freePlace (start (asking (seeking c)) .args .card) in (n ≡ c .before .t .given .0 .0) × (n < mostPlaces)
+vacancy c = found-hit _ _ (sym (seeking c .free-place .ensures) ∙ c .before .t .given .1)
 
 returns-4 : tie.Need-returns-4
 unfolding wordOf
-returns-4 c = let k = c .before .before .before in
-    let f = k .before .before .before in
-    let m = f .before in
-    let po = m .before .before in
-    let e = po .before in
-    let s = e .before .before .before in
-    let card = s .args .card in
-    let aid = s .args .aid .now in
-    let n = full card _ (s .good .0) in
-    let ok = sym (e .before .is-quiet .ensures) ∙ not-false _ (e .if1 .left) in
-    let z = held-none (card .places) aid n (sym (po .place-of .ensures) ∙ m .enum-told .given .1) in
-    let h = found-hit (freePlace card) _ (sym (f .free-place .ensures) ∙ k .before .t .given .1) in
-    rw (ok, z, lt-ltb (freePlace card) mostPlaces (h .1), lt-leb (s .args .quota) (freeIn card) (rw (← (c .before .before .free .ensures)) (c .before .if2 .taken))) (c .refused4 .ensures)
-
-made-requires : tie.Need-made-requires
-made-requires c κs = search needs
-
-with-place-requires : tie.Need-with-place-requires
-with-place-requires c κs = search needs
-
-none-requires : tie.Need-none-requires
-none-requires c κs = search needs
-
-step-to-requires : tie.Need-step-to-requires
-step-to-requires c κs = search needs
-
-answer-requires : tie.Need-answer-requires
-answer-requires c κs = search needs
+returns-4 c =
+    let r = c .before .before in
+    let k = r .before in
+    rw (quiet (asking (seeking k)), free (seeking k), lt-ltb _ mostPlaces (vacancy k .1), sym (r .free .ensures), lt-leb _ _ (c .before .if2 .taken)) (c .refused4 .ensures)
 
 returns-5 : tie.Need-returns-5
 unfolding wordOf
-returns-5 c = let k = c .before .before .before .before .before .before .before in
-    let f = k .before .before .before in
-    let m = f .before in
-    let po = m .before .before in
-    let e = po .before in
-    let s = e .before .before .before in
-    let card = s .args .card in
-    let aid = s .args .aid .now in
-    let n = full card _ (s .good .0) in
-    let ok = sym (e .before .is-quiet .ensures) ∙ not-false _ (e .if1 .left) in
-    let z = held-none (card .places) aid n (sym (po .place-of .ensures) ∙ m .enum-told .given .1) in
-    let h = found-hit (freePlace card) _ (sym (f .free-place .ensures) ∙ k .before .t .given .1) in
-    rw (ok, z, lt-ltb (freePlace card) mostPlaces (h .1), le-leb (s .args .quota) (freeIn card) (rw (← (c .before .before .before .before .before .before .free .ensures)) (c .before .before .before .before .before .if2 .left))) (rw (c .answer .ensures, c .before .step-to .ensures, c .before .before .before .with-place .ensures, c .before .before .before .before .made .ensures, h .0))
+returns-5 c =
+    let a = c .before .before .before in
+    let e = a .before .before in
+    let k = e .before .before in
+    rw (quiet (asking (seeking k)), free (seeking k), lt-ltb _ mostPlaces (vacancy k .1), sym (e .before .free .ensures), le-leb _ _ (e .if2 .left), c .answer .ensures, c .before .step-since .ensures, a .filled .ensures, a .before .made .ensures, vacancy k .0)
 
 pub create-spec : {M : Type 1} → statement M
 create-spec =
     tie.close
     (tie.spec
-    is-quiet-requires
-    refused-requires
+    (λ c κs. search needs)
+    (λ c κs. search needs)
     returns
-    place-of-requires
-    enum-told
-    enum-told-2
-    refused-requires-2
+    (λ c κs. search needs)
+    (λ c. search needs)
+    (λ c. search needs)
+    (λ c κs. search needs)
     returns-2
-    free-place-requires
-    enum-known-t
-    enum-told-3
-    refused-requires-3
+    (λ c κs. search needs)
+    (λ c. search needs)
+    (λ c. search needs)
+    (λ c κs. search needs)
     returns-3
-    free-requires
-    refused-requires-4
+    (λ c κs. search needs)
+    (λ c κs. search needs)
     returns-4
-    made-requires
-    with-place-requires
-    none-requires
-    step-to-requires
-    answer-requires
+    (λ c κs. search needs)
+    (λ c κs. search needs)
+    (λ c κs. search needs)
+    (λ c κs. search needs)
+    (λ c κs. search needs)
     returns-5)

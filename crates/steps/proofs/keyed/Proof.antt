@@ -1,117 +1,76 @@
--- `steps::keyed`: each exit gives the tests of the rows before it.
-use mathlib.Core.Path.{ap, sym, _∙_}
+-- `steps::keyed`: the rows of the AID, the target and its state, each passed or stopped at.
+use mathlib.Core.Path.{_≡_, sym, _∙_}
+use mathlib.Core.Bool.{true}
 use borrow.Author.Tests.{eq-eqb, ne-eqb, not-true, not-false}
 use Rattle.status.specs.Rows.{wordOf}
+use Rattle.isdp.specs.Aids.{aidOk}
 use Rattle.isdp.specs.LifeCycle.{selectable}
-use Rattle.isdp.specs.declared.Isdp.{Isdp}
-use Rattle.places.specs.Places.{at}
-use Rattle.places.proofs.Seeks.{held-none, held-some}
 use Rattle.card.specs.Cards.{profileOf}
-use Rattle.card.proofs.Records.{full}
-use Prim.Native.Nat.{ℕ}
+use Rattle.steps.proofs.Targets.{Target, absent, found, read}
 use borrow.Author.Needs.{needs}
 use Rattle.steps.proofs.keyed.Statement.{statement}
 use Rattle.steps.proofs.keyed.Tie as tie
 
-aid-ok-requires : tie.Need-aid-ok-requires
-aid-ok-requires c κs = search needs
+abbrev start : tie.Else1 → tie.Start
+start c = c .before .before .before
 
-refused-requires : tie.Need-refused-requires
-refused-requires c κs = search needs
+named : (c : tie.Else1) → aidOk (start c .args .aid .now) ≡ true
+named c = sym (c .before .aid-ok .ensures) ∙ not-false _ (c .if1 .left)
+
+abbrev asking : tie.After-known-told → tie.Else1
+asking c = c .before .before .before .before
+
+target : (c : tie.After-known-told) → Target (start (asking c) .args .card) (start (asking c) .args .aid .now) (c .before .t .given .0 .0)
+target c = found _ _ (start (asking c) .good .0) (c .before .before .before .place-of .ensures) (c .before .t .given .1)
+
+profile : (c : tie.After-profile) → profileOf (start (asking (c .before)) .args .card) (start (asking (c .before)) .args .aid .now) ≡ c .profile .result
+profile c = read (target (c .before)) (c .profile .ensures)
 
 returns : tie.Need-returns
 unfolding wordOf
 returns c = rw (sym (c .before .before .aid-ok .ensures) ∙ not-true _ (c .before .if1 .taken)) (c .refused .ensures)
 
-place-of-requires : tie.Need-place-of-requires
-place-of-requires c κs = search needs
-
-enum-known-t : tie.Need-enum-known-t
-enum-known-t c = search needs
-
-enum-told : tie.Need-enum-told
-enum-told c = search needs
-
-refused-requires-2 : tie.Need-refused-requires-2
-refused-requires-2 c κs = search needs
-
 returns-2 : tie.Need-returns-2
 unfolding wordOf
-returns-2 c = let po = c .before .before .before in
-    let e = po .before in
-    let s = e .before .before .before in
-    let card = s .args .card in
-    let aid = s .args .aid .now in
-    let ok = sym (e .before .aid-ok .ensures) ∙ not-false _ (e .if1 .left) in
-    rw (ok, held-none (card .places) aid (full card _ (s .good .0)) (sym (po .place-of .ensures) ∙ c .before .enum-told .given .1)) (c .refused2 .ensures)
-
-profile-requires : tie.Need-profile-requires
-profile-requires c κs = search needs
-
-refused-requires-3 : tie.Need-refused-requires-3
-refused-requires-3 c κs = search needs
+returns-2 c =
+    let o = c .before .before .before in
+    let s = start (o .before) in
+    rw (named (o .before), absent (s .args .card) (s .args .aid .now) (s .good .0) (o .place-of .ensures) (c .before .enum-told .given .1)) (c .refused2 .ensures)
 
 returns-3 : tie.Need-returns-3
 unfolding wordOf
-returns-3 c = let pr = c .before .before .before in
-    let k = pr .before in
-    let po = k .before .before .before in
-    let e = po .before in
-    let s = e .before .before .before in
-    let card = s .args .card in
-    let aid = s .args .aid .now in
-    let ok = sym (e .before .aid-ok .ensures) ∙ not-false _ (e .if1 .left) in
-    let h = held-some (card .places) aid _ (full card _ (s .good .0)) (sym (po .place-of .ensures) ∙ k .before .t .given .1) in
-    let q = pr .profile .ensures ∙ ap (λ (i : ℕ). at (card .places) i) (sym (h .0)) in
-    rw (ok, h .1, ne-eqb (profileOf card aid .life) selectable (λ z. c .before .if2 .taken (ap (λ (p : Isdp). p .life) q ∙ z))) (c .refused3 .ensures)
-
-with-life-requires : tie.Need-with-life-requires
-with-life-requires c κs = search needs
-
-with-place-requires : tie.Need-with-place-requires
-with-place-requires c κs = search needs
-
-none-requires : tie.Need-none-requires
-none-requires c κs = search needs
-
-step-to-requires : tie.Need-step-to-requires
-step-to-requires c κs = search needs
-
-answer-requires : tie.Need-answer-requires
-answer-requires c κs = search needs
+returns-3 c =
+    let p = c .before .before .before in
+    let k = p .before in
+    rw (named (asking k), target k .there, profile p, ne-eqb _ selectable (c .before .if2 .taken)) (c .refused3 .ensures)
 
 returns-4 : tie.Need-returns-4
 unfolding wordOf
-returns-4 c = let pr = c .before .before .before .before .before .before .before in
-    let k = pr .before in
-    let po = k .before .before .before in
-    let e = po .before in
-    let s = e .before .before .before in
-    let card = s .args .card in
-    let aid = s .args .aid .now in
-    let ok = sym (e .before .aid-ok .ensures) ∙ not-false _ (e .if1 .left) in
-    let h = held-some (card .places) aid _ (full card _ (s .good .0)) (sym (po .place-of .ensures) ∙ k .before .t .given .1) in
-    let q = pr .profile .ensures ∙ ap (λ (i : ℕ). at (card .places) i) (sym (h .0)) in
-    rw (ok, h .1, eq-eqb (profileOf card aid .life) selectable (ap (λ (p : Isdp). p .life) (sym q) ∙ c .before .before .before .before .before .if2 .left)) (rw (c .answer .ensures, c .before .step-to .ensures, c .before .before .before .with-place .ensures, c .before .before .before .before .with-life .ensures, pr .profile .ensures, h .0))
+returns-4 c =
+    let a = c .before .before .before in
+    let e = a .before .before in
+    let p = e .before .before in
+    let k = p .before in
+    rw (named (asking k), target k .there, profile p, eq-eqb _ selectable (e .if2 .left), c .answer .ensures, c .before .step-since .ensures, a .rewritten .ensures, a .before .with-life .ensures, target k .place)
 
 pub keyed-spec : {M : Type 1} → statement M
 keyed-spec =
     tie.close
     (tie.spec
-    aid-ok-requires
-    refused-requires
+    (λ c κs. search needs)
+    (λ c κs. search needs)
     returns
-    place-of-requires
-    enum-known-t
-    enum-told
-    refused-requires-2
+    (λ c κs. search needs)
+    (λ c. search needs)
+    (λ c. search needs)
+    (λ c κs. search needs)
     returns-2
-    profile-requires
-    refused-requires-3
+    (λ c κs. search needs)
+    (λ c κs. search needs)
     returns-3
-    with-life-requires
-    with-place-requires
-    none-requires
-    step-to-requires
-    answer-requires
+    (λ c κs. search needs)
+    (λ c κs. search needs)
+    (λ c κs. search needs)
+    (λ c κs. search needs)
+    (λ c κs. search needs)
     returns-4)

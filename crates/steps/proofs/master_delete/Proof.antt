@@ -1,133 +1,80 @@
--- `steps::master_delete`: each exit gives the tests of the rows before it.
-use mathlib.Core.Path.{ap, sym, _∙_}
-use Prim.Native.Nat.{ℕ}
+-- `steps::master_delete`: the rows of the change, the target, whether it may be deleted and the token verdict, each passed or stopped at.
+use mathlib.Core.Path.{_≡_, sym, _∙_}
+use mathlib.Core.Bool.{true}
 use borrow.Author.Tests.{eq-eqb, ne-eqb, not-true, not-false}
 use Rattle.status.specs.Rows.{wordOf}
-use Rattle.places.proofs.Seeks.{held-none, held-some}
-use Rattle.card.specs.Cards.{mayBeDeleted}
-use Rattle.card.proofs.Records.{full}
+use Rattle.card.specs.Cards.{isQuiet}
+use Rattle.steps.proofs.Targets.{Target, absent, found}
 use borrow.Author.Needs.{needs}
 use Rattle.steps.proofs.master_delete.Statement.{statement}
 use Rattle.steps.proofs.master_delete.Tie as tie
 
-is-quiet-requires : tie.Need-is-quiet-requires
-is-quiet-requires c κs = search needs
+abbrev start : tie.Else1 → tie.Start
+start c = c .before .before .before
 
-refused-requires : tie.Need-refused-requires
-refused-requires c κs = search needs
+quiet : (c : tie.Else1) → isQuiet (start c .args .card .phase) ≡ true
+quiet c = sym (c .before .is-quiet .ensures) ∙ not-false _ (c .if1 .left)
+
+abbrev asking : tie.After-known-told → tie.Else1
+asking c = c .before .before .before .before
+
+target : (c : tie.After-known-told) → Target (start (asking c) .args .card) (start (asking c) .args .aid .now) (c .before .t .given .0 .0)
+target c = found _ _ (start (asking c) .good .0) (c .before .before .before .place-of .ensures) (c .before .t .given .1)
 
 returns : tie.Need-returns
 unfolding wordOf
 returns c = rw (sym (c .before .before .is-quiet .ensures) ∙ not-true _ (c .before .if1 .taken)) (c .refused .ensures)
 
-place-of-requires : tie.Need-place-of-requires
-place-of-requires c κs = search needs
-
-enum-known-t : tie.Need-enum-known-t
-enum-known-t c = search needs
-
-enum-told : tie.Need-enum-told
-enum-told c = search needs
-
-refused-requires-2 : tie.Need-refused-requires-2
-refused-requires-2 c κs = search needs
-
 returns-2 : tie.Need-returns-2
 unfolding wordOf
-returns-2 c = let po = c .before .before .before in
-    let e = po .before in
-    let s = e .before .before .before in
-    let card = s .args .card in
-    let aid = s .args .aid .now in
-    let n = full card _ (s .good .0) in
-    let ok = sym (e .before .is-quiet .ensures) ∙ not-false _ (e .if1 .left) in
-    rw (ok, held-none (card .places) aid n (sym (po .place-of .ensures) ∙ c .before .enum-told .given .1)) (c .refused2 .ensures)
-
-may-be-deleted-requires : tie.Need-may-be-deleted-requires
-may-be-deleted-requires c κs = search needs
-
-refused-requires-3 : tie.Need-refused-requires-3
-refused-requires-3 c κs = search needs
+returns-2 c =
+    let o = c .before .before .before in
+    let s = start (o .before) in
+    rw (quiet (o .before), absent (s .args .card) (s .args .aid .now) (s .good .0) (o .place-of .ensures) (c .before .enum-told .given .1)) (c .refused2 .ensures)
 
 returns-3 : tie.Need-returns-3
 unfolding wordOf
-returns-3 c = let k = c .before .before .before in
-    let po = k .before .before .before in
-    let e = po .before in
-    let s = e .before .before .before in
-    let card = s .args .card in
-    let aid = s .args .aid .now in
-    let n = full card _ (s .good .0) in
-    let ok = sym (e .before .is-quiet .ensures) ∙ not-false _ (e .if1 .left) in
-    let h = held-some (card .places) aid _ n (sym (po .place-of .ensures) ∙ k .before .t .given .1) in
-    rw (ok, h .1, ap (λ (i : ℕ). mayBeDeleted card i) (h .0) ∙ sym (c .before .before .may-be-deleted .ensures) ∙ not-true _ (c .before .if2 .taken)) (c .refused3 .ensures)
-
-refused-requires-4 : tie.Need-refused-requires-4
-refused-requires-4 c κs = search needs
+returns-3 c =
+    let m = c .before .before in
+    let k = m .before in
+    rw (quiet (asking k), target k .there, target k .place, sym (m .may-be-deleted .ensures) ∙ not-true _ (c .before .if2 .taken)) (c .refused3 .ensures)
 
 returns-4 : tie.Need-returns-4
 unfolding wordOf
-returns-4 c = let m = c .before .before .before in
+returns-4 c =
+    let e = c .before .before in
+    let m = e .before in
     let k = m .before in
-    let po = k .before .before .before in
-    let e = po .before in
-    let s = e .before .before .before in
-    let card = s .args .card in
-    let aid = s .args .aid .now in
-    let n = full card _ (s .good .0) in
-    let ok = sym (e .before .is-quiet .ensures) ∙ not-false _ (e .if1 .left) in
-    let h = held-some (card .places) aid _ n (sym (po .place-of .ensures) ∙ k .before .t .given .1) in
-    rw (ok, h .1, ap (λ (i : ℕ). mayBeDeleted card i) (h .0) ∙ sym (m .may-be-deleted .ensures) ∙ not-false _ (c .before .before .if2 .left), ne-eqb (s .args .verdict) 1 (c .before .if3 .taken)) (c .refused4 .ensures)
-
-none-requires : tie.Need-none-requires
-none-requires c κs = search needs
-
-with-place-requires : tie.Need-with-place-requires
-with-place-requires c κs = search needs
-
-none-requires-2 : tie.Need-none-requires-2
-none-requires-2 c κs = search needs
-
-step-to-requires : tie.Need-step-to-requires
-step-to-requires c κs = search needs
-
-answer-requires : tie.Need-answer-requires
-answer-requires c κs = search needs
+    rw (quiet (asking k), target k .there, target k .place, sym (m .may-be-deleted .ensures) ∙ not-false _ (e .if2 .left), ne-eqb _ 1 (c .before .if3 .taken)) (c .refused4 .ensures)
 
 returns-5 : tie.Need-returns-5
 unfolding wordOf
-returns-5 c = let m = c .before .before .before .before .before .before .before in
+returns-5 c =
+    let a = c .before .before .before in
+    let e = a .before .before in
+    let m = e .before in
     let k = m .before in
-    let po = k .before .before .before in
-    let e = po .before in
-    let s = e .before .before .before in
-    let card = s .args .card in
-    let aid = s .args .aid .now in
-    let n = full card _ (s .good .0) in
-    let ok = sym (e .before .is-quiet .ensures) ∙ not-false _ (e .if1 .left) in
-    let h = held-some (card .places) aid _ n (sym (po .place-of .ensures) ∙ k .before .t .given .1) in
-    rw (ok, h .1, ap (λ (i : ℕ). mayBeDeleted card i) (h .0) ∙ sym (m .may-be-deleted .ensures) ∙ not-false _ (c .before .before .before .before .before .before .if2 .left), eq-eqb (s .args .verdict) 1 (c .before .before .before .before .before .if3 .left)) (rw (c .answer .ensures, c .before .step-to .ensures, c .before .before .before .with-place .ensures, c .before .before .before .before .none .ensures, h .0))
+    rw (quiet (asking k), target k .there, target k .place, sym (m .may-be-deleted .ensures) ∙ not-false _ (e .if2 .left), eq-eqb _ 1 (a .before .if3 .left), c .answer .ensures, c .before .step-since .ensures, a .cleared .ensures)
 
 pub master-delete-spec : {M : Type 1} → statement M
 master-delete-spec =
     tie.close
     (tie.spec
-    is-quiet-requires
-    refused-requires
+    (λ c κs. search needs)
+    (λ c κs. search needs)
     returns
-    place-of-requires
-    enum-known-t
-    enum-told
-    refused-requires-2
+    (λ c κs. search needs)
+    (λ c. search needs)
+    (λ c. search needs)
+    (λ c κs. search needs)
     returns-2
-    may-be-deleted-requires
-    refused-requires-3
+    (λ c κs. search needs)
+    (λ c κs. search needs)
     returns-3
-    refused-requires-4
+    (λ c κs. search needs)
     returns-4
-    none-requires
-    with-place-requires
-    none-requires-2
-    step-to-requires
-    answer-requires
+    (λ c κs. search needs)
+    (λ c κs. search needs)
+    (λ c κs. search needs)
+    (λ c κs. search needs)
     returns-5)

@@ -1,117 +1,75 @@
--- `steps::set_fall_back`: each exit gives the tests of the rows before it.
-use mathlib.Core.Path.{ap, sym, _∙_}
-use Prim.Native.Nat.{ℕ}
-use mathlib.Core.Bool.{_||_}
-use lib.Dec.{eqb}
+-- `steps::set_fall_back`: the rows of the change, the target and its state, each passed or stopped at.
+use mathlib.Core.Path.{_≡_, sym, _∙_}
+use mathlib.Core.Bool.{true, false}
 use borrow.Author.Tests.{not-true, not-false}
 use Rattle.status.specs.Rows.{wordOf}
-use Rattle.isdp.specs.LifeCycle.{disabled, enabled}
-use Rattle.isdp.specs.declared.Isdp.{Isdp}
-use Rattle.places.specs.Places.{at}
-use Rattle.places.proofs.Seeks.{held-none, held-some}
-use Rattle.card.proofs.Records.{full}
+use Rattle.isdp.specs.LifeCycle.{isFinished}
+use Rattle.card.specs.Cards.{isQuiet, profileOf}
+use Rattle.steps.proofs.Targets.{Target, absent, found, read}
 use borrow.Author.Needs.{needs}
 use Rattle.steps.proofs.set_fall_back.Statement.{statement}
 use Rattle.steps.proofs.set_fall_back.Tie as tie
 
-is-quiet-requires : tie.Need-is-quiet-requires
-is-quiet-requires c κs = search needs
+abbrev start : tie.Else1 → tie.Start
+start c = c .before .before .before
 
-refused-requires : tie.Need-refused-requires
-refused-requires c κs = search needs
+quiet : (c : tie.Else1) → isQuiet (start c .args .card .phase) ≡ true
+quiet c = sym (c .before .is-quiet .ensures) ∙ not-false _ (c .if1 .left)
+
+abbrev asking : tie.After-known-told → tie.Else1
+asking c = c .before .before .before .before
+
+target : (c : tie.After-known-told) → Target (start (asking c) .args .card) (start (asking c) .args .aid .now) (c .before .t .given .0 .0)
+target c = found _ _ (start (asking c) .good .0) (c .before .before .before .place-of .ensures) (c .before .t .given .1)
+
+profile : (c : tie.After-profile) → profileOf (start (asking (c .before)) .args .card) (start (asking (c .before)) .args .aid .now) ≡ c .profile .result
+profile c = read (target (c .before)) (c .profile .ensures)
 
 returns : tie.Need-returns
 unfolding wordOf
 returns c = rw (sym (c .before .before .is-quiet .ensures) ∙ not-true _ (c .before .if1 .taken)) (c .refused .ensures)
 
-place-of-requires : tie.Need-place-of-requires
-place-of-requires c κs = search needs
-
-enum-known-t : tie.Need-enum-known-t
-enum-known-t c = search needs
-
-enum-told : tie.Need-enum-told
-enum-told c = search needs
-
-refused-requires-2 : tie.Need-refused-requires-2
-refused-requires-2 c κs = search needs
-
 returns-2 : tie.Need-returns-2
 unfolding wordOf
-returns-2 c = let po = c .before .before .before in
-    let e = po .before in
-    let s = e .before .before .before in
-    let card = s .args .card in
-    let aid = s .args .aid .now in
-    let n = full card _ (s .good .0) in
-    let ok = sym (e .before .is-quiet .ensures) ∙ not-false _ (e .if1 .left) in
-    rw (ok, held-none (card .places) aid n (sym (po .place-of .ensures) ∙ c .before .enum-told .given .1)) (c .refused2 .ensures)
-
-profile-requires : tie.Need-profile-requires
-profile-requires c κs = search needs
-
-refused-requires-3 : tie.Need-refused-requires-3
-refused-requires-3 c κs = search needs
+returns-2 c =
+    let o = c .before .before .before in
+    let s = start (o .before) in
+    rw (quiet (o .before), absent (s .args .card) (s .args .aid .now) (s .good .0) (o .place-of .ensures) (c .before .enum-told .given .1)) (c .refused2 .ensures)
 
 returns-3 : tie.Need-returns-3
 unfolding wordOf
-returns-3 c = let pr = c .before .before .before .before in
-    let k = pr .before in
-    let po = k .before .before .before in
-    let e = po .before in
-    let s = e .before .before .before in
-    let card = s .args .card in
-    let aid = s .args .aid .now in
-    let n = full card _ (s .good .0) in
-    let ok = sym (e .before .is-quiet .ensures) ∙ not-false _ (e .if1 .left) in
-    let h = held-some (card .places) aid _ n (sym (po .place-of .ensures) ∙ k .before .t .given .1) in
-    let q = pr .profile .ensures ∙ ap (λ (i : ℕ). at (card .places) i) (sym (h .0)) in
-    rw (ok, h .1, ap (λ (p : Isdp). eqb (p .life) disabled || eqb (p .life) enabled) (sym q) ∙ not-true _ (c .before .if2 .taken)) (c .refused3 .ensures)
-
-with-fallback-requires : tie.Need-with-fallback-requires
-with-fallback-requires c κs = search needs
-
-none-requires : tie.Need-none-requires
-none-requires c κs = search needs
-
-step-to-requires : tie.Need-step-to-requires
-step-to-requires c κs = search needs
-
-answer-requires : tie.Need-answer-requires
-answer-requires c κs = search needs
+returns-3 c =
+    let p = c .before .before .before .before in
+    let k = p .before in
+    let n : isFinished (p .profile .result .life) ≡ false = not-true _ (c .before .if2 .taken) in
+    rw (quiet (asking k), target k .there, profile p, n) (c .refused3 .ensures)
 
 returns-4 : tie.Need-returns-4
 unfolding wordOf
-returns-4 c = let pr = c .before .before .before .before .before .before .before in
-    let k = pr .before in
-    let po = k .before .before .before in
-    let e = po .before in
-    let s = e .before .before .before in
-    let card = s .args .card in
-    let aid = s .args .aid .now in
-    let n = full card _ (s .good .0) in
-    let ok = sym (e .before .is-quiet .ensures) ∙ not-false _ (e .if1 .left) in
-    let h = held-some (card .places) aid _ n (sym (po .place-of .ensures) ∙ k .before .t .given .1) in
-    let q = pr .profile .ensures ∙ ap (λ (i : ℕ). at (card .places) i) (sym (h .0)) in
-    rw (ok, h .1, ap (λ (p : Isdp). eqb (p .life) disabled || eqb (p .life) enabled) (sym q) ∙ not-false _ (c .before .before .before .before .if2 .left)) (rw (c .answer .ensures, c .before .step-to .ensures, c .before .before .before .with-fallback .ensures, h .0))
+returns-4 c =
+    let a = c .before .before .before in
+    let p = a .before .before .before .before in
+    let k = p .before in
+    let y : isFinished (p .profile .result .life) ≡ true = not-false _ (a .before .if2 .left) in
+    rw (quiet (asking k), target k .there, profile p, y, c .answer .ensures, c .before .step-since .ensures, a .with-fallback .ensures, target k .place)
 
 pub set-fall-back-spec : {M : Type 1} → statement M
 set-fall-back-spec =
     tie.close
     (tie.spec
-    is-quiet-requires
-    refused-requires
+    (λ c κs. search needs)
+    (λ c κs. search needs)
     returns
-    place-of-requires
-    enum-known-t
-    enum-told
-    refused-requires-2
+    (λ c κs. search needs)
+    (λ c. search needs)
+    (λ c. search needs)
+    (λ c κs. search needs)
     returns-2
-    profile-requires
-    refused-requires-3
+    (λ c κs. search needs)
+    (λ c κs. search needs)
     returns-3
-    with-fallback-requires
-    none-requires
-    step-to-requires
-    answer-requires
+    (λ c κs. search needs)
+    (λ c κs. search needs)
+    (λ c κs. search needs)
+    (λ c κs. search needs)
     returns-4)

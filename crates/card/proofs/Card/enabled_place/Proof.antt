@@ -17,6 +17,9 @@ enum-known-e c = search needs
 enum-told : tie.Need-enum-told
 enum-told c = search needs
 
+cast-result : tie.Need-cast-result
+cast-result c = search needs
+
 returns : tie.Need-returns
 returns c = let b = c .before .before in
     let s = b .before in
@@ -34,4 +37,4 @@ returns-2 c = let k = c .before in
     sym (h .0)
 
 pub enabled-place-spec : {M : Type 1} → statement M
-enabled-place-spec = tie.close (tie.spec enabled-requires enum-known-e enum-told returns returns-2)
+enabled-place-spec = tie.close (tie.spec enabled-requires enum-known-e enum-told cast-result returns returns-2)

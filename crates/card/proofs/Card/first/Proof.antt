@@ -15,9 +15,15 @@ made-requires c κs = search needs
 array-set-from-places : tie.Need-array-set-from-places
 array-set-from-places c = search needs
 
+with-requires : tie.Need-with-requires
+with-requires c κs = search needs
+
 returns : tie.Need-returns
-returns c = rw (c .made .ensures, c .before .none .ensures, c .before .before .pad .ensures, pad-whole (c .before .before .before .before .before .args .eid .now) (c .before .before .before .before .before .pre))
+returns c = let p = c .before .before .before in
+    let s = p .before .before .before in
+    rw (c .with .ensures, c .before .made .ensures, c .before .before .none .ensures, p .pad .ensures, pad-whole (s .args .eid .now) (s .pre))
 
 pub first-spec : {M : Type 1} → statement M
 first-spec =
-    tie.close (tie.spec pad-requires none-requires made-requires array-set-from-places returns)
+    tie.close
+    (tie.spec pad-requires none-requires made-requires array-set-from-places with-requires returns)

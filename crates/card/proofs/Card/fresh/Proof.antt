@@ -33,8 +33,8 @@ first-requires c κs = let e = c in
 none-requires : tie.Need-none-requires
 none-requires c κs = search needs
 
-step-to-requires : tie.Need-step-to-requires
-step-to-requires c κs = search needs
+step-since-requires : tie.Need-step-since-requires
+step-since-requires c κs = search needs
 
 answer-requires : tie.Need-answer-requires
 answer-requires c κs = search needs
@@ -42,7 +42,7 @@ answer-requires c κs = search needs
 returns-2 : tie.Need-returns-2
 unfolding freshOutcome accepted wordOf ticksToCome stepsIn ticksByPhase
 returns-2 c = let e = c .before .before .before .before in
-    rw (sym (e .before .fresh-ok .ensures) ∙ not-false _ (e .if1 .left)) (c .answer .ensures ∙ rw (c .before .step-to .ensures) (rw (c .before .before .before .first .ensures) (rw (e .before .before .zero .ensures) refl)))
+    rw (sym (e .before .fresh-ok .ensures) ∙ not-false _ (e .if1 .left)) (c .answer .ensures ∙ rw (c .before .step-since .ensures) (rw (c .before .before .before .first .ensures) (rw (e .before .before .zero .ensures) refl)))
 
 pub fresh-spec : {M : Type 1} → statement M
 fresh-spec =
@@ -54,6 +54,6 @@ fresh-spec =
     returns
     first-requires
     none-requires
-    step-to-requires
+    step-since-requires
     answer-requires
     returns-2)

@@ -11,13 +11,10 @@ enabled-place-requires c κs = search needs
 profile-requires : tie.Need-profile-requires
 profile-requires c κs = search needs
 
-name-requires : tie.Need-name-requires
-name-requires c κs = search needs
-
 returns : tie.Need-returns
-returns c = rw (c .name .ensures, c .before .profile .ensures, c .before .before .enabled-place .ensures, c .before .before .before .kind .ensures)
+returns c = rw (c .before .profile .ensures, c .before .before .enabled-place .ensures, c .before .before .before .kind .ensures)
 
 pub issued-spec : {M : Type 1} → statement M
 issued-spec =
     tie.close
-    (tie.spec kind-requires enabled-place-requires profile-requires name-requires returns)
+    (tie.spec kind-requires enabled-place-requires profile-requires returns)

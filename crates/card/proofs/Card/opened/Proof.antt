@@ -1,11 +1,6 @@
 use borrow.Author.Needs.{needs}
 use Rattle.card.proofs.Card.opened.Statement.{statement}
 use Rattle.card.proofs.Card.opened.Tie as tie
-use Rattle.card.proofs.Card.opened.Reads as reads
-use Rattle.card.proofs.Card.opened.Lts as lts
-use Rattle.card.proofs.Card.enabled_place.Reads as enabled-place-reads
-use Rattle.card.proofs.Card.moved.Reads as moved-reads
-use Rattle.card.proofs.next.Reads as next-reads
 
 enabled-place-requires : tie.Need-enabled-place-requires
 enabled-place-requires c κs = search needs

@@ -12,31 +12,26 @@ drops-requires c κs = search needs
 profile-requires : tie.Need-profile-requires
 profile-requires c κs = search needs
 
+cleared-requires : tie.Need-cleared-requires
+cleared-requires c κs = search needs
+
+step-since-requires : tie.Need-step-since-requires
+step-since-requires c κs = search needs
+
+returns : tie.Need-returns
+returns c = let t = c .before .before .before in
+    let d = t .before in
+    rw (sym (d .drops .ensures) ∙ t .if1 .taken) (rw (c .step-since .ensures, c .before .cleared .ensures, c .before .before .profile .ensures, d .before .with-phase .ensures))
+
 none-requires : tie.Need-none-requires
 none-requires c κs = search needs
 
-with-place-requires : tie.Need-with-place-requires
-with-place-requires c κs = search needs
-
-name-requires : tie.Need-name-requires
-name-requires c κs = search needs
-
-step-to-requires : tie.Need-step-to-requires
-step-to-requires c κs = search needs
-
-returns : tie.Need-returns
-returns c = let d = c .before .before .before .before .before .before in
-    rw (sym (d .drops .ensures) ∙ c .before .before .before .before .before .if1 .taken) (rw (c .step-to .ensures, c .before .name .ensures, c .before .before .with-place .ensures, c .before .before .before .none .ensures, c .before .before .before .before .profile .ensures, d .before .with-phase .ensures))
-
-none-requires-2 : tie.Need-none-requires-2
-none-requires-2 c κs = search needs
-
-step-to-requires-2 : tie.Need-step-to-requires-2
-step-to-requires-2 c κs = search needs
+step-since-requires-2 : tie.Need-step-since-requires-2
+step-since-requires-2 c κs = search needs
 
 returns-2 : tie.Need-returns-2
 returns-2 c = let d = c .before .before .before in
-    rw (sym (d .drops .ensures) ∙ c .before .before .if1 .left) (rw (c .step-to2 .ensures, c .before .none2 .ensures, d .before .with-phase .ensures))
+    rw (sym (d .drops .ensures) ∙ c .before .before .if1 .left) (rw (c .step-since2 .ensures, c .before .none .ensures, d .before .with-phase .ensures))
 
 pub trial-confirmed-spec : {M : Type 1} → statement M
 trial-confirmed-spec =
@@ -45,11 +40,9 @@ trial-confirmed-spec =
     with-phase-requires
     drops-requires
     profile-requires
-    none-requires
-    with-place-requires
-    name-requires
-    step-to-requires
+    cleared-requires
+    step-since-requires
     returns
-    none-requires-2
-    step-to-requires-2
+    none-requires
+    step-since-requires-2
     returns-2)

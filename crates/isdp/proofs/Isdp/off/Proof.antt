@@ -1,3 +1,4 @@
+-- `Isdp::off`: the life cycle is written in one branch, and the other leaves it.
 use borrow.Author.Tests.{eq-eqb, ne-eqb}
 use Rattle.isdp.proofs.Isdp.off.Statement.{statement}
 use Rattle.isdp.proofs.Isdp.off.Tie as tie

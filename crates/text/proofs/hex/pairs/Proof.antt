@@ -6,7 +6,7 @@ use Prim.Native.Nat.{_-_, _≤_}
 use lib.ListN.{length}
 use Rattle.text.specs.Hex.{pairsOf}
 use Rattle.text.proofs.HexLaws.{pairs-end, pairs-odd, pairs-first, pairs-second, pairs-next}
-use Rattle.text.proofs.Rest.{rest, rest-all}
+use Rattle.byte_string.proofs.Rest.{rest, rest-all}
 use Rattle.text.proofs.hex.pairs.Statement.{statement}
 use Rattle.text.proofs.hex.pairs.Tie as tie
 

@@ -2,7 +2,7 @@
 use native.Mathlib.Omega.{arith}
 use lib.ListN.{length}
 use mathlib.Core.Path.{sym, _∙_}
-use Rattle.text.proofs.PutLaws.{put-as, put-kept}
+use Rattle.byte_string.proofs.PutLaws.{put-as, put-kept}
 use Rattle.text.proofs.HexLaws.{hex-fits, hex-full, hex-wrong}
 use borrow.Author.Needs.{needs}
 use Rattle.text.proofs.hex.read_hex.Statement.{statement}

@@ -4,10 +4,10 @@ use native.Mathlib.Omega.{arith}
 use mathlib.Core.Path.{_≡_, refl}
 use Prim.Native.Nat.{_-_, _*_, _≤_}
 use lib.ListN.{length, length-set}
-use Rattle.text.specs.Put.{put}
+use Rattle.byte_string.specs.Put.{put}
 use Rattle.text.specs.Hex.{spelled}
 use Rattle.text.proofs.HexLaws.{spell-next, spell-end}
-use Rattle.text.proofs.Rest.{rest}
+use Rattle.byte_string.proofs.Rest.{rest}
 use Rattle.text.proofs.hex.spell.Statement.{statement}
 use Rattle.text.proofs.hex.spell.Tie as tie
 

@@ -2,7 +2,7 @@
 use native.Mathlib.Omega.{arith}
 use lib.ListN.{length}
 use mathlib.Core.Path.{ap, sym, _∙_}
-use Rattle.text.proofs.PutLaws.{put-as, put-kept}
+use Rattle.byte_string.proofs.PutLaws.{put-as, put-kept}
 use Rattle.text.proofs.HexLaws.{spelled-length, in-fits, in-full}
 use borrow.Author.Needs.{needs}
 use Rattle.text.proofs.hex.spell_hex.Statement.{statement}

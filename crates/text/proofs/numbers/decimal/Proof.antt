@@ -7,7 +7,7 @@ use lib.ListN.{length}
 use mir.Facts.{fits-8-64}
 use Rattle.text.specs.Numbers.{decimalOf, digitsOn}
 use Rattle.text.proofs.NumberLaws.{decimal-none, decimal-some, digits-end, digits-low, digits-high, digits-much, digits-next}
-use Rattle.text.proofs.Rest.{rest, rest-all}
+use Rattle.byte_string.proofs.Rest.{rest, rest-all}
 use Rattle.text.proofs.numbers.decimal.Statement.{statement}
 use Rattle.text.proofs.numbers.decimal.Tie as tie
 

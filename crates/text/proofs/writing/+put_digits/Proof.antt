@@ -2,7 +2,7 @@
 -- last digit and the last digit are one text.
 use borrow.Author.Needs.{needs}
 use native.Mathlib.Omega.{arith}
-use Rattle.text.proofs.PutLaws.{wrote-as, wrote-then}
+use Rattle.byte_string.proofs.PutLaws.{wrote-as, wrote-then}
 use Rattle.text.proofs.NumberLaws.{text-small, text-last, text-more}
 use Prim.Native.Nat.{ℕ, _<_}
 use borrow.Fn.Kinds.{In}
@@ -10,7 +10,7 @@ use borrow.Fn.PlainCycle.{Measures, is, falls, and}
 use Rattle.text.proofs.writing.put_digits.Reads as put-digits
 use Rattle.text.proofs.writing.put_digits.Kinds as put-digits-kinds
 use Rattle.text.proofs.writing.+put_digits.Lts-put_digits as put-digits-lts
-use Rattle.text.proofs.writing.put_byte.Reads as put-byte-reads
+use Rattle.byte_string.proofs.put_byte.Reads as put-byte-reads
 use Rattle.text.proofs.writing.+put_digits.{statement}
 use Rattle.text.proofs.writing.+put_digits.Tie.{close}
 

@@ -5,8 +5,8 @@ use Prim.Native.Nat.{_-_, _≤_}
 use mathlib.Core.Path.{sym, ap}
 use lib.ListN.{length}
 use Rattle.text.specs.Hex.{hexText}
-use Rattle.text.proofs.Rest.{rest, rest-all, rest-one, rest-end}
-use Rattle.text.proofs.PutLaws.{Writing, writing-starts, writing-goes, writing-ends, writing-as}
+use Rattle.byte_string.proofs.Rest.{rest, rest-all, rest-one, rest-end}
+use Rattle.byte_string.proofs.PutLaws.{Writing, writing-starts, writing-goes, writing-ends, writing-as}
 use Rattle.text.proofs.writing.put_hex.Statement.{statement}
 use Rattle.text.proofs.writing.put_hex.Tie as tie
 

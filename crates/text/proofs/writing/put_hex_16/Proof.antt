@@ -1,6 +1,6 @@
 -- `writing::put_hex_16` meets its contract: two bytes written one after the other are one text.
 use Rattle.text.specs.Hex.{hexText}
-use Rattle.text.proofs.PutLaws.{wrote-then}
+use Rattle.byte_string.proofs.PutLaws.{wrote-then}
 use borrow.Author.Needs.{needs}
 use Rattle.text.proofs.writing.put_hex_16.Statement.{statement}
 use Rattle.text.proofs.writing.put_hex_16.Tie as tie

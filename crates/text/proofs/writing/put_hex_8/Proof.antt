@@ -1,6 +1,6 @@
 -- `writing::put_hex_8` meets its contract: two digits written one after the other are one text.
 use Rattle.text.specs.Hex.{hexText}
-use Rattle.text.proofs.PutLaws.{wrote-then}
+use Rattle.byte_string.proofs.PutLaws.{wrote-then}
 use borrow.Author.Needs.{needs}
 use Rattle.text.proofs.writing.put_hex_8.Statement.{statement}
 use Rattle.text.proofs.writing.put_hex_8.Tie as tie

@@ -1,5 +1,5 @@
 -- `writing::put_hex_word` meets its contract: `-` for no bytes, else what `put_hex` writes.
-use Rattle.text.proofs.PutLaws.{wrote-as}
+use Rattle.byte_string.proofs.PutLaws.{wrote-as}
 use Rattle.text.proofs.HexLaws.{word-none, word-some}
 use borrow.Author.Needs.{needs}
 use Rattle.text.proofs.writing.put_hex_word.Statement.{statement}

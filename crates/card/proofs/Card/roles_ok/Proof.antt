@@ -1,0 +1,16 @@
+use borrow.Author.Needs.{needs}
+use Rattle.card.proofs.Card.roles_ok.Statement.{statement}
+use Rattle.card.proofs.Card.roles_ok.Tie as tie
+
+profile-requires : tie.Need-profile-requires
+profile-requires c κs = search needs
+
+count-enabled-requires : tie.Need-count-enabled-requires
+count-enabled-requires c κs = search needs
+
+returns : tie.Need-returns
+returns c = let b = c .before .before in
+    rw (b .count-enabled .ensures, b .before .profile .ensures)
+
+pub roles-ok-spec : {M : Type 1} → statement M
+roles-ok-spec = tie.close (tie.spec profile-requires count-enabled-requires returns)

@@ -1,0 +1,40 @@
+use mathlib.Core.Path.{ap, sym, _∙_}
+use Rattle.isdp.specs.declared.Isdp.{Isdp}
+use borrow.Author.Tests.{eq-eqb, ne-eqb, not-true, not-false}
+use Rattle.places.specs.Places.{at}
+use Rattle.isdp.specs.LifeCycle.{enabled}
+use Rattle.card.specs.Clock.{lostOf}
+use borrow.Author.Needs.{needs}
+use Rattle.card.proofs.Card.without_network.Statement.{statement}
+use Rattle.card.proofs.Card.without_network.Tie as tie
+
+is-quiet-requires : tie.Need-is-quiet-requires
+is-quiet-requires c κs = search needs
+
+returns : tie.Need-returns
+unfolding lostOf
+returns c = rw (sym (c .before .is-quiet .ensures) ∙ not-true _ (c .if1 .taken))
+
+profile-requires : tie.Need-profile-requires
+profile-requires c κs = search needs
+
+returns-2 : tie.Need-returns-2
+unfolding lostOf
+returns-2 c = let e = c .before .before .before in
+    let card = e .before .before .args .self in
+    rw (sym (e .before .is-quiet .ensures) ∙ not-false _ (e .if1 .left), eq-eqb (at (card .places) (card .fallback) .life) enabled (ap (λ (p : Isdp). p .life) (sym (c .before .before .profile .ensures)) ∙ c .if2 .taken))
+
+fallen-requires : tie.Need-fallen-requires
+fallen-requires c κs = search needs
+
+returns-3 : tie.Need-returns-3
+unfolding lostOf
+returns-3 c = let d = c .before in
+    let e = d .before .before .before in
+    let card = e .before .before .args .self in
+    rw (sym (e .before .is-quiet .ensures) ∙ not-false _ (e .if1 .left), ne-eqb (at (card .places) (card .fallback) .life) enabled (λ z. d .if2 .left (ap (λ (p : Isdp). p .life) (d .before .before .profile .ensures) ∙ z))) (c .fallen .ensures)
+
+pub without-network-spec : {M : Type 1} → statement M
+without-network-spec =
+    tie.close
+    (tie.spec is-quiet-requires returns profile-requires returns-2 fallen-requires returns-3)
