@@ -1,13 +1,13 @@
 // The cells of the profile table: each as wide as its column, so that the rows stand under each other.
+use byte_string::put_byte;
+use byte_string::put_bytes;
 use isdp::Isdp;
-use text::put_byte;
-use text::put_bytes;
 use text::put_decimal;
 use text::put_hex_8;
 ghost use mathlib.Core.Path.{_≡_};
 ghost use Prim.Native.Nat.{_≤_};
 ghost use lib.ListN.{length};
-ghost use Rattle.text.specs.Put.{Wrote};
+ghost use Rattle.byte_string.specs.Put.{Wrote};
 ghost use Rattle.isdp.specs.Aids.{aidOf};
 ghost use Rattle.answers.specs.Explained.{spaces, leadOf, columnText, stateText, markText, policyText};
 

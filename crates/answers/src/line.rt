@@ -1,10 +1,10 @@
 // One line for each call, `SW RESPONSE NOTIFICATION TICKS`.
+use byte_string::put_byte;
+use byte_string::put_bytes;
 use card::Answer;
 use card::Kind;
 use card::Notification;
 use isdp::Aid;
-use text::put_byte;
-use text::put_bytes;
 use text::put_decimal;
 use text::put_hex;
 use text::put_hex_8;
@@ -13,7 +13,7 @@ use text::put_hex_word;
 ghost use mathlib.Core.Path.{_≡_};
 ghost use Prim.Native.Nat.{_+_, _*_, _≤_};
 ghost use lib.ListN.{length};
-ghost use Rattle.text.specs.Put.{Wrote};
+ghost use Rattle.byte_string.specs.Put.{Wrote};
 ghost use Rattle.answers.specs.Lines.{aidText, issuedWord, noticeWord, answerLine, mostLine};
 
 // An AID in hex, with its true length; a length over sixteen takes the whole array.

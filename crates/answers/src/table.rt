@@ -6,15 +6,15 @@ use crate::cells::put_policy;
 use crate::cells::put_spaces;
 use crate::cells::put_state;
 use crate::line::put_aid;
+use byte_string::put_byte;
+use byte_string::put_bytes;
 use card::Card;
 use isdp::Isdp;
 use places::PLACES;
-use text::put_byte;
-use text::put_bytes;
 ghost use mathlib.Core.Path.{_≡_};
 ghost use Prim.Native.Nat.{_-_, _*_, _≤_};
 ghost use lib.ListN.{length};
-ghost use Rattle.text.specs.Put.{Wrote};
+ghost use Rattle.byte_string.specs.Put.{Wrote};
 ghost use Rattle.answers.specs.Explained.{spaces, nameCells, figureCells, rowText, placeText, rowsText, widestOf, headText, tableText, mostTable};
 
 // The spaces after an AID of n bytes in a column for the widest.

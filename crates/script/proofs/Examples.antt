@@ -1,13 +1,17 @@
 -- Lines of each kind and of each fault, by computing.
+use Prim.Native.Nat.{_-_}
 use Prim.Native.String.{String}
 use mathlib.Core.Path.{_≡_, refl}
 use mathlib.Core.List.{List, [], _∷_, map}
 use lib.ListN.{replicate}
 use Rattle.choice.specs.Choice.{pick, atMost, isBelow, isSame}
-use Rattle.text.specs.Words.{before, leading, sameOf, wordsOn, wordsOf, wordFrom, wordAt, fieldAt}
+use Rattle.byte_string.specs.Bytes.{sameBytes}
+use Rattle.text.specs.Words.{before, leading, wordsOn, wordsOf, wordFrom, wordAt, fieldAt}
 use Rattle.text.specs.Numbers.{digitsOn, decimalOf}
 use Rattle.text.specs.Hex.{nibbleOf, pairsOf, isHex, byteOf, spelled, hexByteOf, hexReadOf}
 use Rattle.isdp.specs.Aids.{padded}
+use Rattle.isdp.specs.Sizes.{mostPlaces}
+use Rattle.isdp.specs.Profile.{profile}
 use Rattle.isdp.specs.Place.{vacant}
 use Rattle.card.specs.declared.Phase.the-variants.{Trial}
 use Rattle.script.specs.Ascii.{ascii}
@@ -54,7 +58,7 @@ examples =
     ∷ []
 
 says-so : map (λ (e : Example). orderOf (ascii (e .line))) examples ≡ map (λ (e : Example). e .says) examples
-unfolding orderOf orderBy verbOf counted freshWith freshAt commandAt keyedAt storedAt finishedAt bytesAt valueAt roomAt pick atMost isBelow isSame before leading sameOf wordsOn wordsOf wordFrom wordAt digitsOn decimalOf nibbleOf pairsOf isHex
+unfolding orderOf orderBy verbOf counted freshWith freshAt commandAt keyedAt storedAt finishedAt bytesAt valueAt roomAt pick atMost isBelow isSame before leading sameBytes wordsOn wordsOf wordFrom wordAt digitsOn decimalOf nibbleOf pairsOf isHex
 says-so = refl
 
 -- a line of 4,096 bytes at the most
@@ -73,14 +77,14 @@ faults =
     ∷ []
 
 reads-so : map (λ (e : Fault). recordAt (ascii (e .line)) 4 .reading) faults ≡ map (λ (e : Fault). e .reads) faults
-unfolding bytesAt valueAt roomAt numberField openFields trialFields phaseWord sizesFields placeWith placeWord phaseAt headAt placesOn recordWith recordAt pick atMost isBelow isSame before leading sameOf wordFrom wordAt fieldAt digitsOn decimalOf nibbleOf pairsOf isHex byteOf spelled hexByteOf hexReadOf padded
+unfolding bytesAt valueAt roomAt numberField openFields trialFields phaseWord sizesFields placeWith placeWord phaseAt headAt placesOn recordWith recordAt pick atMost isBelow isSame before leading sameBytes wordFrom wordAt fieldAt digitsOn decimalOf nibbleOf pairsOf isHex byteOf spelled hexByteOf hexReadOf padded
 reads-so = refl
 
 -- the record that a `card` line hands in
 handed-in : recordAt (ascii "card 89001012012341234012345678901224 1000 20 7 1 T:0:10:7 A000000001:1F:500:9:1 a000000002:3f:00400:0:255 - - - - - -") 4
     ≡ fine (0x89 ∷ 0x00 ∷ 0x10 ∷ 0x12 ∷ 0x01 ∷ 0x23 ∷ 0x41 ∷ 0x23 ∷ 0x40 ∷ 0x12 ∷ 0x34 ∷ 0x56 ∷ 0x78 ∷ 0x90 ∷ 0x12 ∷ 0x24 ∷ []) 1000 20 7 1 (Trial 0 10 7)
-    (record { aid = 0xA0 ∷ 0 ∷ 0 ∷ 0 ∷ 1 ∷ replicate 11 0; len = 5; life = 0x1F; quota = 500; used = 9; policy = 1 }
-    ∷ record { aid = 0xA0 ∷ 0 ∷ 0 ∷ 0 ∷ 2 ∷ replicate 11 0; len = 5; life = 0x3F; quota = 400; used = 0; policy = 255 }
-    ∷ replicate 6 vacant)
-unfolding bytesAt valueAt roomAt numberField openFields trialFields phaseWord sizesFields placeWith placeWord phaseAt headAt placesOn recordWith recordAt pick atMost isBelow isSame before leading sameOf wordFrom wordAt fieldAt digitsOn decimalOf nibbleOf pairsOf isHex byteOf spelled hexByteOf hexReadOf padded
+    (profile (record { bytes = 0xA0 ∷ 0 ∷ 0 ∷ 0 ∷ 1 ∷ replicate 11 0; len = 5 }) 0x1F 500 9 1
+    ∷ profile (record { bytes = 0xA0 ∷ 0 ∷ 0 ∷ 0 ∷ 2 ∷ replicate 11 0; len = 5 }) 0x3F 400 0 255
+    ∷ replicate (mostPlaces - 2) vacant)
+unfolding bytesAt valueAt roomAt numberField openFields trialFields phaseWord sizesFields placeWith placeWord phaseAt headAt placesOn recordWith recordAt pick atMost isBelow isSame before leading sameBytes wordFrom wordAt fieldAt digitsOn decimalOf nibbleOf pairsOf isHex byteOf spelled hexByteOf hexReadOf padded
 handed-in = refl

@@ -1,6 +1,6 @@
 -- Every order fits its line. Each word's reader is taken apart once (`by-bytes`, `by-value`), and each order is a chain of them;
 -- a reason fits any line.
-use Prim.Native.Nat.{ℕ, _-_, _≤_, _<_}
+use Prim.Native.Nat.{ℕ, _≤_, _<_}
 use mathlib.Core.Path.{_≡_, refl, sym, subst}
 use mathlib.Core.List.{List}
 use native.Mathlib.Omega.{arith}
@@ -13,7 +13,8 @@ use Rattle.text.specs.declared.words.Word.the-variants as word
 use Rattle.choice.proofs.Branches.{each, by-lt, by-eq}
 use Rattle.text.proofs.WordLists.{word-inside}
 use Rattle.lines.specs.Lines.{longest}
-use Rattle.tlv.specs.declared.Part.{Part}
+use Rattle.byte_string.specs.Bytes.{between}
+use Rattle.byte_string.specs.declared.Part.{Part}
 use Rattle.manager.specs.declared.Call.the-variants as call
 use Rattle.script.specs.Arguments.{most32, most8, onBytes, onValue, bytesAt, valueAt, roomAt}
 use Rattle.script.specs.Orders.{hash, verbOf, counted, inner, freshWith, freshAt, commandAt, keyedAt, storedAt, finishedAt, recordWords, orderBy, orderOf}
@@ -40,14 +41,14 @@ module _ (s : List ℕ) where
 module _ (s : List ℕ) (l : length s ≤ longest) where
   -- a reason, and an order whose words are read from left to right
   word-fits : (a e : ℕ) → (a < e) × (e ≤ length s) → (f : Part → ℕ → Order) → ((b : Part) (k : ℕ) → Fits s b → OrderFits s (f b k))
-      → OrderFits s (onBytes (pick (isHex (part s a e)) (bytes.Is (record { start = a; len = e - a }) e) (bytes.Wrong BadHex)) order.Wrong f)
+      → OrderFits s (onBytes (pick (isHex (part s a e)) (bytes.Is (between a e) e) (bytes.Wrong BadHex)) order.Wrong f)
   word-fits a e h f g =
       each (λ b. OrderFits s (onBytes b order.Wrong f)) (isHex (part s a e))
-      (λ t. g (record { start = a; len = e - a }) e (record { some = omega arith; inside = omega arith; short = omega arith; hex = t }))
+      (λ t. g (between a e) e (record { some = omega arith; inside = omega arith; short = omega arith; hex = t }))
       (λ t. tt)
 
   by-word : (w : Word) → ((a e : ℕ) → word.Span a e ≡ w → (a < e) × (e ≤ length s)) → (f : Part → ℕ → Order) → ((b : Part) (k : ℕ) → Fits s b → OrderFits s (f b k))
-      → OrderFits s (onBytes (onWord w (bytes.Wrong WordsMissing) λ a e. pick (isHex (part s a e)) (bytes.Is (record { start = a; len = e - a }) e) (bytes.Wrong BadHex)) order.Wrong f)
+      → OrderFits s (onBytes (onWord w (bytes.Wrong WordsMissing) λ a e. pick (isHex (part s a e)) (bytes.Is (between a e) e) (bytes.Wrong BadHex)) order.Wrong f)
   by-word word.End i f g = tt
   by-word (word.Span a e) i f g = word-fits a e (i a e refl) f g
 

@@ -10,7 +10,7 @@ use lib.ListN.{length, take, set}
 use lib.Seq.{take-suc-set, take-all}
 use Rattle.text.specs.Words.{part, wordAt}
 use Rattle.text.specs.declared.words.Word.the-variants.{Span, End}
-use Rattle.choice.proofs.Branches.{yes!, no!}
+use Rattle.choice.proofs.Branches.{yes!, no! }
 use Rattle.isdp.specs.Sizes.{mostPlaces}
 use Rattle.isdp.specs.declared.Isdp.{Isdp}
 use Rattle.script.specs.Colons.{placeWord}

@@ -1,12 +1,13 @@
 -- The words after the first: "hex in either case, `-` for an empty byte string", "numbers decimal up to 4,294,967,295, POLICY and
 -- VERDICT 0-255". A byte string stays in the line and is told by the part that spells it.
-use Prim.Native.Nat.{ℕ, _-_}
+use Prim.Native.Nat.{ℕ}
 use mathlib.Core.List.{List}
 use Rattle.choice.specs.Choice.{pick}
 use Rattle.text.specs.Words.{part, wordAt, onWord}
 use Rattle.text.specs.Numbers.{decimalOf}
 use Rattle.text.specs.Hex.{isHex}
-use Rattle.tlv.specs.declared.Part.{Part}
+use Rattle.byte_string.specs.Bytes.{between}
+use Rattle.byte_string.specs.declared.Part.{Part}
 use Rattle.text.specs.declared.numbers.Number.{Number}
 use Rattle.text.specs.declared.numbers.Number.the-variants as number
 use Rattle.script.specs.declared.arguments.Reason.{Reason}
@@ -42,7 +43,7 @@ onValue (value.Is n next) g f = f n next
 unfoldable pub bytesAt : List ℕ → ℕ → Bytes
 bytesAt s at =
     onWord (wordAt s at) (bytes.Wrong WordsMissing) λ a e.
-    pick (isHex (part s a e)) (bytes.Is (record { start = a; len = e - a }) e) (bytes.Wrong BadHex)
+    pick (isHex (part s a e)) (bytes.Is (between a e) e) (bytes.Wrong BadHex)
 
 -- the next word is a number, and this is the place after it
 unfoldable pub valueAt : ℕ → List ℕ → ℕ → Value

@@ -5,7 +5,8 @@ use mathlib.Core.List.{List}
 use mathlib.Core.Bool.{true, false}
 use lib.ListN.{length}
 use Rattle.choice.specs.Choice.{pick, atMost}
-use Rattle.text.specs.Words.{sameOf, part, fieldAt, onWord}
+use Rattle.byte_string.specs.Bytes.{sameBytes}
+use Rattle.text.specs.Words.{part, fieldAt, onWord}
 use Rattle.text.specs.Numbers.{decimalOf}
 use Rattle.text.specs.Hex.{hexByteOf, hexReadOf, spelled}
 use Rattle.text.specs.declared.hex.Byte.{Byte}
@@ -14,7 +15,9 @@ use Rattle.text.specs.declared.hex.HexRead.{HexRead}
 use Rattle.text.specs.declared.hex.HexRead.the-variants as hexread
 use Rattle.isdp.specs.Sizes.{mostAid}
 use Rattle.isdp.specs.Aids.{padded}
+use Rattle.isdp.specs.Profile.{profile}
 use Rattle.isdp.specs.Place.{vacant}
+use Rattle.isdp.specs.declared.Aid.{Aid}
 use Rattle.card.specs.declared.Phase.the-variants.{Quiet, Trial, Back, Fallen}
 use Rattle.script.specs.Ascii.{ascii}
 use Rattle.script.specs.Arguments.{most32, most16, most8, onNumber}
@@ -76,12 +79,12 @@ trialFields w at =
 -- PHASE
 unfoldable pub phaseWord : List ℕ → Phased
 phaseWord w =
-    pick (sameOf w (ascii "Q")) (phased.Is Quiet)
+    pick (sameBytes w (ascii "Q")) (phased.Is Quiet)
     (onWord (fieldAt colon w 0) phased.Wrong λ a e.
-    pick (sameOf (part w a e) (ascii "T")) (trialFields w (e + 1))
+    pick (sameBytes (part w a e) (ascii "T")) (trialFields w (e + 1))
     (onOpen (openFields w (e + 1)) phased.Wrong λ left number.
-    pick (sameOf (part w a e) (ascii "B")) (phased.Is (Back left number))
-    (pick (sameOf (part w a e) (ascii "F")) (phased.Is (Fallen left number)) phased.Wrong)))
+    pick (sameBytes (part w a e) (ascii "B")) (phased.Is (Back left number))
+    (pick (sameBytes (part w a e) (ascii "F")) (phased.Is (Fallen left number)) phased.Wrong)))
 
 -- QUOTA:USED:POLICY
 unfoldable pub sizesFields : List ℕ → ℕ → Sizes
@@ -95,16 +98,16 @@ abbrev pub noPlace : Placed
 noPlace = record { ok = false; place = vacant }
 
 -- STATE:QUOTA:USED:POLICY
-unfoldable pub placeWith : List ℕ → ℕ → List ℕ → ℕ → Placed
-placeWith w at aid len =
+unfoldable pub placeWith : List ℕ → ℕ → Aid → Placed
+placeWith w at aid =
     onWord (fieldAt colon w at) noPlace λ a e.
     onByte (hexByteOf (part w a e)) noPlace λ life.
     onSizes (sizesFields w (e + 1)) noPlace λ quota used policy.
-    record { ok = true; place = record { aid = aid; len = len; life = life; quota = quota; used = used; policy = policy } }
+    record { ok = true; place = profile aid life quota used policy }
 
 -- PLACE
 unfoldable pub placeWord : List ℕ → Placed
 placeWord w =
-    pick (sameOf w (ascii "-")) (record { ok = true; place = vacant })
+    pick (sameBytes w (ascii "-")) (record { ok = true; place = vacant })
     (onWord (fieldAt colon w 0) noPlace λ a e.
-    onRead (hexReadOf (part w a e) mostAid) noPlace λ n. placeWith w (e + 1) (padded (spelled (part w a e))) n)
+    onRead (hexReadOf (part w a e) mostAid) noPlace λ n. placeWith w (e + 1) (record { bytes = padded (spelled (part w a e)); len = n }))

@@ -7,8 +7,8 @@ use mathlib.Core.Bool.{true}
 use lib.ListN.{length}
 use Rattle.text.specs.Hex.{isHex}
 use Rattle.lines.specs.Lines.{longest}
-use Rattle.tlv.specs.declared.Part.{Part}
-use Rattle.manager.specs.Calls.{partOf}
+use Rattle.byte_string.specs.declared.Part.{Part}
+use Rattle.byte_string.specs.Bytes.{partOf}
 use Rattle.manager.specs.declared.Call.{Call}
 use Rattle.manager.specs.declared.Call.the-variants as call
 use Rattle.script.specs.Orders.{orderOf}

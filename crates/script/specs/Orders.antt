@@ -4,10 +4,11 @@ use Prim.Native.Nat.{ℕ, _+_}
 use mathlib.Core.List.{List}
 use lib.ListN.{length, getD}
 use Rattle.choice.specs.Choice.{pick, isBelow, isSame}
-use Rattle.text.specs.Words.{sameOf, part, wordsOf, wordAt, onWord}
+use Rattle.byte_string.specs.Bytes.{sameBytes}
+use Rattle.text.specs.Words.{part, wordsOf, wordAt, onWord}
 use Rattle.lines.specs.Lines.{longest}
 use Rattle.isdp.specs.Sizes.{mostPlaces}
-use Rattle.tlv.specs.declared.Part.{Part}
+use Rattle.byte_string.specs.declared.Part.{Part}
 use Rattle.manager.specs.declared.Call.{Call}
 use Rattle.manager.specs.declared.Call.the-variants as call
 use Rattle.script.specs.Ascii.{ascii}
@@ -24,14 +25,14 @@ hash = 35
 
 unfoldable pub verbOf : List ℕ → Verb
 verbOf w =
-    pick (sameOf w (ascii "fresh")) verb.Fresh
-    (pick (sameOf w (ascii "command")) verb.Command
-    (pick (sameOf w (ascii "keyed")) verb.Keyed
-    (pick (sameOf w (ascii "stored")) verb.Stored
-    (pick (sameOf w (ascii "finished")) verb.Finished
-    (pick (sameOf w (ascii "tick")) verb.Tick
-    (pick (sameOf w (ascii "lost")) verb.Lost
-    (pick (sameOf w (ascii "card")) verb.Card verb.Unknown)))))))
+    pick (sameBytes w (ascii "fresh")) verb.Fresh
+    (pick (sameBytes w (ascii "command")) verb.Command
+    (pick (sameBytes w (ascii "keyed")) verb.Keyed
+    (pick (sameBytes w (ascii "stored")) verb.Stored
+    (pick (sameBytes w (ascii "finished")) verb.Finished
+    (pick (sameBytes w (ascii "tick")) verb.Tick
+    (pick (sameBytes w (ascii "lost")) verb.Lost
+    (pick (sameBytes w (ascii "card")) verb.Card verb.Unknown)))))))
 
 -- the order of a line of n words, where it should have from `least` to `most`
 unfoldable pub counted : ℕ → ℕ → ℕ → Order → Order

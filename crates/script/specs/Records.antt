@@ -9,6 +9,7 @@ use Rattle.text.specs.Hex.{hexReadOf, spelled}
 use Rattle.isdp.specs.Sizes.{mostPlaces, eidSize}
 use Rattle.isdp.specs.Place.{vacant}
 use Rattle.isdp.specs.declared.Isdp.{Isdp}
+use Rattle.card.specs.Cards.{cardWith}
 use Rattle.card.specs.Fresh.{zeroCard}
 use Rattle.card.specs.declared.Phase.{Phase}
 use Rattle.script.specs.Arguments.{most32, most16, most8, onValue, valueAt}
@@ -74,16 +75,7 @@ abbrev pub fine : List ℕ → ℕ → ℕ → ℕ → ℕ → Phase → List Is
 fine eid capacity volatile last fallback phase places =
     record {
       reading = reading.Fine;
-      card =
-          record {
-            eid = eid;
-            capacity = capacity;
-            volatile = volatile;
-            last = last;
-            fallback = fallback;
-            phase = phase;
-            places = places;
-          };
+      card = cardWith eid capacity volatile last fallback phase places;
     }
 
 -- what stands after the EID

@@ -1,10 +1,10 @@
 // The next word of a line, as a byte string or as a number.
+use byte_string::Part;
 use text::Number;
 use text::Word;
 use text::decimal;
 use text::is_hex;
 use text::next_word;
-use tlv::Part;
 ghost use mathlib.Core.Path.{_≡_};
 ghost use Rattle.script.specs.Arguments.{bytesAt, valueAt, roomAt};
 

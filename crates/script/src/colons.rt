@@ -1,6 +1,8 @@
 // The words of a `card` line that are parted by `:`, the phase and the places.
 use crate::arguments::MOST;
+use byte_string::same;
 use card::Phase;
+use isdp::Aid;
 use isdp::Isdp;
 use text::Byte;
 use text::HexRead;
@@ -10,7 +12,6 @@ use text::decimal;
 use text::hex_byte;
 use text::next_field;
 use text::read_hex;
-use text::same;
 ghost use mathlib.Core.Path.{_≡_};
 ghost use Rattle.script.specs.Colons.{numberField, openFields, trialFields, phaseWord, sizesFields, placeWith, placeWord, noPlace};
 
@@ -72,7 +73,7 @@ fn trial_at(w: &[u8], at: usize) -> Phased
         return Phased::Wrong;
     };
     Phased::Is(Phase::Trial {
-        previous: n as usize,
+        previous: n as u8,
         left,
         number,
     })
@@ -144,8 +145,8 @@ fn no_place() -> Placed
 }
 
 // STATE:QUOTA:USED:POLICY, after the AID.
-fn place_with(w: &[u8], at: usize, aid: [u8; 16], len: usize) -> Placed
-    ensures { λ r. ⌜ r ≡ placeWith (now (w .entry)) at aid len ⌝ }
+fn place_with(w: &[u8], at: usize, aid: Aid) -> Placed
+    ensures { λ r. ⌜ r ≡ placeWith (now (w .entry)) at aid ⌝ }
 {
     let Word::Span { from, to } = next_field(w, at, b':') else {
         return no_place();
@@ -162,12 +163,11 @@ fn place_with(w: &[u8], at: usize, aid: [u8; 16], len: usize) -> Placed
         return no_place();
     };
     let place = Isdp {
-        aid,
-        len,
-        life,
         quota,
         used,
+        life,
         policy,
+        aid,
     };
     Placed { ok: true, place }
 }
@@ -182,9 +182,12 @@ pub fn read_place(w: &[u8]) -> Placed
     let Word::Span { from, to } = next_field(w, 0, b':') else {
         return no_place();
     };
-    let mut aid = [0u8; 16];
-    match read_hex(&w[from..to], &mut aid) {
-        HexRead::Bytes(n) => place_with(w, to + 1, aid, n),
+    let mut bytes = [0u8; 16];
+    match read_hex(&w[from..to], &mut bytes) {
+        HexRead::Bytes(n) => {
+            let len = n as u8;
+            place_with(w, to + 1, Aid { bytes, len })
+        }
         HexRead::NoRoom => no_place(),
         HexRead::Wrong => no_place(),
     }

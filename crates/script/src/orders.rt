@@ -6,14 +6,14 @@ use crate::arguments::Value;
 use crate::arguments::next_bytes;
 use crate::arguments::next_room;
 use crate::arguments::next_value;
+use byte_string::Part;
+use byte_string::same;
 use card::Card;
 use lines::LONGEST;
 use manager::Call;
 use text::Word;
 use text::count_words;
 use text::next_word;
-use text::same;
-use tlv::Part;
 ghost use mathlib.Core.Path.{_≡_};
 ghost use Rattle.script.specs.Orders.{verbOf, counted, inner, freshWith, freshAt, commandAt, keyedAt, storedAt, finishedAt, orderBy, orderOf};
 

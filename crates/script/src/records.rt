@@ -42,7 +42,7 @@ pub enum Head {
         capacity: u32,
         volatile: u32,
         last: u16,
-        fallback: usize,
+        fallback: u8,
         phase: Phase,
         next: usize,
     },
@@ -75,7 +75,7 @@ fn head_at(s: &[u8], at: usize) -> Head
                             capacity,
                             volatile,
                             last: last as u16,
-                            fallback: fallback as usize,
+                            fallback: fallback as u8,
                             phase,
                             next,
                         },
@@ -169,15 +169,7 @@ fn record_with(s: &[u8], at: usize, eid: [u8; 16]) -> Record
                 Reading::Wrong(why) => no_record(why),
                 Reading::Fine => {
                     let places = held.places;
-                    let card = Card {
-                        eid,
-                        capacity,
-                        volatile,
-                        last,
-                        fallback,
-                        phase,
-                        places,
-                    };
+                    let card = Card::with(eid, capacity, volatile, last, fallback, phase, places);
                     Record {
                         reading: Reading::Fine,
                         card,

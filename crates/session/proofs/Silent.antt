@@ -9,8 +9,8 @@ use Rattle.status.specs.StatusWords.{isDone}
 use Rattle.status.specs.Rows.{row, wordOf}
 use Rattle.status.specs.declared.Status.{Status}
 use Rattle.status.specs.declared.Status.the-variants.{DataWrong}
-use Rattle.text.specs.Put.{put, Wrote}
-use Rattle.text.proofs.PutLaws.{put-none}
+use Rattle.byte_string.specs.Put.{put, Wrote}
+use Rattle.byte_string.proofs.PutLaws.{put-none}
 use Rattle.isdp.specs.Aids.{noAid}
 use Rattle.card.specs.Steps.{stepTo}
 use Rattle.card.specs.Answers.{Outcome, accepted, refused, settle, handed, soundRow}

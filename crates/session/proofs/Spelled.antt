@@ -8,14 +8,15 @@ use native.Mathlib.Omega.{arith}
 use lib.ListN.{length, take, drop, take-append-drop}
 use lib.Seq.{take-append-seam, take-append-le, drop-append-le, length-take-le}
 use Rattle.choice.proofs.Branches.{by-lt}
-use Rattle.text.specs.Put.{put, Wrote}
+use Rattle.byte_string.specs.Put.{put, Wrote}
 use Rattle.text.specs.Hex.{spelled, spelledIn}
-use Rattle.text.proofs.PutLaws.{put-front, length-put, wrote-as}
+use Rattle.byte_string.proofs.PutLaws.{put-front, length-put, wrote-as}
 use Rattle.card.specs.Answers.{Outcome, handed}
 use Rattle.card.specs.declared.Card.{Card}
 use Rattle.card.specs.declared.Answer.{Answer}
-use Rattle.tlv.specs.declared.Part.{Part}
-use Rattle.manager.specs.Calls.{partOf, callOf}
+use Rattle.byte_string.specs.declared.Part.{Part}
+use Rattle.byte_string.specs.Bytes.{partOf}
+use Rattle.manager.specs.Calls.{callOf}
 use Rattle.manager.specs.Manager.{Served}
 use Rattle.manager.specs.declared.Call as declared
 use Rattle.answers.specs.Explained.{mostExplained}

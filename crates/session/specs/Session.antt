@@ -6,7 +6,7 @@ use mathlib.Core.List.{List, [], _∷_, _++_}
 use mathlib.Core.Bool.{Bool, true, false, cond, _&&_}
 use lib.ListN.{length}
 use Rattle.text.specs.Hex.{spelledIn}
-use Rattle.text.specs.Put.{put, Wrote}
+use Rattle.byte_string.specs.Put.{put, Wrote}
 use Rattle.status.specs.StatusWords.{isDone}
 use Rattle.isdp.specs.Aids.{noAid}
 use Rattle.card.specs.Steps.{stepTo}
@@ -14,8 +14,9 @@ use Rattle.card.specs.Answers.{Outcome, handed, outcome}
 use Rattle.card.specs.Fresh.{zeroCard, freshOutcome}
 use Rattle.card.specs.declared.Card.{Card}
 use Rattle.card.specs.declared.Answer.{Answer}
-use Rattle.tlv.specs.declared.Part.{Part}
-use Rattle.manager.specs.Calls.{Call, partOf, callOf}
+use Rattle.byte_string.specs.declared.Part.{Part}
+use Rattle.byte_string.specs.Bytes.{partOf}
+use Rattle.manager.specs.Calls.{Call, callOf}
 use Rattle.manager.specs.Manager.{step, onSound}
 use Rattle.manager.specs.declared.Call as declared
 use Rattle.manager.specs.declared.Call.the-variants as code

@@ -1,11 +1,11 @@
 // A line of the script that cannot be read: `line N: ..`, and what is wrong with it.
+use byte_string::put_byte;
+use byte_string::put_bytes;
 use script::Reason;
-use text::put_byte;
-use text::put_bytes;
 use text::put_decimal;
 ghost use Prim.Native.Nat.{_≤_};
 ghost use lib.ListN.{length};
-ghost use Rattle.text.specs.Put.{Wrote};
+ghost use Rattle.byte_string.specs.Put.{Wrote};
 ghost use Rattle.session.specs.Reasons.{reasonText, reasonLine, mostFault};
 
 fn put_reason(reason: Reason, buf: &mut [u8], at: usize) -> usize

@@ -4,7 +4,7 @@ use Prim.Native.Nat.{ℕ, _+_, _≤_}
 use native.Mathlib.Omega.{arith}
 use mathlib.Core.List.{List}
 use lib.ListN.{length}
-use Rattle.text.proofs.PutLaws.{after-fits}
+use Rattle.byte_string.proofs.PutLaws.{after-fits}
 use Rattle.session.specs.Session.{Reply, mostText, Replied}
 use Rattle.session.specs.declared.Turn.{Turn}
 

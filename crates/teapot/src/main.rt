@@ -2,6 +2,7 @@
 // and written out before the program waits for more. Its words are taken from left to right: `explain`, what follows is written for a
 // person; `ask`, every call asks whether the card is sound; `-`, standard input is run; any other names a script's file, which is run.
 // What a line means and what is written of it is proved below, in `session`; here only bytes are moved.
+use byte_string::same;
 use input::Arrival;
 use input::fill;
 use libc::STDIN_FILENO;
@@ -14,7 +15,6 @@ use session::MOST;
 use session::ROOM;
 use session::Turn;
 use session::take_line;
-use text::same;
 ghost use mathlib.Core.Path.{_≡_};
 ghost use Prim.Native.Nat.{_+_, _≤_, _<_};
 ghost use lib.ListN.{length};

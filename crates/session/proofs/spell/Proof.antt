@@ -3,9 +3,9 @@ use mathlib.Core.Path.{_≡_, ap, _∙_}
 use Prim.Native.Nat.{ℕ}
 use mathlib.Core.List.{List}
 use lib.ListN.{length}
-use Rattle.text.specs.Put.{put}
+use Rattle.byte_string.specs.Put.{put}
 use Rattle.text.specs.Hex.{spelledIn}
-use Rattle.manager.specs.Calls.{partOf}
+use Rattle.byte_string.specs.Bytes.{partOf}
 use Rattle.session.specs.Session.{mostBytes}
 use borrow.Author.Needs.{needs}
 use Rattle.session.proofs.spell.Statement.{statement}

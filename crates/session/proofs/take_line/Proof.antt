@@ -2,7 +2,7 @@
 use mathlib.Core.Path.{refl, ap, sym, _∙_}
 use native.Mathlib.Omega.{arith}
 use denote.Ref.{now}
-use Rattle.text.proofs.PutLaws.{wrote-none}
+use Rattle.byte_string.proofs.PutLaws.{wrote-none}
 use Rattle.script.proofs.Fits.{orders-fit}
 use Rattle.script.specs.Records.{recordAt}
 use Rattle.session.specs.declared.Turn.{Turn}

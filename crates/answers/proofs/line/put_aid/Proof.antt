@@ -4,7 +4,7 @@ use native.Mathlib.Omega.{arith}
 use lib.ListN.{length}
 use lib.Seq.{length-take-le, take-all}
 use Rattle.text.specs.Hex.{hexText}
-use Rattle.text.proofs.PutLaws.{wrote-as}
+use Rattle.byte_string.proofs.PutLaws.{wrote-as}
 use borrow.Author.Needs.{needs}
 use Rattle.answers.proofs.line.put_aid.Statement.{statement}
 use Rattle.answers.proofs.line.put_aid.Tie as tie

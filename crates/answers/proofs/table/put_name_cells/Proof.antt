@@ -1,5 +1,5 @@
 -- `table::put_name_cells`: the cells one after the other.
-use Rattle.text.proofs.PutLaws.{wrote-then, wrote-as}
+use Rattle.byte_string.proofs.PutLaws.{wrote-then, wrote-as}
 use mathlib.Core.Path.{ap}
 use Prim.Native.Nat.{ℕ, _-_, _*_}
 use Rattle.answers.specs.Lines.{aidText}

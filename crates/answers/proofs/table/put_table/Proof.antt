@@ -1,5 +1,5 @@
 -- `table::put_table`: the head, then the rows; a card of the code has a row for each of its places.
-use Rattle.text.proofs.PutLaws.{wrote-then, wrote-as}
+use Rattle.byte_string.proofs.PutLaws.{wrote-then, wrote-as}
 use mathlib.Core.Path.{_≡_, ap}
 use Prim.Native.Nat.{ℕ, _≤_}
 use native.Mathlib.Omega.{arith}

@@ -1,7 +1,7 @@
 -- `arguments::next_bytes` meets its contract: each exit names the word and whether it is a byte string; the word lies inside the line.
 use mathlib.Core.Path.{refl, sym, _∙_}
 use Rattle.text.proofs.WordLists.{word-inside}
-use Rattle.choice.proofs.Branches.{yes!, no!}
+use Rattle.choice.proofs.Branches.{yes!, no! }
 use Rattle.script.specs.Arguments.{bytesAt}
 use borrow.Author.Needs.{needs}
 use Rattle.script.proofs.arguments.next_bytes.Statement.{statement}

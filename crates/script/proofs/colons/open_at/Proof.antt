@@ -1,7 +1,7 @@
 -- `colons::open_at` meets its contract: the two numbers in turn, and the place after them. Both casts fit, by `number-within`.
 use mathlib.Core.Path.{refl, sym, _∙_}
 use native.Mathlib.Omega.{arith}
-use Rattle.choice.proofs.Branches.{le!, nle!}
+use Rattle.choice.proofs.Branches.{le!, nle! }
 use Rattle.script.proofs.Within.{number-within}
 use Rattle.script.specs.Colons.{openFields}
 use borrow.Author.Needs.{needs}

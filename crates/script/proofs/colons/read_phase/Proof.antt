@@ -1,7 +1,7 @@
 -- `colons::read_phase` meets its contract: each exit names the letter that it found.
 use mathlib.Core.Path.{refl, sym, _∙_}
 use Rattle.text.proofs.WordLists.{field-inside}
-use Rattle.choice.proofs.Branches.{yes!, no!}
+use Rattle.choice.proofs.Branches.{yes!, no! }
 use Rattle.script.specs.Colons.{phaseWord}
 use borrow.Author.Needs.{needs}
 use Rattle.script.proofs.colons.read_phase.Statement.{statement}

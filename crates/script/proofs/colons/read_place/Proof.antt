@@ -1,9 +1,9 @@
 -- `colons::read_place` meets its contract: what `read_hex` leaves in sixteen zeros is the AID with zeros after it, by `aid-read`.
 use mathlib.Core.Path.{refl, sym, _∙_}
 use Rattle.text.proofs.WordLists.{field-inside}
-use Rattle.choice.proofs.Branches.{yes!, no!}
+use Rattle.choice.proofs.Branches.{yes!, no! }
 use Rattle.script.specs.Colons.{placeWord}
-use Rattle.script.proofs.Names.{aid-read, place-as}
+use Rattle.script.proofs.Names.{hex-taken, aid-read, place-as}
 use borrow.Author.Needs.{needs}
 use Rattle.script.proofs.colons.read_place.Statement.{statement}
 use Rattle.script.proofs.colons.read_place.Tie as tie
@@ -55,6 +55,9 @@ read-hex-requires c κs = search needs
 enum-known-n : tie.Need-enum-known-n
 enum-known-n c = search needs
 
+cast-len : tie.Need-cast-len
+cast-len c = let h = hex-taken _ _ _ (sym (c .before .n .given .1) ∙ c .before .before .before .before .read-hex .ensures .0) .1 .0 in search needs
+
 add-place-with : tie.Need-add-place-with
 add-place-with c = let i = field-inside _ _ _ _ _ (sym (c .before .before .before .before .before .before .before .before .from .given .1) ∙ c .before .before .before .before .before .before .before .before .before .before .next-field .ensures) in search needs
 
@@ -104,6 +107,7 @@ read-place-spec =
     slice-aggregate-read-hex
     read-hex-requires
     enum-known-n
+    cast-len
     add-place-with
     place-with-requires
     enum-told-2

@@ -1,7 +1,7 @@
 -- `colons::sizes_at` meets its contract: the three numbers in turn, and the place after them. The cast fits, by `number-within`.
 use mathlib.Core.Path.{refl, sym, _∙_}
 use native.Mathlib.Omega.{arith}
-use Rattle.choice.proofs.Branches.{le!, nle!}
+use Rattle.choice.proofs.Branches.{le!, nle! }
 use Rattle.script.proofs.Within.{number-within}
 use Rattle.script.specs.Colons.{sizesFields}
 use borrow.Author.Needs.{needs}

@@ -1,6 +1,7 @@
--- `colons::trial_at` meets its contract: the first number, and `open_at` after it.
+-- `colons::trial_at` meets its contract: the first number, and `open_at` after it. The cast fits, by `number-within`.
 use mathlib.Core.Path.{refl, sym, _∙_}
 use Rattle.script.specs.Colons.{trialFields}
+use Rattle.script.proofs.Within.{number-within}
 use borrow.Author.Needs.{needs}
 use Rattle.script.proofs.colons.trial_at.Statement.{statement}
 use Rattle.script.proofs.colons.trial_at.Tie as tie
@@ -32,7 +33,7 @@ unfolding trialFields
 returns-2 c = rw (← (sym (c .before .before .before .before .n .given .1) ∙ c .before .before .before .before .before .before .next-number .ensures)) (rw (← (sym (c .enum-told2 .given .1) ∙ c .before .before .open-at .ensures)) refl)
 
 cast-t9 : tie.Need-cast-t9
-cast-t9 c = search needs
+cast-t9 c = let h = number-within _ _ _ _ _ (sym (c .before .before .before .before .before .n .given .1) ∙ c .before .before .before .before .before .before .before .next-number .ensures) in search needs
 
 returns-3 : tie.Need-returns-3
 unfolding trialFields

@@ -1,7 +1,7 @@
 -- `orders::counted` meets its contract: each exit names its tests.
 use mathlib.Core.Path.{refl}
 use native.Mathlib.Omega.{arith}
-use Rattle.choice.proofs.Branches.{lt!, nlt!}
+use Rattle.choice.proofs.Branches.{lt!, nlt! }
 use Rattle.script.specs.Orders.{counted}
 use Rattle.script.proofs.orders.counted.Statement.{statement}
 use Rattle.script.proofs.orders.counted.Tie as tie

@@ -2,7 +2,7 @@
 use mathlib.Core.Path.{refl, sym, _∙_}
 use native.Mathlib.Omega.{arith}
 use Rattle.text.proofs.WordLists.{word-inside}
-use Rattle.choice.proofs.Branches.{lt!, nlt!, eq!, ne!}
+use Rattle.choice.proofs.Branches.{lt!, nlt!, eq!, ne! }
 use Rattle.script.specs.Orders.{orderOf}
 use borrow.Author.Needs.{needs}
 use Rattle.script.proofs.orders.read_line.Statement.{statement}

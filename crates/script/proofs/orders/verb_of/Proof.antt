@@ -1,6 +1,6 @@
 -- `orders::verb_of` meets its contract: each exit names the words that it is not, and the one that it is.
 use mathlib.Core.Path.{refl, sym, _∙_}
-use Rattle.choice.proofs.Branches.{yes!, no!}
+use Rattle.choice.proofs.Branches.{yes!, no! }
 use Rattle.script.specs.Orders.{verbOf}
 use borrow.Author.Needs.{needs}
 use Rattle.script.proofs.orders.verb_of.Statement.{statement}

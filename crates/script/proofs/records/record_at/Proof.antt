@@ -1,7 +1,7 @@
 -- `records::record_at` meets its contract: what `read_hex` leaves in sixteen zeros is the EID where it has sixteen bytes, by `eid-read`.
 use mathlib.Core.Path.{sym, _∙_}
 use Rattle.text.proofs.WordLists.{word-inside}
-use Rattle.choice.proofs.Branches.{eq!, ne!}
+use Rattle.choice.proofs.Branches.{eq!, ne! }
 use Rattle.script.proofs.Names.{record-as, eid-read}
 use Rattle.script.specs.Records.{recordAt}
 use borrow.Author.Needs.{needs}

@@ -1,5 +1,5 @@
 -- `reasons::write_reason`: the parts one after the other are the line.
-use Rattle.text.proofs.PutLaws.{wrote-then}
+use Rattle.byte_string.proofs.PutLaws.{wrote-then}
 use Rattle.session.specs.Reasons.{reasonLine}
 use Rattle.session.proofs.FaultLengths.{fault-length}
 use borrow.Author.Needs.{needs}
