@@ -184,7 +184,7 @@ figure-length p place holder =
 place-length : (p : Isdp) (place holder widest : ℕ) → length (aidOf p) ≤ widest → widest ≤ 16 → length (placeText p place holder widest) ≤ mostRow
 unfolding placeText rowText
 place-length p place holder widest h k =
-    by-eq (λ (l : List ℕ). length l ≤ mostRow) (p .len) 0 (λ e. omega arith)
+    by-eq (λ (l : List ℕ). length l ≤ mostRow) (p .aid .len) 0 (λ e. omega arith)
     (λ e. simp length-append (omega (arith, name-length p place widest h k, figure-length p place holder)))
 
 rows-length : (holder widest place : ℕ) (l : List Isdp) → widestOf l ≤ widest → widest ≤ 16 → length (rowsText holder widest place l) ≤ length l * mostRow

@@ -135,7 +135,7 @@ rowText p place holder widest = nameCells p place widest ++ figureCells p place 
 
 -- a place that is not held has no row
 unfoldable pub placeText : Isdp → ℕ → ℕ → ℕ → List ℕ
-placeText p place holder widest = pick (isSame (p .len) 0) [] (rowText p place holder widest)
+placeText p place holder widest = pick (isSame (p .aid .len) 0) [] (rowText p place holder widest)
 
 -- a row has 176 bytes at the most, where a number has 64 bits
 abbrev pub mostRow : ℕ

@@ -2,10 +2,10 @@
 -- a success without response that changed the profile and has 20 ticks still to come.
 use Prim.Native.Nat.{ℕ, _/_, _%_}
 use mathlib.Core.List.{List, [], _∷_, _++_}
-use lib.ListN.{take}
 use Rattle.text.specs.Hex.{hexText, hexWord}
 use Rattle.text.specs.Numbers.{decimalText}
 use Rattle.status.specs.StatusWords.{numberOf}
+use Rattle.isdp.specs.Aids.{bytesOf}
 use Rattle.isdp.specs.declared.Aid.{Aid}
 use Rattle.card.specs.Notifications.{codeOf}
 use Rattle.card.specs.declared.Answer.{Answer}
@@ -23,7 +23,7 @@ hex16 n = hexText (n / 256 ∷ n % 256 ∷ [])
 
 -- an AID, with its true length
 abbrev pub aidText : Aid → List ℕ
-aidText a = hexText (take (a .len) (a .bytes))
+aidText a = hexText (bytesOf a)
 
 -- KIND:NUMBER:AID
 unfoldable pub issuedWord : Notification → List ℕ

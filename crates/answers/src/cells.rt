@@ -108,9 +108,6 @@ pub fn put_policy(policy: u8, buf: &mut [u8], at: usize) -> usize
 pub fn aid_size(p: Isdp) -> u8
     ensures { λ r. ⌜ (r ≡ length (aidOf p)) × (r ≤ 16) ⌝ }
 {
-    let n = p.len;
-    if n > 16 {
-        return 16;
-    }
-    n as u8
+    let aid = p.aid;
+    aid.size() as u8
 }

@@ -122,7 +122,7 @@ fn put_open(left: u8, number: u16, buf: &mut [u8], at: usize) -> usize
     put_byte(buf, d, b'\n')
 }
 
-fn put_trial(previous: usize, left: u8, number: u16, buf: &mut [u8], at: usize) -> usize
+fn put_trial(previous: u8, left: u8, number: u16, buf: &mut [u8], at: usize) -> usize
     ensures { λ r. ⌜ Wrote (now (buf .entry)) at (trialText previous left number) r (now (buf .exit)) ⌝ }
 {
     let a = put_bytes(buf, at, b"phase trial: previous at place ");

@@ -21,7 +21,7 @@ pub fn put_aid(aid: Aid, buf: &mut [u8], at: usize) -> usize
     ensures { λ r. ⌜ Wrote (now (buf .entry)) at (aidText aid) r (now (buf .exit)) ⌝ }
 {
     let bytes = aid.bytes;
-    let n = aid.len;
+    let n = aid.len as usize;
     if n > 16 {
         return put_hex(buf, at, &bytes);
     }

@@ -6,10 +6,8 @@ use mathlib.Core.List.{List, [], _∷_, _++_}
 use mathlib.Core.Bool.{Bool, true, false, not, cond, _&&_, false≢true}
 use Rattle.status.specs.StatusWords.{isDone}
 use Rattle.status.specs.Rows.{wordOf}
-use Rattle.isdp.specs.Aids.{noAid}
 use Rattle.isdp.proofs.Bools.{and-r}
 use Rattle.card.specs.Sound.{sound}
-use Rattle.card.specs.Steps.{stepTo}
 use Rattle.card.specs.Fresh.{zeroCard}
 use Rattle.card.specs.declared.Card.{Card}
 use Rattle.card.proofs.Outcomes.{checked, stopped}
@@ -23,7 +21,7 @@ use Rattle.script.specs.declared.orders.Order.{Order}
 use Rattle.script.specs.declared.orders.Order.the-variants as order
 use Rattle.script.specs.declared.records.Reading.{Reading}
 use Rattle.script.specs.declared.records.Reading.the-variants as reading
-use Rattle.session.specs.Session.{bytesOf, partIn, callIn, recordOutcome, replyOf, firstReply, faultReply, answerTo, Reply, replyBy, lineOf, askedLine, scriptOf, askedScript, AskedOnce}
+use Rattle.session.specs.Session.{bytesOf, partIn, callIn, recordWork, recordOutcome, replyOf, firstReply, faultReply, answerTo, Reply, replyBy, lineOf, askedLine, scriptOf, askedScript, AskedOnce}
 
 -- the flag is right: where it says that the card is sound, it is
 abbrev Right : Card → Bool → Type 0
@@ -36,8 +34,8 @@ answers-agree c false call h = refl
 -- the calls that hand in a card
 record-flag : (c : Card) (found : Bool) → sound c ≡ found → Right (recordOutcome c .card) (isDone (recordOutcome c .status))
 unfolding wordOf
-record-flag c true e = λ z. rw (checked c (record { rows = []; step = stepTo c c noAid; response = [] }) e (λ y. e)) e
-record-flag c false e = λ z. absurd (false≢true (sym (ap (λ (o : _). isDone (o .status)) (stopped c (record { rows = []; step = stepTo c c noAid; response = [] }) e)) ∙ z))
+record-flag c true e = λ z. rw (checked c (recordWork c) e (λ y. e)) e
+record-flag c false e = λ z. absurd (false≢true (sym (ap (λ (o : _). isDone (o .status)) (stopped c (recordWork c) e)) ∙ z))
 
 reading-flag : (c : Card) (found explain : Bool) (n : ℕ) (d : Card) (r : Reading) → Right c found
     → Right (onReading r (faultReply c found n) (firstReply explain (recordOutcome d)) .card) (onReading r (faultReply c found n) (firstReply explain (recordOutcome d)) .sound)

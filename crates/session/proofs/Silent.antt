@@ -8,7 +8,7 @@ use lib.ListN.{length}
 use Rattle.status.specs.StatusWords.{isDone}
 use Rattle.status.specs.Rows.{row, wordOf}
 use Rattle.status.specs.declared.Status.{Status}
-use Rattle.status.specs.declared.Status.the-variants.{DataWrong}
+use Rattle.status.specs.declared.Status.the-variants.{DataWrong, Done}
 use Rattle.byte_string.specs.Put.{put, Wrote}
 use Rattle.byte_string.proofs.PutLaws.{put-none}
 use Rattle.isdp.specs.Aids.{noAid}
@@ -27,20 +27,20 @@ use Rattle.session.specs.Session.{recordOutcome, answerText, firstReply,
 use Rattle.session.specs.declared.Turn.{Turn}
 use Rattle.session.proofs.Spelled.{replied}
 
-in-both : (c : Card) (word : Status) (s : Step) (done : Bool) → cond done (accepted s []) (refused c word) .response ≡ []
+in-both : (c : Card) (word : Status) (s : Step) (done : Bool) → cond done (accepted word s []) (refused c word) .response ≡ []
 unfolding accepted refused
 in-both c word s true = refl
 in-both c word s false = refl
 
-decided-silent : (c : Card) (word : Status) (s : Step) → settle c word (accepted s []) .response ≡ []
+decided-silent : (c : Card) (word : Status) (s : Step) → settle c word s [] .response ≡ []
 decided-silent c word s = in-both c word s (isDone word)
 
 pub fresh-silent : (eid aid : List ℕ) (capacity quota used volatile : ℕ) → freshOutcome eid aid capacity quota used volatile .response ≡ []
 unfolding freshOutcome
-fresh-silent eid aid capacity quota used volatile = decided-silent zeroCard (wordOf (row (not (freshOk eid aid capacity quota used)) DataWrong ∷ [])) (stepTo zeroCard (freshCard eid aid capacity quota used volatile) noAid)
+fresh-silent eid aid capacity quota used volatile = decided-silent zeroCard (wordOf Done (row (not (freshOk eid aid capacity quota used)) DataWrong ∷ [])) (stepTo zeroCard (freshCard eid aid capacity quota used volatile) noAid)
 
 pub record-silent : (c : Card) → recordOutcome c .response ≡ []
-record-silent c = decided-silent c (wordOf (soundRow c ∷ [])) (stepTo c c noAid)
+record-silent c = decided-silent c (wordOf Done (soundRow c ∷ [])) (stepTo c c noAid)
 
 -- an answer written without a response, as `first_reply` promises it
 abbrev pub Silently : List ℕ → ℕ → Bool → Answer → Turn → List ℕ → Type 0

@@ -8,9 +8,10 @@ use lib.ListN.{length}
 use Rattle.text.specs.Hex.{spelledIn}
 use Rattle.byte_string.specs.Put.{put, Wrote}
 use Rattle.status.specs.StatusWords.{isDone}
+use Rattle.status.specs.declared.Status.the-variants.{Done}
 use Rattle.isdp.specs.Aids.{noAid}
 use Rattle.card.specs.Steps.{stepTo}
-use Rattle.card.specs.Answers.{Outcome, handed, outcome}
+use Rattle.card.specs.Answers.{Outcome, Work, handed, outcome}
 use Rattle.card.specs.Fresh.{zeroCard, freshOutcome}
 use Rattle.card.specs.declared.Card.{Card}
 use Rattle.card.specs.declared.Answer.{Answer}
@@ -65,8 +66,11 @@ abbrev pub callIn : List ℕ → ℕ → declared.Call → Call
 callIn s room x = callOf (bytesOf s (partIn x)) room (laid (length (bytesOf s (partIn x))) x)
 
 -- `card` hands in any record: 6F 00 where it is not sound, else 90 00 and its ticks
+abbrev pub recordWork : Card → Work
+recordWork c = record { rows = []; success = Done; step = stepTo c c noAid; response = [] }
+
 abbrev pub recordOutcome : Card → Outcome
-recordOutcome c = outcome c (record { rows = []; step = stepTo c c noAid; response = [] })
+recordOutcome c = outcome c (recordWork c)
 
 -- what a line comes to: the card and whether it is known to be sound, the text, whether the run goes on, and what is left at the front
 -- of the two buffers that are lent for a call's bytes and its response
