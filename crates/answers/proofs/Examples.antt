@@ -8,11 +8,12 @@ use Rattle.text.specs.Hex.{glyphOf, hexText, hexWord}
 use Rattle.text.specs.Numbers.{digitsText}
 use Rattle.status.specs.declared.Status.{Status}
 use Rattle.status.specs.declared.Status.the-variants.{Done, NotHeld, Unsound}
-use Rattle.isdp.specs.Aids.{padded}
+use Rattle.isdp.specs.Aids.{named, padded}
 use Rattle.isdp.specs.LifeCycle.{disabled, enabled}
+use Rattle.isdp.specs.Profile.{profile}
 use Rattle.isdp.specs.Place.{vacant, made}
-use Rattle.card.specs.Cards.{withChange}
-use Rattle.card.specs.Fresh.{zeroCard, freshCard}
+use Rattle.card.specs.Cards.{cardWith}
+use Rattle.card.specs.Fresh.{zeroCard}
 use Rattle.card.specs.Notifications.{silent}
 use Rattle.card.specs.declared.Answer.{Answer}
 use Rattle.card.specs.declared.Card.{Card}
@@ -20,8 +21,7 @@ use Rattle.card.specs.declared.Kind.the-variants.{Changed}
 use Rattle.card.specs.declared.Notification.{Notification}
 use Rattle.card.specs.declared.Phase.the-variants.{Trial}
 use Rattle.answers.specs.Letters.{text}
-use Rattle.answers.specs.Lines.{issuedWord, noticeWord, answerLine, reasonText, reasonLine}
-use Rattle.script.specs.declared.arguments.Reason.the-variants.{BadHex}
+use Rattle.answers.specs.Lines.{issuedWord, noticeWord, answerLine}
 use Rattle.answers.specs.Explained.{meaningOf, wordText, responseText, kindText, issuedText, noticeText, spaces, leadOf, columnText, stateText, markText, policyText, nameCells, figureCells, rowText, placeText, rowsText, widestOf, headText, tableText, openText, trialText, phaseText, explainedText}
 
 abbrev aid-01 : List ℕ
@@ -33,22 +33,15 @@ aid-02 = 0xA0 ∷ 0x00 ∷ 0x00 ∷ 0x00 ∷ 0x02 ∷ []
 -- a card with the profile `aid-01` and, at place 2, the profile `aid-02`, which was enabled just now
 abbrev changed : Card
 changed =
-    withChange (freshCard (replicate 16 0) aid-01 1048576 65536 4096 0) 1 (Trial 0 10 1)
-    (made aid-01 disabled 65536 4096 ∷ vacant ∷ record {
-      aid = padded aid-02;
-      len = 5;
-      life = enabled;
-      quota = 2000;
-      used = 0;
-      policy = 4;
-    } ∷ [])
+    cardWith (replicate 16 0) 1048576 0 1 0 (Trial 0 10 1)
+    (made aid-01 disabled 65536 4096 ∷ vacant ∷ profile (named aid-02) enabled 2000 0 4 ∷ [])
 
 abbrev answered : Status → Card → Notification → ℕ → Answer
 answered word card notification ticks =
     record { status = word; card = card; length = 0; notification = notification; ticks = ticks }
 
 abbrev first-number : Notification
-first-number = record { kind = Changed; number = 1; eid = replicate 16 0; aid = record { bytes = padded aid-02; len = 5 } }
+first-number = record { kind = Changed; number = 1; eid = replicate 16 0; aid = named aid-02 }
 
 -- the example of the request
 pub enabled-line : answerLine (answered Done changed first-number 20) [] ≡ text "9000 - 02:0001:A000000002 20\n"
@@ -62,10 +55,6 @@ refused-line = refl
 pub response-line : answerLine (answered Done changed silent 0) (0xE3 ∷ 0x0A ∷ []) ≡ text "9000 E30A - 0\n"
 unfolding answerLine noticeWord hexText hexWord glyphOf digitsText pick isBelow
 response-line = refl
-
-pub fault-line : reasonLine 12 BadHex ≡ text "line 12: bad hex\n"
-unfolding reasonLine reasonText digitsText pick isBelow
-fault-line = refl
 
 -- the same answers for a person
 pub enabled-explained : explainedText (answered Done changed first-number 20) []

@@ -22,9 +22,7 @@ use Rattle.card.specs.declared.Kind.the-variants.{Silent, Changed, RolledBack, 
 use Rattle.card.specs.declared.Notification.{Notification}
 use Rattle.card.specs.declared.Phase.{Phase}
 use Rattle.card.specs.declared.Phase.the-variants.{Quiet, Trial, Back, Fallen}
-use Rattle.answers.specs.Lines.{aidText, issuedWord, noticeBy, noticeWord, answerLine, mostLine, reasonText, reasonLine, mostFault}
-use Rattle.script.specs.declared.arguments.Reason.{Reason}
-use Rattle.script.specs.declared.arguments.Reason.the-variants.{TooLong, UnknownWord, WordsMissing, TooManyWords, BadHex, BadNumber, BadPlace, BadPhase}
+use Rattle.answers.specs.Lines.{aidText, issuedWord, noticeBy, noticeWord, answerLine, mostLine}
 use Rattle.answers.specs.Explained.{meaningOf, wordText, responseText, kindText, issuedText, noticeIn, noticeText, spaces, leadOf, columnText, stateText, markText, policyText, nameCells, figureCells, rowText, placeText, rowsText, widestOf, headText, tableText, openText, trialText, phaseText, explainedText, mostRow, mostTable, mostExplained}
 
 -- the pieces
@@ -77,22 +75,6 @@ unfolding answerLine
 line-length a response h =
     simp (length-append, hex-length)
     (omega (arith, word-length response, notice-length (a .notification) h, decimal-length (a .ticks)))
-
--- a fault of the script
-reason-length : (r : Reason) → length (reasonText r) ≤ 14
-unfolding reasonText
-reason-length TooLong = omega arith
-reason-length UnknownWord = omega arith
-reason-length WordsMissing = omega arith
-reason-length TooManyWords = omega arith
-reason-length BadHex = omega arith
-reason-length BadNumber = omega arith
-reason-length BadPlace = omega arith
-reason-length BadPhase = omega arith
-
-pub fault-length : (n : ℕ) (r : Reason) → length (reasonLine n r) ≤ mostFault
-unfolding reasonLine
-fault-length n r = simp length-append (omega (arith, decimal-length n, reason-length r))
 
 -- the answer for a person: what stands above the table
 meaning-length : (s : Status) → length (meaningOf s) ≤ 61
@@ -202,7 +184,7 @@ figure-length p place holder =
 place-length : (p : Isdp) (place holder widest : ℕ) → length (aidOf p) ≤ widest → widest ≤ 16 → length (placeText p place holder widest) ≤ mostRow
 unfolding placeText rowText
 place-length p place holder widest h k =
-    by-eq (λ (l : List ℕ). length l ≤ mostRow) (p .len) 0 (λ e. omega arith)
+    by-eq (λ (l : List ℕ). length l ≤ mostRow) (p .aid .len) 0 (λ e. omega arith)
     (λ e. simp length-append (omega (arith, name-length p place widest h k, figure-length p place holder)))
 
 rows-length : (holder widest place : ℕ) (l : List Isdp) → widestOf l ≤ widest → widest ≤ 16 → length (rowsText holder widest place l) ≤ length l * mostRow

@@ -8,8 +8,8 @@ use mathlib.Core.List.{List, [], _∷_, _++_}
 use lib.ListN.{length, drop, getD, drop-of-length-le}
 use lib.Seq.{drop-cons}
 use Rattle.text.specs.Hex.{hexText}
-use Rattle.text.specs.Put.{Wrote}
-use Rattle.text.proofs.PutLaws.{length-put}
+use Rattle.byte_string.specs.Put.{Wrote}
+use Rattle.byte_string.proofs.PutLaws.{length-put}
 use Rattle.isdp.specs.Aids.{aidOf}
 use Rattle.isdp.specs.declared.Isdp.{Isdp}
 use Rattle.places.proofs.Records.{unread}

@@ -10,6 +10,7 @@ use Rattle.text.specs.Numbers.{decimalText}
 use Rattle.status.specs.StatusWords.{numberOf}
 use Rattle.status.specs.declared.Status.{Status}
 use Rattle.status.specs.declared.Status.the-variants.{Unsound, BufferShort, LengthWrong, ClassWrong, InstructionWrong, ParametersWrong, DataWrong, StateWrong, NotHeld, PolicyForbids, VerdictWrong, NoRoom, Done}
+use Rattle.isdp.specs.Sizes.{mostPlaces}
 use Rattle.isdp.specs.Aids.{aidOf}
 use Rattle.isdp.specs.LifeCycle.{selectable, personalized, disabled, enabled}
 use Rattle.isdp.specs.declared.Isdp.{Isdp}
@@ -134,7 +135,7 @@ rowText p place holder widest = nameCells p place widest ++ figureCells p place 
 
 -- a place that is not held has no row
 unfoldable pub placeText : Isdp → ℕ → ℕ → ℕ → List ℕ
-placeText p place holder widest = pick (isSame (p .len) 0) [] (rowText p place holder widest)
+placeText p place holder widest = pick (isSame (p .aid .len) 0) [] (rowText p place holder widest)
 
 -- a row has 176 bytes at the most, where a number has 64 bits
 abbrev pub mostRow : ℕ
@@ -167,9 +168,9 @@ headText widest =
 unfoldable pub tableText : Card → List ℕ
 tableText c = headText (widestOf (c .places)) ++ rowsText (c .fallback) (widestOf (c .places)) 0 (c .places)
 
--- the head and eight rows
+-- the head, and a row for each place
 abbrev pub mostTable : ℕ
-mostTable = 8 * mostRow + 93
+mostTable = mostPlaces * mostRow + 93
 
 -- the phase
 unfoldable pub openText : ℕ → ℕ → List ℕ
@@ -196,6 +197,6 @@ explainedText a response =
     ++ decimalText (a .ticks)
     ++ text "\n\n"
 
--- for eight places it has 1,818 bytes at the most beside the digits of the response
+-- beside the table and the digits of the response it has 317 bytes at the most
 abbrev pub mostExplained : ℕ
-mostExplained = 1818
+mostExplained = mostTable + 317

@@ -2,10 +2,10 @@
 -- a success without response that changed the profile and has 20 ticks still to come.
 use Prim.Native.Nat.{ℕ, _/_, _%_}
 use mathlib.Core.List.{List, [], _∷_, _++_}
-use lib.ListN.{take}
 use Rattle.text.specs.Hex.{hexText, hexWord}
 use Rattle.text.specs.Numbers.{decimalText}
 use Rattle.status.specs.StatusWords.{numberOf}
+use Rattle.isdp.specs.Aids.{bytesOf}
 use Rattle.isdp.specs.declared.Aid.{Aid}
 use Rattle.card.specs.Notifications.{codeOf}
 use Rattle.card.specs.declared.Answer.{Answer}
@@ -13,8 +13,6 @@ use Rattle.card.specs.declared.Kind.{Kind}
 use Rattle.card.specs.declared.Kind.the-variants.{Silent, Changed, RolledBack, FallenBack}
 use Rattle.card.specs.declared.Notification.{Notification}
 use Rattle.answers.specs.Letters.{text}
-use Rattle.script.specs.declared.arguments.Reason.{Reason}
-use Rattle.script.specs.declared.arguments.Reason.the-variants.{TooLong, UnknownWord, WordsMissing, TooManyWords, BadHex, BadNumber, BadPlace, BadPhase}
 
 -- one byte as two hex digits, and a number of two bytes as four
 abbrev pub hex8 : ℕ → List ℕ
@@ -25,7 +23,7 @@ hex16 n = hexText (n / 256 ∷ n % 256 ∷ [])
 
 -- an AID, with its true length
 abbrev pub aidText : Aid → List ℕ
-aidText a = hexText (take (a .len) (a .bytes))
+aidText a = hexText (bytesOf a)
 
 -- KIND:NUMBER:AID
 unfoldable pub issuedWord : Notification → List ℕ
@@ -55,20 +53,3 @@ answerLine a response =
 -- a line has 69 bytes at the most beside the digits of the response, where a number has 64 bits
 abbrev pub mostLine : ℕ
 mostLine = 69
-
--- a line of the script that cannot be read: what is wrong with it
-unfoldable pub reasonText : Reason → List ℕ
-reasonText TooLong = text "too long"
-reasonText UnknownWord = text "unknown word"
-reasonText WordsMissing = text "words missing"
-reasonText TooManyWords = text "too many words"
-reasonText BadHex = text "bad hex"
-reasonText BadNumber = text "bad number"
-reasonText BadPlace = text "bad place"
-reasonText BadPhase = text "bad phase"
-
-unfoldable pub reasonLine : ℕ → Reason → List ℕ
-reasonLine n reason = text "line " ++ decimalText n ++ text ": " ++ reasonText reason ++ text "\n"
-
-abbrev pub mostFault : ℕ
-mostFault = 42

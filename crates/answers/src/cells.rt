@@ -1,13 +1,13 @@
 // The cells of the profile table: each as wide as its column, so that the rows stand under each other.
+use byte_string::put_byte;
+use byte_string::put_bytes;
 use isdp::Isdp;
-use text::put_byte;
-use text::put_bytes;
 use text::put_decimal;
 use text::put_hex_8;
 ghost use mathlib.Core.Path.{_≡_};
 ghost use Prim.Native.Nat.{_≤_};
 ghost use lib.ListN.{length};
-ghost use Rattle.text.specs.Put.{Wrote};
+ghost use Rattle.byte_string.specs.Put.{Wrote};
 ghost use Rattle.isdp.specs.Aids.{aidOf};
 ghost use Rattle.answers.specs.Explained.{spaces, leadOf, columnText, stateText, markText, policyText};
 
@@ -108,9 +108,6 @@ pub fn put_policy(policy: u8, buf: &mut [u8], at: usize) -> usize
 pub fn aid_size(p: Isdp) -> u8
     ensures { λ r. ⌜ (r ≡ length (aidOf p)) × (r ≤ 16) ⌝ }
 {
-    let n = p.len;
-    if n > 16 {
-        return 16;
-    }
-    n as u8
+    let aid = p.aid;
+    aid.size() as u8
 }

@@ -1,19 +1,19 @@
 // An answer for a person: the word and what it means, response and notification, the profiles, the phase, and the ticks to come.
 use crate::line::put_aid;
 use crate::table::put_table;
+use byte_string::put_byte;
+use byte_string::put_bytes;
 use card::Answer;
 use card::Kind;
 use card::Notification;
 use card::Phase;
 use status::Status;
-use text::put_byte;
-use text::put_bytes;
 use text::put_decimal;
 use text::put_hex;
 use text::put_hex_8;
 ghost use Prim.Native.Nat.{_+_, _*_, _≤_};
 ghost use lib.ListN.{length};
-ghost use Rattle.text.specs.Put.{Wrote};
+ghost use Rattle.byte_string.specs.Put.{Wrote};
 ghost use Rattle.answers.specs.Explained.{meaningOf, wordText, responseText, kindText, issuedText, noticeText, openText, trialText, phaseText, explainedText, mostExplained};
 
 fn put_meaning(status: Status, buf: &mut [u8], at: usize) -> usize
@@ -122,7 +122,7 @@ fn put_open(left: u8, number: u16, buf: &mut [u8], at: usize) -> usize
     put_byte(buf, d, b'\n')
 }
 
-fn put_trial(previous: usize, left: u8, number: u16, buf: &mut [u8], at: usize) -> usize
+fn put_trial(previous: u8, left: u8, number: u16, buf: &mut [u8], at: usize) -> usize
     ensures { λ r. ⌜ Wrote (now (buf .entry)) at (trialText previous left number) r (now (buf .exit)) ⌝ }
 {
     let a = put_bytes(buf, at, b"phase trial: previous at place ");

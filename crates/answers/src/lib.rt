@@ -1,4 +1,4 @@
-// What the program says: the line of an answer, a fault of the script, and the answer for a person.
+// What the program says: the line of an answer, and the answer for a person.
 // Every function answers for every record and every buffer: what does not fit is dropped, as the writers of `text` do.
 mod cells;
 mod explained;
@@ -7,4 +7,3 @@ mod table;
 
 pub use explained::write_explained;
 pub use line::write_answer;
-pub use line::write_reason;

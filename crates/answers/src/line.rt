@@ -1,11 +1,10 @@
-// One line for each call, `SW RESPONSE NOTIFICATION TICKS`, and `line N: ..` for a line of the script that cannot be read.
+// One line for each call, `SW RESPONSE NOTIFICATION TICKS`.
+use byte_string::put_byte;
+use byte_string::put_bytes;
 use card::Answer;
 use card::Kind;
 use card::Notification;
 use isdp::Aid;
-use script::Reason;
-use text::put_byte;
-use text::put_bytes;
 use text::put_decimal;
 use text::put_hex;
 use text::put_hex_8;
@@ -14,15 +13,15 @@ use text::put_hex_word;
 ghost use mathlib.Core.Path.{_≡_};
 ghost use Prim.Native.Nat.{_+_, _*_, _≤_};
 ghost use lib.ListN.{length};
-ghost use Rattle.text.specs.Put.{Wrote};
-ghost use Rattle.answers.specs.Lines.{aidText, issuedWord, noticeWord, answerLine, mostLine, reasonText, reasonLine, mostFault};
+ghost use Rattle.byte_string.specs.Put.{Wrote};
+ghost use Rattle.answers.specs.Lines.{aidText, issuedWord, noticeWord, answerLine, mostLine};
 
 // An AID in hex, with its true length; a length over sixteen takes the whole array.
 pub fn put_aid(aid: Aid, buf: &mut [u8], at: usize) -> usize
     ensures { λ r. ⌜ Wrote (now (buf .entry)) at (aidText aid) r (now (buf .exit)) ⌝ }
 {
     let bytes = aid.bytes;
-    let n = aid.len;
+    let n = aid.len as usize;
     if n > 16 {
         return put_hex(buf, at, &bytes);
     }
@@ -67,30 +66,4 @@ pub fn write_answer(answer: Answer, response: &[u8], buf: &mut [u8], at: usize) 
     let f = put_byte(buf, e, b' ');
     let g = put_decimal(buf, f, answer.ticks as u64);
     put_byte(buf, g, b'\n')
-}
-
-fn put_reason(reason: Reason, buf: &mut [u8], at: usize) -> usize
-    ensures { λ r. ⌜ Wrote (now (buf .entry)) at (reasonText reason) r (now (buf .exit)) ⌝ }
-{
-    match reason {
-        Reason::TooLong => put_bytes(buf, at, b"too long"),
-        Reason::UnknownWord => put_bytes(buf, at, b"unknown word"),
-        Reason::WordsMissing => put_bytes(buf, at, b"words missing"),
-        Reason::TooManyWords => put_bytes(buf, at, b"too many words"),
-        Reason::BadHex => put_bytes(buf, at, b"bad hex"),
-        Reason::BadNumber => put_bytes(buf, at, b"bad number"),
-        Reason::BadPlace => put_bytes(buf, at, b"bad place"),
-        Reason::BadPhase => put_bytes(buf, at, b"bad phase"),
-    }
-}
-
-// A line of the script that cannot be read, by its number, and what is wrong with it.
-pub fn write_reason(number: u64, reason: Reason, buf: &mut [u8], at: usize) -> usize
-    ensures { λ r. ⌜ Wrote (now (buf .entry)) at (reasonLine number reason) r (now (buf .exit)) × (length (reasonLine number reason) ≤ mostFault) ⌝ }
-{
-    let a = put_bytes(buf, at, b"line ");
-    let b = put_decimal(buf, a, number);
-    let c = put_bytes(buf, b, b": ");
-    let d = put_reason(reason, buf, c);
-    put_byte(buf, d, b'\n')
 }

@@ -6,15 +6,15 @@ use crate::cells::put_policy;
 use crate::cells::put_spaces;
 use crate::cells::put_state;
 use crate::line::put_aid;
+use byte_string::put_byte;
+use byte_string::put_bytes;
 use card::Card;
 use isdp::Isdp;
 use places::PLACES;
-use text::put_byte;
-use text::put_bytes;
 ghost use mathlib.Core.Path.{_≡_};
 ghost use Prim.Native.Nat.{_-_, _*_, _≤_};
 ghost use lib.ListN.{length};
-ghost use Rattle.text.specs.Put.{Wrote};
+ghost use Rattle.byte_string.specs.Put.{Wrote};
 ghost use Rattle.answers.specs.Explained.{spaces, nameCells, figureCells, rowText, placeText, rowsText, widestOf, headText, tableText, mostTable};
 
 // The spaces after an AID of n bytes in a column for the widest.
@@ -32,10 +32,10 @@ fn put_name_cells(p: Isdp, place: usize, widest: u8, buf: &mut [u8], at: usize) 
     ensures { λ r. ⌜ Wrote (now (buf .entry)) at (nameCells p place widest) r (now (buf .exit)) ⌝ }
 {
     let n = aid_size(p);
-    let name = p.name();
+    let aid = p.aid;
     let a = put_column(place as u64, buf, at);
     let b = put_bytes(buf, a, b"  ");
-    let c = put_aid(name, buf, b);
+    let c = put_aid(aid, buf, b);
     put_gap(widest, n, buf, c)
 }
 
@@ -59,7 +59,8 @@ fn put_figure_cells(p: Isdp, place: usize, holder: usize, buf: &mut [u8], at: us
 fn put_place(p: Isdp, place: usize, holder: usize, widest: u8, buf: &mut [u8], at: usize) -> usize
     ensures { λ r. ⌜ Wrote (now (buf .entry)) at (placeText p place holder widest) r (now (buf .exit)) ⌝ }
 {
-    if p.len == 0 {
+    let aid = p.aid;
+    if aid.len == 0 {
         return at;
     }
     let a = put_name_cells(p, place, widest, buf, at);
@@ -127,5 +128,5 @@ pub fn put_table(card: Card, buf: &mut [u8], at: usize) -> usize
     let places = card.places;
     let wide = widest(places);
     let a = put_head(wide, buf, at);
-    put_rows(places, card.fallback, wide, buf, a)
+    put_rows(places, card.fallback as usize, wide, buf, a)
 }

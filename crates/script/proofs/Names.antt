@@ -5,15 +5,15 @@ use mathlib.Core.List.{List, _++_}
 use native.Mathlib.Omega.{arith}
 use lib.ListN.{length, drop, replicate}
 use lib.Seq.{take-all}
-use Rattle.text.specs.Put.{put}
+use Rattle.byte_string.specs.Put.{put}
 use Rattle.text.specs.Hex.{isHex, spelled, hexReadOf, hexLeft}
 use Rattle.text.specs.declared.hex.HexRead.the-variants.{Bytes}
-use Rattle.text.proofs.PutLaws.{put-front}
+use Rattle.byte_string.proofs.PutLaws.{put-front}
 use Rattle.text.proofs.HexLaws.{hex-fits, hex-full, hex-wrong, spelled-length}
 use Rattle.choice.proofs.Branches.{on-test, on-lt}
 use Rattle.isdp.specs.Aids.{padded}
 use Rattle.isdp.proofs.Bytes.{pad-whole}
-use Rattle.script.specs.Fields.{placeWith}
+use Rattle.script.specs.Colons.{placeWith}
 use Rattle.script.specs.Records.{recordWith}
 
 pub hex-taken : (s : List ℕ) (room n : ℕ) → Bytes n ≡ hexReadOf s room → (n ≡ length (spelled s)) × ((n ≤ room) × (spelled s ≡ hexLeft s room))
@@ -55,8 +55,8 @@ eid-read s l n q m e =
     let h : length (spelled s) ≡ 16 = omega arith in
     aid-read s l n q e ∙ pad-whole (spelled s) h
 
-pub place-as : (w : List ℕ) (at n : ℕ) {l m : List ℕ} → l ≡ m → placeWith w at l n ≡ placeWith w at m n
-place-as w at n e = ap (λ (l : List ℕ). placeWith w at l n) e
+pub place-as : (w : List ℕ) (at n : ℕ) {l m : List ℕ} → l ≡ m → placeWith w at (record { bytes = l; len = n }) ≡ placeWith w at (record { bytes = m; len = n })
+place-as w at n e = ap (λ (l : List ℕ). placeWith w at (record { bytes = l; len = n })) e
 
 pub record-as : (s : List ℕ) (at : ℕ) {l m : List ℕ} → l ≡ m → recordWith s at l ≡ recordWith s at m
 record-as s at e = ap (recordWith s at) e

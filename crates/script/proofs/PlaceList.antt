@@ -13,10 +13,10 @@ use Rattle.text.specs.declared.words.Word.the-variants.{Span, End}
 use Rattle.choice.proofs.Branches.{yes!, no! }
 use Rattle.isdp.specs.Sizes.{mostPlaces}
 use Rattle.isdp.specs.declared.Isdp.{Isdp}
-use Rattle.script.specs.Fields.{spelledPlace}
+use Rattle.script.specs.Colons.{placeWord}
 use Rattle.script.specs.Records.{notHeld, placesOn}
 use Rattle.script.specs.declared.arguments.Reason.the-variants.{WordsMissing, BadPlace}
-use Rattle.script.specs.declared.parted.Placed.{Placed}
+use Rattle.script.specs.declared.colons.Placed.{Placed}
 use Rattle.script.specs.declared.records.Reading.the-variants.{Fine}
 use Rattle.script.specs.declared.records.Held.{Held}
 
@@ -28,12 +28,12 @@ no-word : (n : ℕ) (s : List ℕ) (at : ℕ) (l : List Isdp) → End ≡ wordAt
 unfolding placesOn
 no-word n s at l q = rw (← q) refl
 
-bad-word : (n : ℕ) (s : List ℕ) (at a e : ℕ) (l : List Isdp) → Span a e ≡ wordAt s at → spelledPlace (part s a e) .ok ≡ false → notHeld BadPlace ≡ placesOn (suc n) s at l
+bad-word : (n : ℕ) (s : List ℕ) (at a e : ℕ) (l : List Isdp) → Span a e ≡ wordAt s at → placeWord (part s a e) .ok ≡ false → notHeld BadPlace ≡ placesOn (suc n) s at l
 unfolding placesOn
 bad-word n s at a e l q f = rw (← q) (no! _ f refl)
 
-good-word : (n : ℕ) (s : List ℕ) (at a e : ℕ) (l : List Isdp) → Span a e ≡ wordAt s at → spelledPlace (part s a e) .ok ≡ true
-    → placesOn n s e (l ++ (spelledPlace (part s a e) .place ∷ [])) ≡ placesOn (suc n) s at l
+good-word : (n : ℕ) (s : List ℕ) (at a e : ℕ) (l : List Isdp) → Span a e ≡ wordAt s at → placeWord (part s a e) .ok ≡ true
+    → placesOn n s e (l ++ (placeWord (part s a e) .place ∷ [])) ≡ placesOn (suc n) s at l
 unfolding placesOn
 good-word n s at a e l q f = rw (← q) (yes! _ f refl)
 
@@ -54,7 +54,7 @@ module _ (s : List ℕ) (at i : ℕ) (ps : List Isdp) (o : Held) (inv : placesOn
       ∙ ap (λ (n : ℕ). placesOn n s at (take i ps)) e
       ∙ inv
 
-  module _ (a e : ℕ) (p : Placed) (q : Span a e ≡ wordAt s at) (r : p ≡ spelledPlace (part s a e)) where
+  module _ (a e : ℕ) (p : Placed) (q : Span a e ≡ wordAt s at) (r : p ≡ placeWord (part s a e)) where
     pub places-bad : i < mostPlaces → p .ok ≡ false → notHeld BadPlace ≡ o
     places-bad h f = bad-word _ s at a e _ q (rw r at f) ∙ sym (one-left s at i (take i ps) h) ∙ inv
 

@@ -11,11 +11,11 @@ use Rattle.text.specs.declared.numbers.Number.{Number}
 use Rattle.text.specs.declared.numbers.Number.the-variants as number
 use Rattle.text.proofs.NumberLaws.{decimal-within}
 use Rattle.script.specs.Arguments.{onNumber, valueAt}
-use Rattle.script.specs.Fields.{colon, numberAt}
+use Rattle.script.specs.Colons.{colon, numberField}
 use Rattle.script.specs.declared.arguments.Reason.the-variants as reason
 use Rattle.script.specs.declared.arguments.Value.{Value}
 use Rattle.script.specs.declared.arguments.Value.the-variants as value
-use Rattle.script.specs.declared.parted.Field.the-variants as field
+use Rattle.script.specs.declared.colons.Field.the-variants as field
 
 field-within : (most e n k : ℕ) (d : Number) → ((m : ℕ) → number.Value m ≡ d → m ≤ most) → field.Is n k ≡ onNumber d field.Wrong (λ m. field.Is m (e + 1)) → n ≤ most
 field-within most e n k number.Wrong f q = let o : _≡_ {A = ℕ} 0 1 = cc in absurd (omega arith)
@@ -25,8 +25,8 @@ number-on : (most n k : ℕ) (w : List ℕ) (v : Word) → field.Is n k ≡ onWo
 number-on most n k w word.End q = let o : _≡_ {A = ℕ} 0 1 = cc in absurd (omega arith)
 number-on most n k w (word.Span a e) q = field-within most e n k (decimalOf most (part w a e)) (λ m. decimal-within most m (part w a e)) q
 
-pub number-within : (most : ℕ) (w : List ℕ) (at n k : ℕ) → field.Is n k ≡ numberAt most w at → n ≤ most
-unfolding numberAt
+pub number-within : (most : ℕ) (w : List ℕ) (at n k : ℕ) → field.Is n k ≡ numberField most w at → n ≤ most
+unfolding numberField
 number-within most w at n k q = number-on most n k w (fieldAt colon w at) q
 
 word-within : (most e n k : ℕ) (d : Number) → ((m : ℕ) → number.Value m ≡ d → m ≤ most) → value.Is n k ≡ onNumber d (value.Wrong reason.BadNumber) (λ m. value.Is m e) → n ≤ most

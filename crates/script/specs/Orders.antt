@@ -1,15 +1,18 @@
 -- What a line of a script asks for: "words parted by spaces, .. `#` comments and empty lines passed over". The first word decides,
--- then the number of words, then the words from left to right: the first that is wrong gives the reason.
-use Prim.Native.Nat.{ℕ}
+-- then the number of words, then the words from left to right: the first that is wrong gives the reason (those of a record: Records).
+use Prim.Native.Nat.{ℕ, _+_}
 use mathlib.Core.List.{List}
 use lib.ListN.{length, getD}
 use Rattle.choice.specs.Choice.{pick, isBelow, isSame}
-use Rattle.text.specs.Words.{sameOf, part, wordsOf, wordAt, onWord}
+use Rattle.byte_string.specs.Bytes.{sameBytes}
+use Rattle.text.specs.Words.{part, wordsOf, wordAt, onWord}
 use Rattle.lines.specs.Lines.{longest}
+use Rattle.isdp.specs.Sizes.{mostPlaces}
+use Rattle.byte_string.specs.declared.Part.{Part}
+use Rattle.manager.specs.declared.Call.{Call}
+use Rattle.manager.specs.declared.Call.the-variants as call
 use Rattle.script.specs.Ascii.{ascii}
 use Rattle.script.specs.Arguments.{most32, most8, onBytes, onValue, bytesAt, valueAt, roomAt}
-use Rattle.script.specs.Records.{onReading, recordAt}
-use Rattle.script.specs.declared.arguments.Span.{Span}
 use Rattle.script.specs.declared.arguments.Reason.the-variants.{TooLong, UnknownWord, WordsMissing, TooManyWords}
 use Rattle.script.specs.declared.orders.Verb.{Verb}
 use Rattle.script.specs.declared.orders.Verb.the-variants as verb
@@ -22,21 +25,21 @@ hash = 35
 
 unfoldable pub verbOf : List ℕ → Verb
 verbOf w =
-    pick (sameOf w (ascii "fresh")) verb.Fresh
-    (pick (sameOf w (ascii "command")) verb.Command
-    (pick (sameOf w (ascii "keyed")) verb.Keyed
-    (pick (sameOf w (ascii "stored")) verb.Stored
-    (pick (sameOf w (ascii "finished")) verb.Finished
-    (pick (sameOf w (ascii "tick")) verb.Tick
-    (pick (sameOf w (ascii "lost")) verb.Lost
-    (pick (sameOf w (ascii "card")) verb.Card verb.Unknown)))))))
+    pick (sameBytes w (ascii "fresh")) verb.Fresh
+    (pick (sameBytes w (ascii "command")) verb.Command
+    (pick (sameBytes w (ascii "keyed")) verb.Keyed
+    (pick (sameBytes w (ascii "stored")) verb.Stored
+    (pick (sameBytes w (ascii "finished")) verb.Finished
+    (pick (sameBytes w (ascii "tick")) verb.Tick
+    (pick (sameBytes w (ascii "lost")) verb.Lost
+    (pick (sameBytes w (ascii "card")) verb.Card verb.Unknown)))))))
 
 -- the order of a line of n words, where it should have from `least` to `most`
 unfoldable pub counted : ℕ → ℕ → ℕ → Order → Order
 counted least most n o = pick (isBelow n least) (order.Wrong WordsMissing) (pick (isBelow most n) (order.Wrong TooManyWords) o)
 
 -- CAPACITY QUOTA USED VOLATILE
-unfoldable pub freshWith : List ℕ → ℕ → Span → Span → Order
+unfoldable pub freshWith : List ℕ → ℕ → Part → Part → Order
 freshWith s at eid aid =
     onValue (valueAt most32 s at) order.Wrong λ capacity b.
     onValue (valueAt most32 s b) order.Wrong λ quota c.
@@ -46,35 +49,39 @@ freshWith s at eid aid =
 -- EID AID CAPACITY QUOTA USED VOLATILE
 unfoldable pub freshAt : List ℕ → ℕ → Order
 freshAt s at =
-    onBytes (bytesAt s at) order.Wrong λ eid.
-    onBytes (bytesAt s (eid .to)) order.Wrong λ aid. freshWith s (aid .to) eid aid
+    onBytes (bytesAt s at) order.Wrong λ eid b.
+    onBytes (bytesAt s b) order.Wrong λ aid c. freshWith s c eid aid
 
 -- VERDICT HEX, or VERDICT HEX LENGTH
 unfoldable pub commandAt : List ℕ → ℕ → Order
 commandAt s at =
     onValue (valueAt most8 s at) order.Wrong λ verdict b.
-    onBytes (bytesAt s b) order.Wrong λ bytes.
-    onValue (roomAt s (bytes .to)) order.Wrong λ room e. order.Command verdict bytes room
+    onBytes (bytesAt s b) order.Wrong λ bytes c.
+    onValue (roomAt s c) order.Wrong λ room e. order.Call (call.Command verdict bytes) room
+
+-- a call that has no response lends no buffer
+abbrev pub inner : Call → Order
+inner x = order.Call x 0
 
 -- AID
 unfoldable pub keyedAt : List ℕ → ℕ → Order
-keyedAt s at = onBytes (bytesAt s at) order.Wrong λ aid. order.Keyed aid
+keyedAt s at = onBytes (bytesAt s at) order.Wrong λ aid b. inner (call.Keyed aid)
 
 -- AID N
 unfoldable pub storedAt : List ℕ → ℕ → Order
 storedAt s at =
-    onBytes (bytesAt s at) order.Wrong λ aid.
-    onValue (valueAt most32 s (aid .to)) order.Wrong λ n e. order.Stored aid n
+    onBytes (bytesAt s at) order.Wrong λ aid b.
+    onValue (valueAt most32 s b) order.Wrong λ n e. inner (call.Stored aid n)
 
 -- AID POLICY
 unfoldable pub finishedAt : List ℕ → ℕ → Order
 finishedAt s at =
-    onBytes (bytesAt s at) order.Wrong λ aid.
-    onValue (valueAt most8 s (aid .to)) order.Wrong λ policy e. order.Finished aid policy
+    onBytes (bytesAt s at) order.Wrong λ aid b.
+    onValue (valueAt most8 s b) order.Wrong λ policy e. inner (call.Finished aid policy)
 
--- EID CAPACITY VOLATILE LAST FALLBACK PHASE PLACE0 .. PLACE7
-unfoldable pub recordOrder : List ℕ → ℕ → Order
-recordOrder s at = onReading (recordAt s at .reading) order.Wrong order.Record
+-- `card` EID CAPACITY VOLATILE LAST FALLBACK PHASE, and a word for each place
+abbrev pub recordWords : ℕ
+recordWords = 7 + mostPlaces
 
 -- by the first word, which ends at `at`, of n words
 unfoldable pub orderBy : Verb → ℕ → List ℕ → ℕ → Order
@@ -83,9 +90,9 @@ orderBy verb.Command n s at = counted 3 4 n (commandAt s at)
 orderBy verb.Keyed n s at = counted 2 2 n (keyedAt s at)
 orderBy verb.Stored n s at = counted 3 3 n (storedAt s at)
 orderBy verb.Finished n s at = counted 3 3 n (finishedAt s at)
-orderBy verb.Tick n s at = counted 1 1 n order.Tick
-orderBy verb.Lost n s at = counted 1 1 n order.Lost
-orderBy verb.Card n s at = counted 15 15 n (recordOrder s at)
+orderBy verb.Tick n s at = counted 1 1 n (inner call.Tick)
+orderBy verb.Lost n s at = counted 1 1 n (inner call.Lost)
+orderBy verb.Card n s at = counted recordWords recordWords n (order.Record at)
 orderBy verb.Unknown n s at = order.Wrong UnknownWord
 
 -- "(a line has at most 4,096 bytes)"

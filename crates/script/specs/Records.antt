@@ -1,5 +1,5 @@
 -- "`card EID CAPACITY VOLATILE LAST FALLBACK PHASE PLACE0 .. PLACE7` hands in any record, sound or not: EID 16 bytes; FALLBACK a
--- place number 0-255". The words are read from left to right, and the first that is wrong gives the reason.
+-- place number 0-255", with a PLACE for each place of a card. The words are read from left to right, and the first that is wrong gives the reason.
 use Prim.Native.Nat.{ℕ, zero, suc}
 use mathlib.Core.List.{List, [], _∷_, _++_}
 use lib.ListN.{replicate}
@@ -9,14 +9,15 @@ use Rattle.text.specs.Hex.{hexReadOf, spelled}
 use Rattle.isdp.specs.Sizes.{mostPlaces, eidSize}
 use Rattle.isdp.specs.Place.{vacant}
 use Rattle.isdp.specs.declared.Isdp.{Isdp}
+use Rattle.card.specs.Cards.{cardWith}
 use Rattle.card.specs.Fresh.{zeroCard}
 use Rattle.card.specs.declared.Phase.{Phase}
 use Rattle.script.specs.Arguments.{most32, most16, most8, onValue, valueAt}
-use Rattle.script.specs.Fields.{onRead, spelledPhase, spelledPlace}
+use Rattle.script.specs.Colons.{onRead, phaseWord, placeWord}
 use Rattle.script.specs.declared.arguments.Reason.{Reason}
 use Rattle.script.specs.declared.arguments.Reason.the-variants.{WordsMissing, BadHex, BadPlace, BadPhase}
-use Rattle.script.specs.declared.parted.Phased.{Phased}
-use Rattle.script.specs.declared.parted.Phased.the-variants as phased
+use Rattle.script.specs.declared.colons.Phased.{Phased}
+use Rattle.script.specs.declared.colons.Phased.the-variants as phased
 use Rattle.script.specs.declared.records.PhaseRead.{PhaseRead}
 use Rattle.script.specs.declared.records.PhaseRead.the-variants as phaseread
 use Rattle.script.specs.declared.records.Head.{Head}
@@ -46,7 +47,7 @@ onReading reading.Fine g x = x
 unfoldable pub phaseAt : List ℕ → ℕ → PhaseRead
 phaseAt s at =
     onWord (wordAt s at) (phaseread.Wrong WordsMissing) λ a e.
-    onPhased (spelledPhase (part s a e)) (phaseread.Wrong BadPhase) λ phase. phaseread.Is phase e
+    onPhased (phaseWord (part s a e)) (phaseread.Wrong BadPhase) λ phase. phaseread.Is phase e
 
 -- CAPACITY VOLATILE LAST FALLBACK PHASE, and the place after them
 unfoldable pub headAt : List ℕ → ℕ → Head
@@ -65,7 +66,7 @@ unfoldable pub placesOn : ℕ → List ℕ → ℕ → List Isdp → Held
 placesOn zero s at before = record { reading = reading.Fine; places = before }
 placesOn (suc n) s at before =
     onWord (wordAt s at) (notHeld WordsMissing) λ a e.
-    pick (spelledPlace (part s a e) .ok) (placesOn n s e (before ++ (spelledPlace (part s a e) .place ∷ []))) (notHeld BadPlace)
+    pick (placeWord (part s a e) .ok) (placesOn n s e (before ++ (placeWord (part s a e) .place ∷ []))) (notHeld BadPlace)
 
 abbrev pub noRecord : Reason → Record
 noRecord why = record { reading = reading.Wrong why; card = zeroCard }
@@ -74,16 +75,7 @@ abbrev pub fine : List ℕ → ℕ → ℕ → ℕ → ℕ → Phase → List Is
 fine eid capacity volatile last fallback phase places =
     record {
       reading = reading.Fine;
-      card =
-          record {
-            eid = eid;
-            capacity = capacity;
-            volatile = volatile;
-            last = last;
-            fallback = fallback;
-            phase = phase;
-            places = places;
-          };
+      card = cardWith eid capacity volatile last fallback phase places;
     }
 
 -- what stands after the EID
@@ -99,7 +91,3 @@ recordAt s at =
     onWord (wordAt s at) (noRecord WordsMissing) λ a e.
     onRead (hexReadOf (part s a e) eidSize) (noRecord BadHex) λ n.
     pick (isSame n eidSize) (recordWith s e (spelled (part s a e))) (noRecord BadHex)
-
--- the record of a `card` line
-unfoldable pub recordOf : List ℕ → Record
-recordOf s = onWord (wordAt s 0) (noRecord WordsMissing) λ a e. recordAt s e

@@ -1,4 +1,5 @@
 // The next word of a line, as a byte string or as a number.
+use byte_string::Part;
 use text::Number;
 use text::Word;
 use text::decimal;
@@ -22,18 +23,12 @@ pub enum Reason {
 // The most that a number of 32 bits can be.
 pub const MOST: u32 = 4294967295;
 
-// A word is told by its place in the line: `from` up to, and without, `to`.
-pub struct Span {
-    pub from: usize,
-    pub to: usize,
-}
-
+// The part of the line that spells a byte string; `next` is the place after it.
 pub enum Bytes {
-    At(Span),
+    Is { part: Part, next: usize },
     Wrong(Reason),
 }
 
-// `next` is the place after the word.
 pub enum Value {
     Is { n: u32, next: usize },
     Wrong(Reason),
@@ -46,7 +41,13 @@ pub fn next_bytes(s: &[u8], at: usize) -> Bytes
         return Bytes::Wrong(Reason::WordsMissing);
     };
     if is_hex(&s[from..to]) {
-        return Bytes::At(Span { from, to });
+        return Bytes::Is {
+            part: Part {
+                start: from,
+                len: to - from,
+            },
+            next: to,
+        };
     }
     Bytes::Wrong(Reason::BadHex)
 }

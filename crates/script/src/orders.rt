@@ -2,53 +2,44 @@
 use crate::arguments::Bytes;
 use crate::arguments::MOST;
 use crate::arguments::Reason;
-use crate::arguments::Span;
 use crate::arguments::Value;
 use crate::arguments::next_bytes;
 use crate::arguments::next_room;
 use crate::arguments::next_value;
-use crate::records::Reading;
-use crate::records::record_at;
+use byte_string::Part;
+use byte_string::same;
+use card::Card;
 use lines::LONGEST;
+use manager::Call;
 use text::Word;
 use text::count_words;
 use text::next_word;
-use text::same;
 ghost use mathlib.Core.Path.{_≡_};
-ghost use Rattle.script.specs.Orders.{verbOf, counted, freshWith, freshAt, commandAt, keyedAt, storedAt, finishedAt, recordOrder, orderBy, orderOf};
+ghost use Rattle.script.specs.Orders.{verbOf, counted, inner, freshWith, freshAt, commandAt, keyedAt, storedAt, finishedAt, orderBy, orderOf};
 
-// A byte string stays in the line: an enum holds no array.
+// A byte string stays in the line, where a part names the word that spells it: an enum holds no array.
 pub enum Order {
     Nothing,
     Fresh {
-        eid: Span,
-        aid: Span,
+        eid: Part,
+        aid: Part,
         capacity: u32,
         quota: u32,
         used: u32,
         volatile: u32,
     },
-    Command {
-        verdict: u8,
-        bytes: Span,
+    // The call, and the length of the response buffer lent to it.
+    Call {
+        call: Call,
         room: usize,
     },
-    Keyed {
-        aid: Span,
-    },
-    Stored {
-        aid: Span,
-        n: u32,
-    },
-    Finished {
-        aid: Span,
-        policy: u8,
-    },
-    Tick,
-    Lost,
-    Record,
+    // The record's words begin at this place; `record_at` reads them.
+    Record(usize),
     Wrong(Reason),
 }
+
+// The words of a `card` line: seven, and one for each place.
+const RECORD: usize = 7 + Card::PLACES;
 
 pub enum Verb {
     Fresh,
@@ -106,7 +97,7 @@ fn counted(least: usize, most: usize, n: usize, order: Order) -> Order
 }
 
 // CAPACITY QUOTA USED VOLATILE.
-fn fresh_with(s: &[u8], at: usize, eid: Span, aid: Span) -> Order
+fn fresh_with(s: &[u8], at: usize, eid: Part, aid: Part) -> Order
     ensures { λ r. ⌜ r ≡ freshWith (now (s .entry)) at eid aid ⌝ }
 {
     match next_value(s, at, MOST) {
@@ -142,9 +133,9 @@ fn fresh_order(s: &[u8], at: usize) -> Order
 {
     match next_bytes(s, at) {
         Bytes::Wrong(why) => Order::Wrong(why),
-        Bytes::At(eid) => match next_bytes(s, eid.to) {
+        Bytes::Is { part: eid, next: b } => match next_bytes(s, b) {
             Bytes::Wrong(why) => Order::Wrong(why),
-            Bytes::At(aid) => fresh_with(s, aid.to, eid, aid),
+            Bytes::Is { part: aid, next: c } => fresh_with(s, c, eid, aid),
         },
     }
 }
@@ -154,21 +145,31 @@ fn command_order(s: &[u8], at: usize) -> Order
 {
     match next_value(s, at, 255) {
         Value::Wrong(why) => Order::Wrong(why),
-        Value::Is {
-            n: verdict,
-            next: b,
-        } => match next_bytes(s, b) {
+        Value::Is { n, next: b } => match next_bytes(s, b) {
             Bytes::Wrong(why) => Order::Wrong(why),
-            Bytes::At(bytes) => match next_room(s, bytes.to) {
+            Bytes::Is {
+                part: bytes,
+                next: c,
+            } => match next_room(s, c) {
                 Value::Wrong(why) => Order::Wrong(why),
-                Value::Is { n: room, next: _ } => Order::Command {
-                    verdict: verdict as u8,
-                    bytes,
-                    room: room as usize,
-                },
+                Value::Is { n: room, next: _ } => {
+                    let verdict = n as u8;
+                    let call = Call::Command { verdict, bytes };
+                    Order::Call {
+                        call,
+                        room: room as usize,
+                    }
+                }
             },
         },
     }
+}
+
+// A call that has no response lends no buffer.
+fn inner(call: Call) -> Order
+    ensures { λ r. ⌜ r ≡ inner call ⌝ }
+{
+    Order::Call { call, room: 0 }
 }
 
 fn keyed_order(s: &[u8], at: usize) -> Order
@@ -176,7 +177,7 @@ fn keyed_order(s: &[u8], at: usize) -> Order
 {
     match next_bytes(s, at) {
         Bytes::Wrong(why) => Order::Wrong(why),
-        Bytes::At(aid) => Order::Keyed { aid },
+        Bytes::Is { part: aid, next: _ } => inner(Call::Keyed(aid)),
     }
 }
 
@@ -185,9 +186,9 @@ fn stored_order(s: &[u8], at: usize) -> Order
 {
     match next_bytes(s, at) {
         Bytes::Wrong(why) => Order::Wrong(why),
-        Bytes::At(aid) => match next_value(s, aid.to, MOST) {
+        Bytes::Is { part: aid, next: b } => match next_value(s, b, MOST) {
             Value::Wrong(why) => Order::Wrong(why),
-            Value::Is { n, next: _ } => Order::Stored { aid, n },
+            Value::Is { n, next: _ } => inner(Call::Stored { aid, n }),
         },
     }
 }
@@ -197,24 +198,13 @@ fn finished_order(s: &[u8], at: usize) -> Order
 {
     match next_bytes(s, at) {
         Bytes::Wrong(why) => Order::Wrong(why),
-        Bytes::At(aid) => match next_value(s, aid.to, 255) {
+        Bytes::Is { part: aid, next: b } => match next_value(s, b, 255) {
             Value::Wrong(why) => Order::Wrong(why),
-            Value::Is { n: policy, next: _ } => Order::Finished {
-                aid,
-                policy: policy as u8,
-            },
+            Value::Is { n, next: _ } => {
+                let policy = n as u8;
+                inner(Call::Finished { aid, policy })
+            }
         },
-    }
-}
-
-fn record_order(s: &[u8], at: usize) -> Order
-    ensures { λ r. ⌜ r ≡ recordOrder (now (s .entry)) at ⌝ }
-{
-    let record = record_at(s, at);
-    let reading = record.reading;
-    match reading {
-        Reading::Wrong(why) => Order::Wrong(why),
-        Reading::Fine => Order::Record,
     }
 }
 
@@ -228,9 +218,9 @@ fn order_by(verb: Verb, n: usize, s: &[u8], at: usize) -> Order
         Verb::Keyed => counted(2, 2, n, keyed_order(s, at)),
         Verb::Stored => counted(3, 3, n, stored_order(s, at)),
         Verb::Finished => counted(3, 3, n, finished_order(s, at)),
-        Verb::Tick => counted(1, 1, n, Order::Tick),
-        Verb::Lost => counted(1, 1, n, Order::Lost),
-        Verb::Card => counted(15, 15, n, record_order(s, at)),
+        Verb::Tick => counted(1, 1, n, inner(Call::Tick)),
+        Verb::Lost => counted(1, 1, n, inner(Call::Lost)),
+        Verb::Card => counted(RECORD, RECORD, n, Order::Record(at)),
         Verb::Unknown => Order::Wrong(Reason::UnknownWord),
     }
 }

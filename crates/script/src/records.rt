@@ -3,9 +3,9 @@ use crate::arguments::MOST;
 use crate::arguments::Reason;
 use crate::arguments::Value;
 use crate::arguments::next_value;
-use crate::parted::Phased;
-use crate::parted::read_phase;
-use crate::parted::read_place;
+use crate::colons::Phased;
+use crate::colons::read_phase;
+use crate::colons::read_place;
 use card::Card;
 use card::Phase;
 use isdp::Isdp;
@@ -17,7 +17,7 @@ ghost use mathlib.Core.Path.{_≡_};
 ghost use Prim.Native.Nat.{_≤_};
 ghost use Rattle.isdp.specs.Sizes.{mostPlaces};
 ghost use mathlib.Core.List.{[]};
-ghost use Rattle.script.specs.Records.{phaseAt, headAt, notHeld, placesOn, noRecord, recordWith, recordAt, recordOf};
+ghost use Rattle.script.specs.Records.{phaseAt, headAt, notHeld, placesOn, noRecord, recordWith, recordAt};
 
 pub enum PhaseRead {
     Is { phase: Phase, next: usize },
@@ -42,7 +42,7 @@ pub enum Head {
         capacity: u32,
         volatile: u32,
         last: u16,
-        fallback: usize,
+        fallback: u8,
         phase: Phase,
         next: usize,
     },
@@ -75,7 +75,7 @@ fn head_at(s: &[u8], at: usize) -> Head
                             capacity,
                             volatile,
                             last: last as u16,
-                            fallback: fallback as usize,
+                            fallback: fallback as u8,
                             phase,
                             next,
                         },
@@ -169,15 +169,7 @@ fn record_with(s: &[u8], at: usize, eid: [u8; 16]) -> Record
                 Reading::Wrong(why) => no_record(why),
                 Reading::Fine => {
                     let places = held.places;
-                    let card = Card {
-                        eid,
-                        capacity,
-                        volatile,
-                        last,
-                        fallback,
-                        phase,
-                        places,
-                    };
+                    let card = Card::with(eid, capacity, volatile, last, fallback, phase, places);
                     Record {
                         reading: Reading::Fine,
                         card,
@@ -188,7 +180,7 @@ fn record_with(s: &[u8], at: usize, eid: [u8; 16]) -> Record
     }
 }
 
-// The words after `card`.
+// The record of the words after `card`.
 pub fn record_at(s: &[u8], at: usize) -> Record
     ensures { λ r. ⌜ r ≡ recordAt (now (s .entry)) at ⌝ }
 {
@@ -206,14 +198,4 @@ pub fn record_at(s: &[u8], at: usize) -> Record
             no_record(Reason::BadHex)
         }
     }
-}
-
-// The record of a line that `read_line` found to be a `card` line.
-pub fn read_record(s: &[u8]) -> Record
-    ensures { λ r. ⌜ r ≡ recordOf (now (s .entry)) ⌝ }
-{
-    let Word::Span { from: _, to } = next_word(s, 0) else {
-        return no_record(Reason::WordsMissing);
-    };
-    record_at(s, to)
 }

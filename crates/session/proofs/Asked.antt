@@ -1,94 +1,98 @@
--- Every script is answered as if soundness were asked at every call: before the first line the flag says whether the card is sound, and
--- each line leaves it saying so, since a call keeps a sound card sound and hands back any other. By induction over the lines.
+-- Every script is answered as if soundness were asked at every call: where the flag says that the card is sound it is, and each line
+-- leaves that so, since a call keeps a sound card sound and a card handed in is asked. By induction over the lines.
 use mathlib.Core.Path.{_≡_, refl, ap, sym, _∙_}
 use Prim.Native.Nat.{ℕ, suc}
 use mathlib.Core.List.{List, [], _∷_, _++_}
-use mathlib.Core.Bool.{Bool, true, false, not, cond}
+use mathlib.Core.Bool.{Bool, true, false, not, cond, _&&_, false≢true}
 use Rattle.status.specs.StatusWords.{isDone}
-use Rattle.status.specs.Rows.{row, wordOf}
-use Rattle.status.specs.declared.Status.the-variants.{DataWrong}
-use Rattle.isdp.specs.Aids.{noAid}
+use Rattle.status.specs.Rows.{wordOf}
+use Rattle.isdp.proofs.Bools.{and-r}
 use Rattle.card.specs.Sound.{sound}
-use Rattle.card.specs.Steps.{stepTo}
-use Rattle.card.specs.Fresh.{zeroCard, freshOk, freshCard, freshOutcome}
+use Rattle.card.specs.Fresh.{zeroCard}
 use Rattle.card.specs.declared.Card.{Card}
-use Rattle.card.proofs.Outcomes.{checked, stopped, decided, refuses}
-use Rattle.card.proofs.Freshness.{fresh-sound, zero-unsound}
-use Rattle.manager.specs.Calls.{Call, Call.Command, Call.Keyed, Call.Stored, Call.Finished, Call.Tick, Call.Lost}
-use Rattle.manager.specs.Manager.{work, step}
-use Rattle.manager.proofs.Kept.{call-kept, step-sound}
+use Rattle.card.proofs.Outcomes.{checked, stopped}
+use Rattle.card.proofs.Freshness.{fresh-sound}
+use Rattle.manager.specs.Calls.{Call}
+use Rattle.manager.specs.Manager.{step}
+use Rattle.manager.proofs.Kept.{on-sound-agrees, step-sound}
 use Rattle.script.specs.Orders.{orderOf}
-use Rattle.script.specs.Records.{recordOf}
+use Rattle.script.specs.Records.{onReading, recordAt}
 use Rattle.script.specs.declared.orders.Order.{Order}
 use Rattle.script.specs.declared.orders.Order.the-variants as order
-use Rattle.session.specs.Session.{bytesOf, handedIn, told, answerTo, saidBy, lineOf, askedLine, scriptBy, AskedOnce}
+use Rattle.script.specs.declared.records.Reading.{Reading}
+use Rattle.script.specs.declared.records.Reading.the-variants as reading
+use Rattle.session.specs.Session.{bytesOf, partIn, callIn, recordWork, recordOutcome, replyOf, firstReply, faultReply, answerTo, Reply, replyBy, lineOf, askedLine, scriptOf, askedScript, AskedOnce}
 
--- a call answered by the flag, and the flag after it
-answers-agree : (c : Card) (found : Bool) (call : Call) → sound c ≡ found → answerTo found c call ≡ step c call
-unfolding step
-answers-agree c true call e = sym (checked c (work c call) e (call-kept c call e))
-answers-agree c false call e = sym (stopped c (work c call) e)
+-- the flag is right: where it says that the card is sound, it is
+abbrev Right : Card → Bool → Type 0
+Right c found = found ≡ true → sound c ≡ true
 
-call-flag : (c : Card) (found : Bool) (call : Call) → sound c ≡ found → sound (step c call .card) ≡ found
-unfolding step
-call-flag c true call e = step-sound c call e
-call-flag c false call e = rw (stopped c (work c call) e) e
+answers-agree : (c : Card) (found : Bool) (call : Call) → Right c found → answerTo found c call ≡ step c call
+answers-agree c true call h = on-sound-agrees c call (h refl)
+answers-agree c false call h = refl
 
 -- the calls that hand in a card
-fresh-flag : (eid aid : List ℕ) (capacity quota used volatile : ℕ) (done : Bool) → isDone (freshOutcome eid aid capacity quota used volatile .status) ≡ done → sound (freshOutcome eid aid capacity quota used volatile .card) ≡ done
-unfolding freshOutcome
-fresh-flag eid aid capacity quota used volatile true e = fresh-sound eid aid capacity quota used volatile e
-fresh-flag eid aid capacity quota used volatile false e =
-    let w = wordOf (row (not (freshOk eid aid capacity quota used)) DataWrong ∷ []) in
-    let s = stepTo zeroCard (freshCard eid aid capacity quota used volatile) noAid in
-    rw (refuses zeroCard w s [] (sym (ap isDone (decided zeroCard w s [])) ∙ e) .same-card) zero-unsound
-
-record-flag : (c : Card) (found : Bool) → sound c ≡ found → sound (handedIn c .card) ≡ isDone (handedIn c .status)
+record-flag : (c : Card) (found : Bool) → sound c ≡ found → Right (recordOutcome c .card) (isDone (recordOutcome c .status))
 unfolding wordOf
-record-flag c true e = rw (checked c (record { rows = []; step = stepTo c c noAid; response = [] }) e (λ z. e)) e
-record-flag c false e = rw (stopped c (record { rows = []; step = stepTo c c noAid; response = [] }) e) e
+record-flag c true e = λ z. rw (checked c (recordWork c) e (λ y. e)) e
+record-flag c false e = λ z. absurd (false≢true (sym (ap (λ (o : _). isDone (o .status)) (stopped c (recordWork c) e)) ∙ z))
+
+reading-flag : (c : Card) (found explain : Bool) (n : ℕ) (d : Card) (r : Reading) → Right c found
+    → Right (onReading r (faultReply c found n) (firstReply explain (recordOutcome d)) .card) (onReading r (faultReply c found n) (firstReply explain (recordOutcome d)) .sound)
+reading-flag c found explain n d (reading.Wrong why) h = h
+reading-flag c found explain n d reading.Fine h = record-flag d (sound d) refl
 
 -- a line
-orders-agree : (c : Card) (found explain : Bool) (n : ℕ) (s : List ℕ) (o : Order) → sound c ≡ found → saidBy (answerTo found c) c found explain n s o ≡ saidBy (step c) c found explain n s o
-orders-agree c found explain n s order.Nothing e = refl
-orders-agree c found explain n s (order.Fresh eid aid capacity quota used volatile) e = refl
-orders-agree c found explain n s (order.Command verdict bytes room) e = ap (told explain found) (answers-agree c found (Command verdict (bytesOf s bytes) room) e)
-orders-agree c found explain n s (order.Keyed aid) e = ap (told explain found) (answers-agree c found (Keyed (bytesOf s aid)) e)
-orders-agree c found explain n s (order.Stored aid k) e = ap (told explain found) (answers-agree c found (Stored (bytesOf s aid) k) e)
-orders-agree c found explain n s (order.Finished aid policy) e = ap (told explain found) (answers-agree c found (Finished (bytesOf s aid) policy) e)
-orders-agree c found explain n s order.Tick e = ap (told explain found) (answers-agree c found Tick e)
-orders-agree c found explain n s order.Lost e = ap (told explain found) (answers-agree c found Lost e)
-orders-agree c found explain n s order.Record e = refl
-orders-agree c found explain n s (order.Wrong reason) e = refl
+orders-agree : (c : Card) (found explain : Bool) (n : ℕ) (s : List ℕ) (o : Order) → Right c found → replyBy (answerTo found c) c found explain n s o ≡ replyBy (step c) c found explain n s o
+orders-agree c found explain n s order.Nothing h = refl
+orders-agree c found explain n s (order.Fresh eid aid capacity quota used volatile) h = refl
+orders-agree c found explain n s (order.Call x room) h = ap (replyOf explain found (bytesOf s (partIn x))) (answers-agree c found (callIn s room x) h)
+orders-agree c found explain n s (order.Record at) h = refl
+orders-agree c found explain n s (order.Wrong reason) h = refl
 
-order-flag : (c : Card) (found explain : Bool) (n : ℕ) (s : List ℕ) (o : Order) → sound c ≡ found → sound (saidBy (step c) c found explain n s o .card) ≡ saidBy (step c) c found explain n s o .sound
-order-flag c found explain n s order.Nothing e = e
-order-flag c found explain n s (order.Fresh eid aid capacity quota used volatile) e = fresh-flag (bytesOf s eid) (bytesOf s aid) capacity quota used volatile _ refl
-order-flag c found explain n s (order.Command verdict bytes room) e = call-flag c found (Command verdict (bytesOf s bytes) room) e
-order-flag c found explain n s (order.Keyed aid) e = call-flag c found (Keyed (bytesOf s aid)) e
-order-flag c found explain n s (order.Stored aid k) e = call-flag c found (Stored (bytesOf s aid) k) e
-order-flag c found explain n s (order.Finished aid policy) e = call-flag c found (Finished (bytesOf s aid) policy) e
-order-flag c found explain n s order.Tick e = call-flag c found Tick e
-order-flag c found explain n s order.Lost e = call-flag c found Lost e
-order-flag c found explain n s order.Record e = record-flag (recordOf s .card) _ refl
-order-flag c found explain n s (order.Wrong reason) e = e
+order-flag : (c : Card) (found explain : Bool) (n : ℕ) (s : List ℕ) (o : Order) → Right c found → Right (replyBy (step c) c found explain n s o .card) (replyBy (step c) c found explain n s o .sound)
+order-flag c found explain n s order.Nothing h = h
+order-flag c found explain n s (order.Fresh eid aid capacity quota used volatile) h = fresh-sound (bytesOf s eid) (bytesOf s aid) capacity quota used volatile
+order-flag c found explain n s (order.Call x room) h = λ z. step-sound c (callIn s room x) (h z)
+order-flag c found explain n s (order.Record at) h = reading-flag c found explain n (recordAt s at .card) (recordAt s at .reading) h
+order-flag c found explain n s (order.Wrong reason) h = h
 
-lines-agree : (c : Card) (found explain : Bool) (n : ℕ) (s : List ℕ) → sound c ≡ found → lineOf c found explain n s ≡ askedLine c found explain n s
+-- what is said, and the card, do not depend on the flag where every call asks
+record Alike (x y : Reply) : Type 0 where
+  same-text : x .text ≡ y .text
+  same-goes : x .goes ≡ y .goes
+  same-card : x .card ≡ y .card
+
+reading-alike : (c : Card) (found explain : Bool) (n : ℕ) (d : Card) (r : Reading)
+    → Alike (onReading r (faultReply c found n) (firstReply explain (recordOutcome d))) (onReading r (faultReply c false n) (firstReply explain (recordOutcome d)))
+reading-alike c found explain n d (reading.Wrong why) = record { same-text = refl; same-goes = refl; same-card = refl }
+reading-alike c found explain n d reading.Fine = record { same-text = refl; same-goes = refl; same-card = refl }
+
+order-alike : (c : Card) (found explain : Bool) (n : ℕ) (s : List ℕ) (o : Order) → Alike (replyBy (step c) c found explain n s o) (replyBy (step c) c false explain n s o)
+order-alike c found explain n s order.Nothing = record { same-text = refl; same-goes = refl; same-card = refl }
+order-alike c found explain n s (order.Fresh eid aid capacity quota used volatile) = record { same-text = refl; same-goes = refl; same-card = refl }
+order-alike c found explain n s (order.Call x room) = record { same-text = refl; same-goes = refl; same-card = refl }
+order-alike c found explain n s (order.Record at) = reading-alike c found explain n (recordAt s at .card) (recordAt s at .reading)
+order-alike c found explain n s (order.Wrong reason) = record { same-text = refl; same-goes = refl; same-card = refl }
+
+line-alike : (c : Card) (found explain : Bool) (n : ℕ) (s : List ℕ) → Right c found → Alike (lineOf c found explain n s) (askedLine c explain n s)
 unfolding lineOf askedLine
-lines-agree c found explain n s e = orders-agree c found explain n s (orderOf s) e
+line-alike c found explain n s h = rw (orders-agree c found explain n s (orderOf s) h) (order-alike c found explain n s (orderOf s))
 
-line-flag : (c : Card) (found explain : Bool) (n : ℕ) (s : List ℕ) → sound c ≡ found → sound (askedLine c found explain n s .card) ≡ askedLine c found explain n s .sound
-unfolding askedLine
-line-flag c found explain n s e = order-flag c found explain n s (orderOf s) e
+line-flag : (c : Card) (found explain : Bool) (n : ℕ) (s : List ℕ) → Right c found → Right (lineOf c found explain n s .card) (lineOf c found explain n s .sound)
+unfolding lineOf
+line-flag c found explain n s h = rw (orders-agree c found explain n s (orderOf s) h) (order-flag c found explain n s (orderOf s) h)
 
 -- a script
-scripts-agree : (c : Card) (found explain : Bool) (n : ℕ) (lines : List (List ℕ)) → sound c ≡ found → scriptBy lineOf c found explain n lines ≡ scriptBy askedLine c found explain n lines
-unfolding scriptBy
-scripts-agree c found explain n [] e = refl
-scripts-agree c found explain n (s ∷ rest) e =
-    let x = askedLine c found explain n s in
-    rw (lines-agree c found explain n s e)
-    (ap (λ (t : List ℕ). x .text ++ cond (x .goes) t []) (scripts-agree (x .card) (x .sound) explain (suc n) rest (line-flag c found explain n s e)))
+scripts-agree : (keep : ℕ → Bool) (c : Card) (found explain : Bool) (n : ℕ) (lines : List (List ℕ)) → Right c found → scriptOf keep c found explain n lines ≡ askedScript c explain n lines
+unfolding scriptOf askedScript
+scripts-agree keep c found explain n [] h = refl
+scripts-agree keep c found explain n (s ∷ rest) h =
+    let k : Right c (keep n && found) = λ z. h (and-r (keep n) found z) in
+    let x = lineOf c (keep n && found) explain n s in
+    let e = line-alike c (keep n && found) explain n s k in
+    ap (λ (t : List ℕ). x .text ++ cond (x .goes) t []) (scripts-agree keep (x .card) (x .sound) explain (suc n) rest (line-flag c (keep n && found) explain n s k))
+    ∙ rw (e .same-text, e .same-goes, e .same-card)
 
 pub asked-once : AskedOnce
-asked-once explain lines = scripts-agree zeroCard false explain 1 lines zero-unsound
+asked-once keep explain lines = scripts-agree keep zeroCard false explain 1 lines (λ z. absurd (false≢true z))

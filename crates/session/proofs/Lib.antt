@@ -1,5 +1,6 @@
--- Laws that several proofs cite: words of a line, the bytes they spell, outcomes without a response; and the theorem `asked-once`.
-pub mod Words
+-- Laws that several proofs cite: the bytes that a line spells and a call's response in the buffers lent, outcomes without a response,
+-- how long a fault's text is; and the theorem `asked-once`.
+pub mod FaultLengths
 pub mod Spelled
 pub mod Silent
 pub mod Asked

@@ -1,95 +1,119 @@
--- What is written to the front of a buffer is read back from it whole: the bytes of a word fit in the buffer for a line, and a
--- response in the one lent to the command, as the manager promises. Assumes nothing.
+-- What is written to the front of a buffer is read back from it whole: the bytes of a word fit in the buffer lent for them, and a
+-- response in the one lent to the call, as the manager promises. Assumes nothing.
 use Prim.Native.Nat.{ℕ, _+_, _*_, _≤_}
 use mathlib.Core.Path.{_≡_, sym, ap, _∙_, subst}
-use mathlib.Core.List.{List, _++_}
+use mathlib.Core.List.{List, _++_, append-assoc}
 use mathlib.Core.Bool.{Bool, true}
 use native.Mathlib.Omega.{arith}
-use lib.ListN.{length, take, drop, length-append}
-use lib.Seq.{take-append-seam, take-append-le}
+use lib.ListN.{length, take, drop, take-append-drop}
+use lib.Seq.{take-append-seam, take-append-le, drop-append-le, length-take-le}
 use Rattle.choice.proofs.Branches.{by-lt}
-use Rattle.text.specs.Put.{put, Wrote}
-use Rattle.text.specs.Words.{part}
+use Rattle.byte_string.specs.Put.{put, Wrote}
 use Rattle.text.specs.Hex.{spelled, spelledIn}
-use Rattle.text.proofs.PutLaws.{put-front, length-put, wrote-as}
-use Rattle.card.specs.Answers.{Outcome, handed, known}
+use Rattle.byte_string.proofs.PutLaws.{put-front, length-put, wrote-as}
+use Rattle.card.specs.Answers.{Outcome, handed}
 use Rattle.card.specs.declared.Card.{Card}
 use Rattle.card.specs.declared.Answer.{Answer}
-use Rattle.manager.specs.Calls.{Call.Command}
-use Rattle.manager.specs.Manager.{work, Served}
+use Rattle.byte_string.specs.declared.Part.{Part}
+use Rattle.byte_string.specs.Bytes.{partOf}
+use Rattle.manager.specs.Calls.{callOf}
+use Rattle.manager.specs.Manager.{Served}
+use Rattle.manager.specs.declared.Call as declared
 use Rattle.answers.specs.Explained.{mostExplained}
-use Rattle.script.specs.declared.arguments.Span.{Span}
-use Rattle.session.specs.Session.{mostBytes, bytesOf, spoken, told, mostText, Spoke}
+use Rattle.session.specs.Session.{mostBytes, mostRoom, bytesOf, partIn, laid, callIn, answerText, replyOf, answerTo, mostText, Replied}
 use Rattle.session.specs.declared.Turn.{Turn}
 
 -- read back, from the buffer itself and from a longer one that it is the front of
-pub taken-put : (l vs : List ℕ) → length vs ≤ length l → take (length vs) (put l 0 vs) ≡ vs
+taken-put : (l vs : List ℕ) → length vs ≤ length l → take (length vs) (put l 0 vs) ≡ vs
 taken-put l vs h = ap (take (length vs)) (put-front l vs h) ∙ take-append-seam vs (drop (length vs) l)
 
-pub taken-front : (l vs rest : List ℕ) → length vs ≤ length l → take (length vs) (put l 0 vs ++ rest) ≡ vs
+taken-front : (l vs rest : List ℕ) → length vs ≤ length l → take (length vs) (put l 0 vs ++ rest) ≡ vs
 taken-front l vs rest h =
     let k : length vs ≤ length (put l 0 vs) = rw (length-put l 0 vs) h in
     take-append-le (length vs) (put l 0 vs) rest k ∙ taken-put l vs h
 
--- the bytes that a word spells
+-- written to the front of a buffer, or to the front of its front
+front-put : (l vs : List ℕ) (n : ℕ) → n ≤ length l → length vs ≤ n → put (take n l) 0 vs ++ drop n l ≡ put l 0 vs
+front-put l vs n h k =
+    let m = length-take-le n l h in
+    let i : length vs ≤ length (take n l) = omega arith in
+    let j : length vs ≤ length l = omega arith in
+    ap (λ (x : List ℕ). x ++ drop n l) (put-front (take n l) vs i)
+    ∙ append-assoc vs (drop (length vs) (take n l)) (drop n l)
+    ∙ ap (λ (x : List ℕ). vs ++ x) (sym (drop-append-le (length vs) (take n l) (drop n l) i) ∙ ap (drop (length vs)) (take-append-drop n l))
+    ∙ sym (put-front l vs j)
+
+-- the bytes that a part of the line spells
 in-fits : (w : List ℕ) (room : ℕ) → length (spelledIn w room) ≤ room
 in-fits w room = by-lt (λ (x : List ℕ). length x ≤ room) room (length (spelled w)) (λ k. omega arith) (λ k. omega arith)
 
-pub bytes-fit : (s : List ℕ) (span : Span) → length (bytesOf s span) ≤ mostBytes
-bytes-fit s span = in-fits (part s (span .from) (span .to)) mostBytes
+bytes-fit : (s : List ℕ) (p : Part) → length (bytesOf s p) ≤ mostBytes
+bytes-fit s p = in-fits (partOf s p) mostBytes
 
--- a word's bytes, in a buffer for a line: the slice of so many bytes can be taken, has that size, and is the word's bytes
-module _ (s : List ℕ) (span : Span) (l : List ℕ) {m : List ℕ} {n : ℕ}
-    (e : (n ≡ length (bytesOf s span)) × (m ≡ put l 0 (bytesOf s span))) (size : length l ≡ mostBytes) where
+-- in a buffer for a line: the slice of so many bytes can be taken, has that size, and is those bytes
+module _ (s : List ℕ) (p : Part) (l : List ℕ) {m : List ℕ} {n : ℕ}
+    (e : (n ≡ length (bytesOf s p)) × (m ≡ put l 0 (bytesOf s p))) (size : length l ≡ mostBytes) where
   pub word-fits : n ≤ length m
-  word-fits = rw (e .0, e .1, length-put l 0 (bytesOf s span), size) (bytes-fit s span)
+  word-fits = rw (e .0, e .1, length-put l 0 (bytesOf s p), size) (bytes-fit s p)
 
-  pub word-is : take n m ≡ bytesOf s span
-  word-is = rw (e .0, e .1) (taken-put l (bytesOf s span) (rw size (bytes-fit s span)))
+  pub word-is : take n m ≡ bytesOf s p
+  word-is = rw (e .0, e .1) (taken-put l (bytesOf s p) (rw size (bytes-fit s p)))
 
   pub word-size : n ≡ length (take n m)
   word-size = e .0 ∙ sym (ap length word-is)
 
--- the same for a command's response, in a buffer whose first bytes were lent
-module _ (c : Card) (verdict : ℕ) (s : List ℕ) (room : ℕ) {t l new : List ℕ} {r : Answer}
-    (h : Served l (known c (work c (Command verdict t (length l)))) r new) (same : t ≡ s) (size : length l ≡ room) where
-  as-asked : known c (work c (Command verdict t (length l))) ≡ known c (work c (Command verdict s room))
-  as-asked = ap (λ (x : List ℕ). known c (work c (Command verdict x (length l)))) same ∙ ap (λ (k : ℕ). known c (work c (Command verdict s k))) size
+-- a call over those bytes, and its response in the first bytes of the buffer lent
+module _ (found : Bool) (c : Card) (s : List ℕ) (x : declared.Call) (room : ℕ) (old : List ℕ) {t new : List ℕ} {n : ℕ} {y : declared.Call} {r : Answer}
+    (h : Served (take room old) (answerTo found c (callOf t (length (take room old)) y)) r new) (over : y ≡ laid n x)
+    (same : t ≡ bytesOf s (partIn x)) (count : n ≡ length (bytesOf s (partIn x))) (size : length old ≡ mostRoom) (small : room ≤ mostRoom) where
+  lent : length (take room old) ≡ room
+  lent = length-take-le room old (omega arith)
 
-  pub answer-is : r ≡ handed (known c (work c (Command verdict s room)))
+  as-asked : answerTo found c (callOf t (length (take room old)) y) ≡ answerTo found c (callIn s room x)
+  as-asked = rw (over, same, count, lent)
+
+  pub answer-is : r ≡ handed (answerTo found c (callIn s room x))
   answer-is = h .0 .answer ∙ ap handed as-asked
 
-  module _ (rest : List ℕ) where
-    pub response-is : take (r .length) (new ++ rest) ≡ known c (work c (Command verdict s room)) .response
-    response-is =
-        let o : Outcome = known c (work c (Command verdict t (length l))) in
-        let fits : length (o .response) ≤ length l = rw (h .0 .answer) at (h .1) in
-        ap (λ (a : Answer). take (a .length) (new ++ rest)) (h .0 .answer)
-        ∙ ap (λ (x : List ℕ). take (length (o .response)) (x ++ rest)) (h .0 .content)
-        ∙ taken-front l (o .response) rest fits
-        ∙ ap (λ (x : Outcome). x .response) as-asked
+  fits : length (answerTo found c (callIn s room x) .response) ≤ room
+  fits = let k = h .1 in let e = ap (λ (a : Answer). a .length) answer-is in let m = lent in omega arith
 
-    pub response-size : r .length ≡ length (take (r .length) (new ++ rest))
-    response-size = ap (λ (a : Answer). a .length) answer-is ∙ sym (ap length response-is)
+  new-is : new ≡ put (take room old) 0 (answerTo found c (callIn s room x) .response)
+  new-is = h .0 .content ∙ ap (λ (o : Outcome). put (take room old) 0 (o .response)) as-asked
 
-    pub response-fits : r .length ≤ length (new ++ rest)
-    response-fits =
-        let b : length new ≡ length l = ap length (h .0 .content) ∙ length-put l 0 _ in
-        let k = h .1 in
-        rw (length-append new rest) (omega arith)
+  pub response-left : new ++ drop room old ≡ put old 0 (answerTo found c (callIn s room x) .response)
+  response-left =
+      ap (λ (y : List ℕ). y ++ drop room old) new-is
+      ∙ front-put old (answerTo found c (callIn s room x) .response) room (omega arith) fits
 
-    -- so that its line is within the longest
-    pub text-short : room ≤ 1024 → (long : ℕ) → long ≤ length (take (r .length) (new ++ rest)) * 2 + mostExplained → long ≤ mostText
-    text-short small long k =
-        let n = response-size in
-        let m = h .1 in
-        omega arith
+  pub response-is : take (r .length) (new ++ drop room old) ≡ answerTo found c (callIn s room x) .response
+  response-is =
+      ap (λ (a : Answer). take (a .length) (new ++ drop room old)) answer-is
+      ∙ ap (take (length (answerTo found c (callIn s room x) .response))) response-left
+      ∙ taken-put old (answerTo found c (callIn s room x) .response) (let k = fits in omega arith)
 
--- what was spoken is what the outcome is told as
-pub spoke-told : {old new rsp : List ℕ} {at : ℕ} {r : Turn} {a : Answer} (explain found : Bool) (o : Outcome) → a ≡ handed o → rsp ≡ o .response → r .card ≡ a .card
-    → r .sound ≡ found → r .goes ≡ true → Wrote old at (spoken explain a rsp) (r .filled) new → length (spoken explain a rsp) ≤ mostText → Spoke old at (told explain found o) r new
-spoke-told {rsp = rsp} explain found o e f p q g w k =
-    let z = ap (λ (x : Answer). spoken explain x rsp) e ∙ ap (spoken explain (handed o)) f in
+  pub response-size : r .length ≡ length (take (r .length) (new ++ drop room old))
+  response-size = ap (λ (a : Answer). a .length) answer-is ∙ sym (ap length response-is)
+
+  pub response-fits : r .length ≤ length (new ++ drop room old)
+  response-fits =
+      let e = ap (λ (a : Answer). a .length) answer-is in
+      let k = fits in
+      rw (response-left, length-put old 0 (answerTo found c (callIn s room x) .response)) (omega arith)
+
+  -- so that its line is within the longest
+  pub text-short : (long : ℕ) → long ≤ length (take (r .length) (new ++ drop room old)) * 2 + mostExplained → long ≤ mostText
+  text-short long k =
+      let n = response-size in
+      let e = ap (λ (a : Answer). a .length) answer-is in
+      let f = fits in
+      omega arith
+
+-- what was written is the outcome's reply
+pub replied : {old new rsp : List ℕ} {at : ℕ} {r : Turn} {a : Answer} (explain found : Bool) (bytes : List ℕ) (o : Outcome) → a ≡ handed o → rsp ≡ o .response → r .card ≡ a .card
+    → r .sound ≡ found → r .goes ≡ true → Wrote old at (answerText explain a rsp) (r .filled) new → length (answerText explain a rsp) ≤ mostText → Replied old at (replyOf explain found bytes o) r new
+replied {rsp = rsp} explain found bytes o e f p q g w k =
+    let z = ap (λ (x : Answer). answerText explain x rsp) e ∙ ap (answerText explain (handed o)) f in
     record {
       same-card = p ∙ ap (λ (x : Answer). x .card) e;
       same-sound = q;

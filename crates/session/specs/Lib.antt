@@ -1,2 +1,3 @@
 -- What a line of a script makes of a card, and the text that answers it.
+pub mod Reasons
 pub mod Session

@@ -3,129 +3,173 @@
 use Prim.Native.Nat.{ℕ, suc, _+_, _*_, _≤_}
 use mathlib.Core.Path.{_≡_}
 use mathlib.Core.List.{List, [], _∷_, _++_}
-use mathlib.Core.Bool.{Bool, true, false, cond}
+use mathlib.Core.Bool.{Bool, true, false, cond, _&&_}
 use lib.ListN.{length}
-use Rattle.text.specs.Words.{part}
 use Rattle.text.specs.Hex.{spelledIn}
-use Rattle.text.specs.Put.{Wrote}
+use Rattle.byte_string.specs.Put.{put, Wrote}
 use Rattle.status.specs.StatusWords.{isDone}
-use Rattle.status.specs.declared.Status.the-variants.{Unsound}
+use Rattle.status.specs.declared.Status.the-variants.{Done}
 use Rattle.isdp.specs.Aids.{noAid}
 use Rattle.card.specs.Steps.{stepTo}
-use Rattle.card.specs.Answers.{Outcome, handed, outcome, known, refusedAt}
+use Rattle.card.specs.Answers.{Outcome, Work, handed, outcome}
 use Rattle.card.specs.Fresh.{zeroCard, freshOutcome}
 use Rattle.card.specs.declared.Card.{Card}
 use Rattle.card.specs.declared.Answer.{Answer}
-use Rattle.manager.specs.Calls.{Call, Call.Command, Call.Keyed, Call.Stored, Call.Finished, Call.Tick, Call.Lost}
-use Rattle.manager.specs.Manager.{work, step}
+use Rattle.byte_string.specs.declared.Part.{Part}
+use Rattle.byte_string.specs.Bytes.{partOf}
+use Rattle.manager.specs.Calls.{Call, callOf}
+use Rattle.manager.specs.Manager.{step, onSound}
+use Rattle.manager.specs.declared.Call as declared
+use Rattle.manager.specs.declared.Call.the-variants as code
 use Rattle.script.specs.Orders.{orderOf}
-use Rattle.script.specs.Records.{recordOf}
-use Rattle.script.specs.declared.arguments.Span.{Span}
+use Rattle.script.specs.Records.{onReading, recordAt}
 use Rattle.script.specs.declared.arguments.Reason.{Reason}
 use Rattle.script.specs.declared.orders.Order.{Order}
 use Rattle.script.specs.declared.orders.Order.the-variants as order
-use Rattle.answers.specs.Lines.{answerLine, reasonLine}
+use Rattle.answers.specs.Lines.{answerLine}
 use Rattle.answers.specs.Explained.{explainedText, mostExplained}
+use Rattle.session.specs.Reasons.{reasonLine}
 use Rattle.session.specs.declared.Turn.{Turn}
 
 -- a byte string of a line has at most so many bytes: two digits each, in a line of 4,096
 abbrev pub mostBytes : ℕ
 mostBytes = 2048
 
--- the bytes that a word of the line spells, once the line's order was read: its words are hex then
-abbrev pub bytesOf : List ℕ → Span → List ℕ
-bytesOf s span = spelledIn (part s (span .from) (span .to)) mostBytes
+-- the largest response buffer that a line may ask for
+abbrev pub mostRoom : ℕ
+mostRoom = 1024
+
+-- the bytes that a part of the line spells, once the line's order was read: its words are hex then
+abbrev pub bytesOf : List ℕ → Part → List ℕ
+bytesOf s p = spelledIn (partOf s p) mostBytes
+
+-- the part that a call names; two calls name none
+abbrev pub partIn : declared.Call → Part
+partIn (code.Command verdict bytes) = bytes
+partIn (code.Keyed aid) = aid
+partIn (code.Stored aid n) = aid
+partIn (code.Finished aid policy) = aid
+partIn code.Tick = record { start = 0; len = 0 }
+partIn code.Lost = record { start = 0; len = 0 }
+
+-- the same call over the first n bytes of a buffer
+abbrev pub laid : ℕ → declared.Call → declared.Call
+laid n (code.Command verdict bytes) = code.Command verdict (record { start = 0; len = n })
+laid n (code.Keyed aid) = code.Keyed (record { start = 0; len = n })
+laid n (code.Stored aid k) = code.Stored (record { start = 0; len = n }) k
+laid n (code.Finished aid policy) = code.Finished (record { start = 0; len = n }) policy
+laid n code.Tick = code.Tick
+laid n code.Lost = code.Lost
+
+-- the call that a line asks for: over the bytes that its word spells
+abbrev pub callIn : List ℕ → ℕ → declared.Call → Call
+callIn s room x = callOf (bytesOf s (partIn x)) room (laid (length (bytesOf s (partIn x))) x)
 
 -- `card` hands in any record: 6F 00 where it is not sound, else 90 00 and its ticks
-abbrev pub handedIn : Card → Outcome
-handedIn c = outcome c (record { rows = []; step = stepTo c c noAid; response = [] })
+abbrev pub recordWork : Card → Work
+recordWork c = record { rows = []; success = Done; step = stepTo c c noAid; response = [] }
 
--- what a line comes to: the card and whether it is sound, the text, and whether the run goes on
-pub record Said : Type 0 where
+abbrev pub recordOutcome : Card → Outcome
+recordOutcome c = outcome c (recordWork c)
+
+-- what a line comes to: the card and whether it is known to be sound, the text, whether the run goes on, and what is left at the front
+-- of the two buffers that are lent for a call's bytes and its response
+pub record Reply : Type 0 where
   pub card : Card
   pub sound : Bool
   pub text : List ℕ
   pub goes : Bool
+  pub bytes : List ℕ
+  pub response : List ℕ
 
--- one line, or for a person
-abbrev pub spoken : Bool → Answer → List ℕ → List ℕ
-spoken explain a response = cond explain (explainedText a response) (answerLine a response)
+-- an answer on one line, or for a person
+abbrev pub answerText : Bool → Answer → List ℕ → List ℕ
+answerText explain a response = cond explain (explainedText a response) (answerLine a response)
 
-abbrev pub told : Bool → Bool → Outcome → Said
-told explain found o = record { card = o .card; sound = found; text = spoken explain (handed o) (o .response); goes = true }
+-- the reply of an outcome; `bytes` were spelled for it
+abbrev pub replyOf : Bool → Bool → List ℕ → Outcome → Reply
+replyOf explain found bytes o =
+    record {
+      card = o .card;
+      sound = found;
+      text = answerText explain (handed o) (o .response);
+      goes = true;
+      bytes = bytes;
+      response = o .response;
+    }
 
--- a call that hands in a card: sound exactly where it is accepted
-abbrev pub toldFirst : Bool → Outcome → Said
-toldFirst explain o = told explain (isDone (o .status)) o
+-- of a call that hands in a card: sound exactly where it is accepted
+abbrev pub firstReply : Bool → Outcome → Reply
+firstReply explain o = replyOf explain (isDone (o .status)) [] o
 
-abbrev pub faulty : Card → Bool → ℕ → Reason → Said
-faulty c found n reason = record { card = c; sound = found; text = reasonLine n reason; goes = false }
+-- nothing is said, or a fault, and the card stays
+abbrev pub silentReply : Card → Bool → Reply
+silentReply c found = record { card = c; sound = found; text = []; goes = true; bytes = []; response = [] }
 
--- what an order comes to where `answer` answers the calls on the card; `found` says whether the card was found sound
-abbrev pub saidBy : (Call → Outcome) → Card → Bool → Bool → ℕ → List ℕ → Order → Said
-saidBy answer c found explain n s order.Nothing = record { card = c; sound = found; text = []; goes = true }
-saidBy answer c found explain n s (order.Fresh eid aid capacity quota used volatile) =
-    toldFirst explain (freshOutcome (bytesOf s eid) (bytesOf s aid) capacity quota used volatile)
-saidBy answer c found explain n s (order.Command verdict bytes room) = told explain found (answer (Command verdict (bytesOf s bytes) room))
-saidBy answer c found explain n s (order.Keyed aid) = told explain found (answer (Keyed (bytesOf s aid)))
-saidBy answer c found explain n s (order.Stored aid k) = told explain found (answer (Stored (bytesOf s aid) k))
-saidBy answer c found explain n s (order.Finished aid policy) = told explain found (answer (Finished (bytesOf s aid) policy))
-saidBy answer c found explain n s order.Tick = told explain found (answer Tick)
-saidBy answer c found explain n s order.Lost = told explain found (answer Lost)
-saidBy answer c found explain n s order.Record = toldFirst explain (handedIn (recordOf s .card))
-saidBy answer c found explain n s (order.Wrong reason) = faulty c found n reason
+abbrev pub faultReply : Card → Bool → ℕ → Reason → Reply
+faultReply c found n reason = record { card = c; sound = found; text = reasonLine n reason; goes = false; bytes = []; response = [] }
 
--- the orders that are calls on the card
-abbrev pub isCall : Order → Bool
-isCall order.Nothing = false
-isCall (order.Fresh eid aid capacity quota used volatile) = false
-isCall (order.Command verdict bytes room) = true
-isCall (order.Keyed aid) = true
-isCall (order.Stored aid n) = true
-isCall (order.Finished aid policy) = true
-isCall order.Tick = true
-isCall order.Lost = true
-isCall order.Record = false
-isCall (order.Wrong reason) = false
+-- what an order comes to where `answer` answers the calls on the card; `found` says whether the card is known to be sound
+abbrev pub replyBy : (Call → Outcome) → Card → Bool → Bool → ℕ → List ℕ → Order → Reply
+replyBy answer c found explain n s order.Nothing = silentReply c found
+replyBy answer c found explain n s (order.Fresh eid aid capacity quota used volatile) =
+    firstReply explain (freshOutcome (bytesOf s eid) (bytesOf s aid) capacity quota used volatile)
+replyBy answer c found explain n s (order.Call x room) = replyOf explain found (bytesOf s (partIn x)) (answer (callIn s room x))
+replyBy answer c found explain n s (order.Record at) =
+    onReading (recordAt s at .reading) (faultReply c found n) (firstReply explain (recordOutcome (recordAt s at .card)))
+replyBy answer c found explain n s (order.Wrong reason) = faultReply c found n reason
 
--- a call on a card that was found sound, or was not
+-- a call on a card known to be sound, or on one that has to be asked
 abbrev pub answerTo : Bool → Card → Call → Outcome
-answerTo found c call = cond found (known c (work c call)) (refusedAt 0 c Unsound)
+answerTo found c call = cond found (onSound c call) (step c call)
 
 -- line n of a script, on a card
-unfoldable pub lineOf : Card → Bool → Bool → ℕ → List ℕ → Said
-lineOf c found explain n s = saidBy (answerTo found c) c found explain n s (orderOf s)
+unfoldable pub lineOf : Card → Bool → Bool → ℕ → List ℕ → Reply
+lineOf c found explain n s = replyBy (answerTo found c) c found explain n s (orderOf s)
 
--- the same with the manager asked at every call, which asks each time whether the card is sound
-unfoldable pub askedLine : Card → Bool → Bool → ℕ → List ℕ → Said
-askedLine c found explain n s = saidBy (step c) c found explain n s (orderOf s)
-
--- what a script is answered, line by line from line n on; a line that cannot be read ends it
-unfoldable pub scriptBy : (Card → Bool → Bool → ℕ → List ℕ → Said) → Card → Bool → Bool → ℕ → List (List ℕ) → List ℕ
-scriptBy line c found explain n [] = []
-scriptBy line c found explain n (s ∷ rest) =
-    line c found explain n s .text
-    ++ cond (line c found explain n s .goes)
-    (scriptBy line (line c found explain n s .card) (line c found explain n s .sound) explain (suc n) rest)
+-- what a script is answered, line by line from line n on; a line that cannot be read ends it. Before line n what is known of the
+-- card's soundness may be forgotten: `keep n` says whether it is kept.
+unfoldable pub scriptOf : (ℕ → Bool) → Card → Bool → Bool → ℕ → List (List ℕ) → List ℕ
+scriptOf keep c found explain n [] = []
+scriptOf keep c found explain n (s ∷ rest) =
+    lineOf c (keep n && found) explain n s .text
+    ++ cond (lineOf c (keep n && found) explain n s .goes)
+    (scriptOf keep (lineOf c (keep n && found) explain n s .card) (lineOf c (keep n && found) explain n s .sound) explain (suc n) rest)
     []
+
+-- the same with nothing kept: the manager is asked at every call, and asks each time whether the card is sound
+unfoldable pub askedLine : Card → Bool → ℕ → List ℕ → Reply
+askedLine c explain n s = replyBy (step c) c false explain n s (orderOf s)
+
+unfoldable pub askedScript : Card → Bool → ℕ → List (List ℕ) → List ℕ
+askedScript c explain n [] = []
+askedScript c explain n (s ∷ rest) =
+    askedLine c explain n s .text
+    ++ cond (askedLine c explain n s .goes) (askedScript (askedLine c explain n s .card) explain (suc n) rest) []
 
 -- "Calls before the first accepted `fresh` or `card` act on the record of zeros", which is not sound
 abbrev pub firstTurn : Turn
 firstTurn = record { card = zeroCard; sound = false; filled = 0; goes = true }
 
--- every script is answered as if soundness were asked at every call
+-- every script is answered as if soundness were asked at every call, wherever it is kept and wherever it is forgotten
 abbrev pub AskedOnce : Type 0
 AskedOnce =
-    (explain : Bool) (lines : List (List ℕ)) → scriptBy lineOf zeroCard false explain 1 lines ≡ scriptBy askedLine zeroCard false explain 1 lines
+    (keep : ℕ → Bool) (explain : Bool) (lines : List (List ℕ)) →
+    scriptOf keep zeroCard false explain 1 lines ≡ askedScript zeroCard explain 1 lines
 
 -- no text of a line is longer: two digits for each byte of the largest response buffer, and what stands beside them
 abbrev pub mostText : ℕ
-mostText = 1024 * 2 + mostExplained
+mostText = mostRoom * 2 + mostExplained
 
 -- a line as the code hands it out: the text stands in the lent buffer from `at` on
-pub record Spoke (old : List ℕ) (at : ℕ) (x : Said) (r : Turn) (new : List ℕ) : Type 0 where
+pub record Replied (old : List ℕ) (at : ℕ) (x : Reply) (r : Turn) (new : List ℕ) : Type 0 where
   pub same-card : r .card ≡ x .card
   pub same-sound : r .sound ≡ x .sound
   pub same-goes : r .goes ≡ x .goes
   pub wrote : Wrote old at (x .text) (r .filled) new
   pub short : length (x .text) ≤ mostText
+
+-- the two buffers as the line leaves them
+pub record Used (bytes response : List ℕ) (x : Reply) (bytes₁ response₁ : List ℕ) : Type 0 where
+  pub left-bytes : bytes₁ ≡ put bytes 0 (x .bytes)
+  pub left-response : response₁ ≡ put response 0 (x .response)

@@ -1,35 +1,41 @@
 // A session with a script: a line in, its answer out. Nothing here reads or writes a file.
 // A line that cannot be read stops the run; every other line is answered, whatever it asks.
+mod reasons;
+
 use answers::write_answer;
 use answers::write_explained;
-use answers::write_reason;
+use byte_string::Part;
+use byte_string::part_of;
 use card::Answer;
 use card::Card;
 use isdp::Aid;
+use manager::Call;
+use reasons::write_reason;
 use script::Order;
+use script::Reading;
 use script::Reason;
-use script::Span;
 use script::read_line;
-use script::read_record;
+use script::record_at;
+use status::Status;
 use text::spell_hex;
 ghost use mathlib.Core.Path.{_≡_};
 ghost use mathlib.Core.Bool.{true};
 ghost use mathlib.Core.List.{[]};
 ghost use Prim.Native.Nat.{_+_, _*_, _≤_};
 ghost use lib.ListN.{length};
-ghost use Rattle.text.specs.Words.{part};
-ghost use Rattle.text.specs.Put.{put, Wrote};
+ghost use Rattle.byte_string.specs.Put.{put, Wrote};
 ghost use Rattle.status.specs.StatusWords.{isDone};
-ghost use Rattle.card.specs.Answers.{handed, known};
+ghost use Rattle.card.specs.Answers.{handed};
 ghost use Rattle.card.specs.Fresh.{freshOutcome};
-ghost use Rattle.manager.specs.Calls.{Call.Command, Call.Keyed, Call.Stored, Call.Finished};
-ghost use Rattle.manager.specs.Manager.{work};
-ghost use Rattle.script.specs.Records.{recordOf};
+ghost use Rattle.manager.specs.Calls.{callOf};
+ghost use Rattle.manager.specs.Manager.{Served};
+ghost use Rattle.script.specs.Records.{onReading, recordAt};
 ghost use Rattle.answers.specs.Explained.{mostExplained};
-ghost use Rattle.session.specs.Session.{bytesOf, handedIn, isCall, spoken, told, faulty, firstTurn, lineOf, mostText, Spoke};
+ghost use Rattle.session.specs.Session.{mostBytes, mostRoom, bytesOf, partIn, laid, callIn, recordOutcome, answerText, replyOf, firstReply, silentReply, faultReply, answerTo, firstTurn, lineOf, mostText, Replied, Used};
 
-// Where a session stands: its card, whether that card is sound, up to where the lent buffer is filled, and whether the run goes on.
-// Soundness is asked where a card is handed in, and kept: every call leaves a sound card sound.
+// Where a session stands: its card, whether that card is known to be sound, up to where the lent buffer is filled, and whether the run
+// goes on. Soundness is asked where a card is handed in, and kept: every call leaves a sound card sound. Where it is not known, each
+// call asks for itself.
 pub struct Turn {
     pub card: Card,
     pub sound: bool,
@@ -53,65 +59,55 @@ impl Turn {
 }
 
 // A byte string of a line has at most so many bytes.
-const MOST: usize = 2048;
+pub const MOST: usize = 2048;
 
 // The largest response buffer that a line may ask for.
-const ROOM: usize = 1024;
+pub const ROOM: usize = 1024;
 
-// The word of the line that a span names.
-fn word_at(s: &[u8], span: Span) -> &[u8]
-    ensures { λ r. ⌜ now r ≡ part (now (s .entry)) (span .from) (span .to) ⌝ }
+// The bytes that a part of the line spells, and how many there are.
+fn spell(s: &[u8], part: Part, out: &mut [u8]) -> usize
+    requires { ⌜ length (now out) ≡ mostBytes ⌝ }
+    ensures { λ r. ⌜ (r ≡ length (bytesOf (now (s .entry)) part)) × (now (out .exit) ≡ put (now (out .entry)) 0 (bytesOf (now (s .entry)) part)) ⌝ }
 {
-    let size = s.len();
-    let from = span.from;
-    let to = span.to;
-    if from > to {
-        return &s[size..];
+    spell_hex(part_of(s, part), out)
+}
+
+// The part that a call names; a tick and a lost network name none.
+fn part_in(call: Call) -> Part
+    ensures { λ r. ⌜ r ≡ partIn call ⌝ }
+{
+    match call {
+        Call::Command { bytes, .. } => bytes,
+        Call::Keyed(aid) => aid,
+        Call::Stored { aid, .. } => aid,
+        Call::Finished { aid, .. } => aid,
+        Call::Tick => Part { start: 0, len: 0 },
+        Call::Lost => Part { start: 0, len: 0 },
     }
-    if from > size {
-        return &s[size..];
+}
+
+// The same call over the first bytes of a buffer.
+fn laid(n: usize, call: Call) -> Call
+    ensures { λ r. ⌜ r ≡ laid n call ⌝ }
+{
+    let front = Part { start: 0, len: n };
+    match call {
+        Call::Command { verdict, .. } => Call::Command {
+            verdict,
+            bytes: front,
+        },
+        Call::Keyed(_) => Call::Keyed(front),
+        Call::Stored { n, .. } => Call::Stored { aid: front, n },
+        Call::Finished { policy, .. } => Call::Finished { aid: front, policy },
+        Call::Tick => Call::Tick,
+        Call::Lost => Call::Lost,
     }
-    if to > size {
-        return &s[from..];
-    }
-    &s[from..to]
-}
-
-// The bytes that a word spells, and how many there are.
-fn spell(s: &[u8], span: Span, out: &mut [u8; MOST]) -> usize
-    ensures { λ r. ⌜ (r ≡ length (bytesOf (now (s .entry)) span)) × (now (out .exit) ≡ put (now (out .entry)) 0 (bytesOf (now (s .entry)) span)) ⌝ }
-{
-    spell_hex(word_at(s, span), out)
-}
-
-fn keyed(card: Card, s: &[u8], span: Span) -> Answer
-    ensures { λ r. ⌜ r ≡ handed (known card (work card (Keyed (bytesOf (now (s .entry)) span)))) ⌝ }
-{
-    let mut aid = [0u8; MOST];
-    let n = spell(s, span, &mut aid);
-    manager::known_keyed(card, &aid[..n])
-}
-
-fn stored(card: Card, s: &[u8], span: Span, count: u32) -> Answer
-    ensures { λ r. ⌜ r ≡ handed (known card (work card (Stored (bytesOf (now (s .entry)) span) count))) ⌝ }
-{
-    let mut aid = [0u8; MOST];
-    let n = spell(s, span, &mut aid);
-    manager::known_stored(card, &aid[..n], count)
-}
-
-fn finished(card: Card, s: &[u8], span: Span, policy: u8) -> Answer
-    ensures { λ r. ⌜ r ≡ handed (known card (work card (Finished (bytesOf (now (s .entry)) span) policy))) ⌝ }
-{
-    let mut aid = [0u8; MOST];
-    let n = spell(s, span, &mut aid);
-    manager::known_finished(card, &aid[..n], policy)
 }
 
 fn fresh(
     s: &[u8],
-    eid: Span,
-    aid: Span,
+    eid: Part,
+    aid: Part,
     capacity: u32,
     quota: u32,
     used: u32,
@@ -127,26 +123,19 @@ fn fresh(
 }
 
 // Any record, handed in as the card.
-fn handed_in(card: Card) -> Answer
-    ensures { λ r. ⌜ r ≡ handed (handedIn card) ⌝ }
+fn hand_in(card: Card) -> Answer
+    ensures { λ r. ⌜ r ≡ handed (recordOutcome card) ⌝ }
 {
     if !card.is_sound() {
         return card.unsound();
     }
-    card.step_to(card, Aid::none()).answer(0)
-}
-
-fn record_in(s: &[u8]) -> Answer
-    ensures { λ r. ⌜ r ≡ handed (handedIn (recordOf (now (s .entry)) .card)) ⌝ }
-{
-    let record = read_record(s);
-    let given = record.card;
-    handed_in(given)
+    card.step_since(card.last, Aid::none())
+        .answer(Status::Done, 0)
 }
 
 // An answer written out, on one line or for a person; up to where the buffer is then filled.
-fn speak(explain: bool, answer: Answer, response: &[u8], out: &mut [u8], at: usize) -> usize
-    ensures { λ r. ⌜ Wrote (now (out .entry)) at (spoken explain answer (now (response .entry))) r (now (out .exit)) × (length (spoken explain answer (now (response .entry))) ≤ length (now (response .entry)) * 2 + mostExplained) ⌝ }
+fn write_text(explain: bool, answer: Answer, response: &[u8], out: &mut [u8], at: usize) -> usize
+    ensures { λ r. ⌜ Wrote (now (out .entry)) at (answerText explain answer (now (response .entry))) r (now (out .exit)) × (length (answerText explain answer (now (response .entry))) ≤ length (now (response .entry)) * 2 + mostExplained) ⌝ }
 {
     if explain {
         return write_explained(answer, response, out, at);
@@ -154,52 +143,61 @@ fn speak(explain: bool, answer: Answer, response: &[u8], out: &mut [u8], at: usi
     write_answer(answer, response, out, at)
 }
 
-// An answer without a response.
-fn tell(explain: bool, sound: bool, answer: Answer, out: &mut [u8], at: usize) -> Turn
-    ensures { λ r. ⌜ (r .card ≡ answer .card) × ((r .sound ≡ sound) × ((r .goes ≡ true) × (Wrote (now (out .entry)) at (spoken explain answer []) (r .filled) (now (out .exit)) × (length (spoken explain answer []) ≤ mostText)))) ⌝ }
+// The answer of a call that hands in a card: it is sound exactly where the call is accepted, and it has no response.
+fn first_reply(explain: bool, answer: Answer, out: &mut [u8], at: usize) -> Turn
+    ensures { λ r. ⌜ (r .card ≡ answer .card) × ((r .sound ≡ isDone (answer .status)) × ((r .goes ≡ true) × (Wrote (now (out .entry)) at (answerText explain answer []) (r .filled) (now (out .exit)) × (length (answerText explain answer []) ≤ mostText)))) ⌝ }
 {
+    let status = answer.status;
     let none = [0u8; 1];
-    let filled = speak(explain, answer, &none[..0], out, at);
+    let filled = write_text(explain, answer, &none[..0], out, at);
     let card = answer.card;
     Turn {
         card,
-        sound,
+        sound: status.is_done(),
         filled,
         goes: true,
     }
 }
 
-// An answer of a call that hands in a card: it is sound exactly where the call is accepted.
-fn tell_first(explain: bool, answer: Answer, out: &mut [u8], at: usize) -> Turn
-    ensures { λ r. ⌜ (r .card ≡ answer .card) × ((r .sound ≡ isDone (answer .status)) × ((r .goes ≡ true) × (Wrote (now (out .entry)) at (spoken explain answer []) (r .filled) (now (out .exit)) × (length (spoken explain answer []) ≤ mostText)))) ⌝ }
+// A call on a card known to be sound, or on one that has to be asked.
+fn answer_to(found: bool, card: Card, call: Call, bytes: &[u8], buf: &mut [u8]) -> Answer
+    ensures { λ r. ⌜ Served (now (buf .entry)) (answerTo found card (callOf (now (bytes .entry)) (length (now (buf .entry))) call)) r (now (buf .exit)) ⌝ }
 {
-    let status = answer.status;
-    tell(explain, status.is_done(), answer, out, at)
+    if found {
+        return manager::answer_on_sound(card, call, bytes, buf);
+    }
+    manager::answer(card, call, bytes, buf)
 }
 
-fn command(
-    card: Card,
+// A call of the line, whose bytes and response stand in the buffers lent.
+fn call_reply(
+    turn: Turn,
     explain: bool,
-    verdict: u8,
-    s: &[u8],
-    span: Span,
+    call: Call,
     room: usize,
+    s: &[u8],
+    bytes: &mut [u8],
+    response: &mut [u8],
     out: &mut [u8],
-    at: usize,
 ) -> Turn
-    requires { ⌜ room ≤ 1024 ⌝ }
-    ensures { λ r. ⌜ Spoke (now (out .entry)) at (told explain true (known card (work card (Command verdict (bytesOf (now (s .entry)) span) room)))) r (now (out .exit)) ⌝ }
+    requires { ⌜ (room ≤ mostRoom) × ((length (now bytes) ≡ mostBytes) × (length (now response) ≡ mostRoom)) ⌝ }
+    ensures { λ r. ⌜ Replied (now (out .entry)) (turn .filled) (replyOf explain (turn .sound) (bytesOf (now (s .entry)) (partIn call)) (answerTo (turn .sound) (turn .card) (callIn (now (s .entry)) room call))) r (now (out .exit)) × Used (now (bytes .entry)) (now (response .entry)) (replyOf explain (turn .sound) (bytesOf (now (s .entry)) (partIn call)) (answerTo (turn .sound) (turn .card) (callIn (now (s .entry)) room call))) (now (bytes .exit)) (now (response .exit)) ⌝ }
 {
-    let mut bytes = [0u8; MOST];
-    let n = spell(s, span, &mut bytes);
-    let mut buffer = [0u8; ROOM];
-    let answer = manager::known_command(card, verdict, &bytes[..n], &mut buffer[..room]);
+    let card = turn.card;
+    let n = spell(s, part_in(call), bytes);
+    let answer = answer_to(
+        turn.sound,
+        card,
+        laid(n, call),
+        &bytes[..n],
+        &mut response[..room],
+    );
     let length = answer.length;
-    let filled = speak(explain, answer, &buffer[..length], out, at);
+    let filled = write_text(explain, answer, &response[..length], out, turn.filled);
     let after = answer.card;
     Turn {
         card: after,
-        sound: true,
+        sound: turn.sound,
         filled,
         goes: true,
     }
@@ -207,7 +205,7 @@ fn command(
 
 // A line that cannot be read: it is named, and the run stops.
 fn fault(turn: Turn, number: u64, reason: Reason, out: &mut [u8]) -> Turn
-    ensures { λ r. ⌜ Spoke (now (out .entry)) (turn .filled) (faulty (turn .card) (turn .sound) number reason) r (now (out .exit)) ⌝ }
+    ensures { λ r. ⌜ Replied (now (out .entry)) (turn .filled) (faultReply (turn .card) (turn .sound) number reason) r (now (out .exit)) ⌝ }
 {
     let filled = write_reason(number, reason, out, turn.filled);
     let card = turn.card;
@@ -228,34 +226,34 @@ fn passed_over(turn: Turn) -> Turn
     after
 }
 
-// Is it a call on the card?
-fn is_call(order: Order) -> bool
-    ensures { λ r. ⌜ r ≡ isCall order ⌝ }
+// A line whose words from `at` on are those of a record.
+fn record_reply(turn: Turn, explain: bool, number: u64, s: &[u8], at: usize, out: &mut [u8]) -> Turn
+    ensures { λ r. ⌜ Replied (now (out .entry)) (turn .filled) (onReading (recordAt (now (s .entry)) at .reading) (faultReply (turn .card) (turn .sound) number) (firstReply explain (recordOutcome (recordAt (now (s .entry)) at .card)))) r (now (out .exit)) ⌝ }
 {
-    match order {
-        Order::Nothing => false,
-        Order::Fresh { .. } => false,
-        Order::Command { .. } => true,
-        Order::Keyed { .. } => true,
-        Order::Stored { .. } => true,
-        Order::Finished { .. } => true,
-        Order::Tick => true,
-        Order::Lost => true,
-        Order::Record => false,
-        Order::Wrong(_) => false,
+    let record = record_at(s, at);
+    let reading = record.reading;
+    match reading {
+        Reading::Wrong(reason) => fault(turn, number, reason, out),
+        Reading::Fine => {
+            let given = record.card;
+            first_reply(explain, hand_in(given), out, turn.filled)
+        }
     }
 }
 
-// Line `number` of a script.
-pub fn take_line(turn: Turn, explain: bool, number: u64, s: &[u8], out: &mut [u8]) -> Turn
-    ensures { λ r. ⌜ Spoke (now (out .entry)) (turn .filled) (lineOf (turn .card) (turn .sound) explain number (now (s .entry))) r (now (out .exit)) ⌝ }
+// Line `number` of a script. Two buffers are lent for a call's bytes and its response: what is in them before does not matter.
+pub fn take_line(
+    turn: Turn,
+    explain: bool,
+    number: u64,
+    s: &[u8],
+    bytes: &mut [u8; MOST],
+    response: &mut [u8; ROOM],
+    out: &mut [u8],
+) -> Turn
+    ensures { λ r. ⌜ Replied (now (out .entry)) (turn .filled) (lineOf (turn .card) (turn .sound) explain number (now (s .entry))) r (now (out .exit)) × Used (now (bytes .entry)) (now (response .entry)) (lineOf (turn .card) (turn .sound) explain number (now (s .entry))) (now (bytes .exit)) (now (response .exit)) ⌝ }
 {
     let order = read_line(s);
-    let card = turn.card;
-    let at = turn.filled;
-    if is_call(order) & !turn.sound {
-        return tell(explain, false, card.unsound(), out, at);
-    }
     match order {
         Order::Nothing => passed_over(turn),
         Order::Fresh {
@@ -265,25 +263,16 @@ pub fn take_line(turn: Turn, explain: bool, number: u64, s: &[u8], out: &mut [u8
             quota,
             used,
             volatile,
-        } => tell_first(
+        } => first_reply(
             explain,
             fresh(s, eid, aid, capacity, quota, used, volatile),
             out,
-            at,
+            turn.filled,
         ),
-        Order::Command {
-            verdict,
-            bytes,
-            room,
-        } => command(card, explain, verdict, s, bytes, room, out, at),
-        Order::Keyed { aid } => tell(explain, true, keyed(card, s, aid), out, at),
-        Order::Stored { aid, n } => tell(explain, true, stored(card, s, aid, n), out, at),
-        Order::Finished { aid, policy } => {
-            tell(explain, true, finished(card, s, aid, policy), out, at)
+        Order::Call { call, room } => {
+            call_reply(turn, explain, call, room, s, bytes, response, out)
         }
-        Order::Tick => tell(explain, true, manager::known_tick(card), out, at),
-        Order::Lost => tell(explain, true, manager::known_lost(card), out, at),
-        Order::Record => tell_first(explain, record_in(s), out, at),
+        Order::Record(at) => record_reply(turn, explain, number, s, at, out),
         Order::Wrong(reason) => fault(turn, number, reason, out),
     }
 }

@@ -1,10 +1,15 @@
--- What was written ends within the buffer: the place after it stops at the buffer's end. Assumes nothing.
-use Prim.Native.Nat.{ℕ, _+_, _-_, _≤_}
+-- A line's text is written whole where the longest has room. Assumes nothing.
+use mathlib.Core.Path.{_≡_, _∙_}
+use Prim.Native.Nat.{ℕ, _+_, _≤_}
 use native.Mathlib.Omega.{arith}
 use mathlib.Core.List.{List}
 use lib.ListN.{length}
-use Rattle.text.specs.Put.{after, Wrote}
+use Rattle.byte_string.proofs.PutLaws.{after-fits}
+use Rattle.session.specs.Session.{Reply, mostText, Replied}
+use Rattle.session.specs.declared.Turn.{Turn}
 
-pub within : (l : List ℕ) (at : ℕ) (vs : List ℕ) (r : ℕ) (m : List ℕ) → Wrote l at vs r m → r ≤ at + (length l - at)
-unfolding after
-within l at vs r m w = let e = w .place in omega arith
+pub written-whole : (old : List ℕ) (at : ℕ) (x : Reply) (r : Turn) (new : List ℕ) → Replied old at x r new → at + mostText ≤ length old → r .filled ≡ at + length (x .text)
+written-whole old at x r new w h = let k = w .short in w .wrote .place ∙ after-fits (length old) at (length (x .text)) (omega arith)
+
+pub within : (old : List ℕ) (at : ℕ) (x : Reply) (r : Turn) (new : List ℕ) → Replied old at x r new → at + mostText ≤ length old → r .filled ≤ length old
+within old at x r new w h = let k = w .short in let e = written-whole old at x r new w h in omega arith

@@ -1,6 +1,8 @@
-// teapot: runs a script of calls through the manager and writes an answer for each; answers are collected while lines are at hand, and
-// written out before the program waits for more. The script is the file named as argument, or standard input; `explain` before it
-// writes for a person. What a line means and what is written of it is proved below, in `session`; here only bytes are moved.
+// teapot: runs scripts of calls through the manager and writes an answer for each call; answers are collected while lines are at hand,
+// and written out before the program waits for more. Its words are taken from left to right: `explain`, what follows is written for a
+// person; `ask`, every call asks whether the card is sound; `-`, standard input is run; any other names a script's file, which is run.
+// What a line means and what is written of it is proved below, in `session`; here only bytes are moved.
+use byte_string::same;
 use input::Arrival;
 use input::fill;
 use libc::STDIN_FILENO;
@@ -9,13 +11,17 @@ use lines::Found;
 use lines::LONGEST;
 use lines::Window;
 use lines::next;
+use session::MOST;
+use session::ROOM;
 use session::Turn;
 use session::take_line;
 ghost use mathlib.Core.Path.{_≡_};
-ghost use Prim.Native.Nat.{_≤_, _<_};
+ghost use Prim.Native.Nat.{_+_, _≤_, _<_};
 ghost use lib.ListN.{length};
+ghost use Rattle.session.specs.Session.{mostText};
 
-// The bytes collected before they are written out, and the room that is kept for the answer of one line: it is longer than any.
+// The bytes collected before they are written out, and the room that is kept for the answer of one line: no answer is longer, which
+// `make_room` promises.
 const OUT: usize = 16384;
 
 const ANSWER: usize = 4096;
@@ -54,10 +60,10 @@ fn write_out(out: &[u8], n: usize) -> usize
     0
 }
 
-// The same where the room for one more answer is short.
+// The same where the room for one more answer is short: after it the longest answer has room.
 fn make_room(out: &[u8], n: usize) -> usize
-    requires { ⌜ n ≤ length (now out) ⌝ }
-    ensures { λ r. ⌜ r ≤ length (now (out .entry)) ⌝ }
+    requires { ⌜ (n ≤ length (now out)) × (length (now out) ≡ 16384) ⌝ }
+    ensures { λ r. ⌜ r + mostText ≤ length (now (out .entry)) ⌝ }
 {
     if OUT - ANSWER < n {
         return write_out(out, n);
@@ -93,8 +99,8 @@ fn more(state: State, fd: i32, buf: &mut [u8]) -> State {
 
 // The next line, or more of the script. A line that is too long is told by as many bytes as no line may have.
 fn seek(state: State, fd: i32, buf: &mut [u8], out: &[u8], filled: usize) -> Step
-    requires { ⌜ (4096 < length (now buf)) × (filled ≤ length (now out)) ⌝ }
-    ensures { λ r. ⌜ (r .from ≤ r .to) × ((r .to ≤ length (now (buf .exit))) × (r .filled ≤ length (now (out .entry)))) ⌝ }
+    requires { ⌜ (4096 < length (now buf)) × ((filled ≤ length (now out)) × (length (now out) ≡ 16384)) ⌝ }
+    ensures { λ r. ⌜ (r .from ≤ r .to) × ((r .to ≤ length (now (buf .exit))) × (r .filled + mostText ≤ length (now (out .entry)))) ⌝ }
 {
     let window = state.window;
     let taken = next(window, buf, state.last);
@@ -130,16 +136,25 @@ fn seek(state: State, fd: i32, buf: &mut [u8], out: &[u8], filled: usize) -> Ste
                 state: after,
                 from: 0,
                 to: 0,
-                filled,
+                filled: make_room(out, filled),
             }
         }
     }
 }
 
+// What the words before a script ask of its run, and whether a script was named.
+struct Options {
+    explain: bool,
+    ask: bool,
+    named: bool,
+}
+
 // A line at a time, until the script ends or a line cannot be read.
-fn run(fd: i32, explain: bool) {
+fn run(fd: i32, options: Options) {
     let mut buf = [0u8; 16384];
     let mut out = [0u8; OUT];
+    let mut bytes = [0u8; MOST];
+    let mut response = [0u8; ROOM];
     let mut turn = Turn::first();
     let mut state = State {
         window: Window::fresh(),
@@ -154,7 +169,16 @@ fn run(fd: i32, explain: bool) {
         let to = step.to;
         state = step.state;
         turn.filled = step.filled;
-        turn = take_line(turn, explain, state.number, &buf[from..to], &mut out);
+        turn.sound = turn.sound & !options.ask;
+        turn = take_line(
+            turn,
+            options.explain,
+            state.number,
+            &buf[from..to],
+            &mut bytes,
+            &mut response,
+            &mut out,
+        );
         if !(state.goes & turn.goes) {
             write_out(&out, turn.filled);
             return;
@@ -163,29 +187,54 @@ fn run(fd: i32, explain: bool) {
     }
 }
 
-// The script that an argument names, or standard input where it names none.
-fn start(place: usize, explain: bool) {
-    let mut path = io::buffer();
-    let n = os::arg(place, &mut path);
-    if n == 0 {
-        run(STDIN_FILENO, explain);
+// The script that a word names.
+fn start(word: &[u8], options: Options) {
+    if same(word, b"-") {
+        run(STDIN_FILENO, options);
         return;
     }
-    let fd = os::open_read(&path[..n]);
+    let fd = os::open_read(word);
     if fd < 0 {
-        os::fail(&path[..n]);
+        os::fail(word);
         return;
     }
-    run(fd, explain);
+    run(fd, options);
     libc::close(fd);
 }
 
-fn main() {
-    let mut word = io::buffer();
-    let n = os::arg(1, &mut word);
-    if text::same(&word[..n], b"explain") {
-        start(2, true);
-        return;
+// One word: an option for what follows, or a script, which is run.
+fn take_word(word: &[u8], options: Options) -> Options {
+    let mut after = options;
+    if same(word, b"explain") {
+        after.explain = true;
+        return after;
     }
-    start(1, false);
+    if same(word, b"ask") {
+        after.ask = true;
+        return after;
+    }
+    start(word, options);
+    after.named = true;
+    after
+}
+
+fn main() {
+    let mut options = Options {
+        explain: false,
+        ask: false,
+        named: false,
+    };
+    let mut word = io::buffer();
+    let mut place: usize = 1;
+    while place < 18446744073709551615 {
+        let n = os::arg(place, &mut word);
+        if n == 0 {
+            break;
+        }
+        options = take_word(&word[..n], options);
+        place += 1;
+    }
+    if !options.named {
+        run(STDIN_FILENO, options);
+    }
 }

@@ -9,10 +9,10 @@ use Rattle.teapot.proofs.run.Statement.{statement}
 use Rattle.teapot.proofs.run.Tie as tie
 
 abbrev Inv-loop : tie.InvT-loop
-Inv-loop fd explain buf₀ out₀ turn₀ state₀ turns₀ buf out turn state turns = (16384 ≡ length buf) × ((16384 ≡ length out) × (turn .filled ≤ 16384))
+Inv-loop fd options buf₀ out₀ bytes₀ response₀ turn₀ state₀ turns₀ buf out bytes response turn state turns = (16384 ≡ length buf) × ((16384 ≡ length out) × (turn .filled ≤ 16384))
 
 abbrev μ-loop : tie.MeasureT-loop
-μ-loop fd explain buf₀ out₀ turn₀ state₀ turns₀ buf out turn state turns = turns
+μ-loop fd options buf₀ out₀ bytes₀ response₀ turn₀ state₀ turns₀ buf out bytes response turn state turns = turns
 
 first-requires : tie.Need-first-requires Inv-loop μ-loop
 first-requires c κs = search needs
@@ -52,22 +52,24 @@ slice-aggregate-write-out : tie.Need-slice-aggregate-write-out Inv-loop μ-loop
 slice-aggregate-write-out c = search needs
 
 write-out-requires : tie.Need-write-out-requires Inv-loop μ-loop
-write-out-requires c κs = let k = c .before .before .before .before .before .before .before .before .before .before .before .seek .ensures .1 .1 in
-    let w = within _ _ _ _ _ (c .before .before .before .before .before .take-line .ensures .wrote) in
+write-out-requires c κs =
+    let w = within _ _ _ _ _ (c .before .before .before .before .before .take-line .ensures .0) (c .before .before .before .before .before .before .before .before .before .before .before .before .before .before .before .seek .ensures .1 .1) in
+    let n = c .before .before .before .before .before .before .before .before .before .before .before .before .before .before .before .before .before .before .before .loop .inv .1 .0 in
     search needs
 
 returns : tie.Need-returns Inv-loop μ-loop
 returns c = search needs
 
 sub-turns : tie.Need-sub-turns Inv-loop μ-loop
-sub-turns c = search needs
+sub-turns c = let h = c .before .before .before .before .before .before .before .before .before .before .before .before .before .before .before .before .before .loop-test in search needs
 
 loop-less : tie.Need-loop-less Inv-loop μ-loop
-loop-less c = search needs
+loop-less c = let h = c .before .before .before .before .before .before .before .before .before .before .before .before .before .before .before .before .before .loop-test in search needs
 
 loop-again : tie.Need-loop-again Inv-loop μ-loop
-loop-again c = let k = c .before .before .before .before .before .before .before .before .before .before .seek .ensures .1 .1 in
-    let w = within _ _ _ _ _ (c .before .before .before .before .take-line .ensures .wrote) in
+loop-again c =
+    let w = within _ _ _ _ _ (c .before .before .before .before .take-line .ensures .0) (c .before .before .before .before .before .before .before .before .before .before .before .before .before .before .seek .ensures .1 .1) in
+    let v = c .before .before .before .before .before .before .before .before .before .before .before .before .before .before .before .before .before .before .loop .inv in
     search needs
 
 returns-2 : tie.Need-returns-2 Inv-loop μ-loop

@@ -1,4 +1,4 @@
--- `teapot::seek`: a line that `next` found lies in the buffer, and what is still to be written never grows.
+-- `teapot::seek`: a line that `next` found lies in the buffer, and the longest answer has room after what is still to be written.
 use Rattle.lines.proofs.Cuts.{line-inside}
 use borrow.Author.Needs.{needs}
 use Rattle.teapot.proofs.seek.Statement.{statement}
@@ -39,6 +39,9 @@ more-requires c κs = search needs
 
 enum-told-3 : tie.Need-enum-told-3
 enum-told-3 c = search needs
+
+make-room-requires-3 : tie.Need-make-room-requires-3
+make-room-requires-3 c κs = search needs
 
 same-length : tie.Need-same-length
 same-length c = search needs
@@ -82,6 +85,7 @@ seek-spec =
     write-out-requires
     more-requires
     enum-told-3
+    make-room-requires-3
     same-length
     returns
     same-length-2

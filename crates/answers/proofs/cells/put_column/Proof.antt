@@ -1,7 +1,7 @@
 -- `cells::put_column`: the spaces, then the number.
 use mathlib.Core.Path.{ap}
 use Rattle.answers.specs.Explained.{spaces, columnText}
-use Rattle.text.proofs.PutLaws.{wrote-then, wrote-as}
+use Rattle.byte_string.proofs.PutLaws.{wrote-then, wrote-as}
 use borrow.Author.Needs.{needs}
 use Rattle.answers.proofs.cells.put_column.Statement.{statement}
 use Rattle.answers.proofs.cells.put_column.Tie as tie

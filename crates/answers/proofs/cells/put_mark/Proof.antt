@@ -1,6 +1,6 @@
 -- `cells::put_mark`: the test tells which text it is.
 use Rattle.answers.specs.Explained.{markText}
-use Rattle.text.proofs.PutLaws.{wrote-as}
+use Rattle.byte_string.proofs.PutLaws.{wrote-as}
 use Rattle.choice.proofs.Branches.{eq!, ne! }
 use mathlib.Core.Path.{refl}
 use borrow.Author.Needs.{needs}

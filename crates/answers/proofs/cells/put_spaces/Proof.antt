@@ -3,7 +3,7 @@ use borrow.Author.Needs.{needs}
 use mathlib.Core.Path.{ap}
 use Prim.Native.Nat.{_-_, _≤_}
 use native.Mathlib.Omega.{arith}
-use Rattle.text.proofs.PutLaws.{Writing, writing-starts, writing-as, writing-goes, writing-ends}
+use Rattle.byte_string.proofs.PutLaws.{Writing, writing-starts, writing-as, writing-goes, writing-ends}
 use Rattle.answers.specs.Explained.{spaces}
 use Rattle.answers.proofs.Pieces.{spaces-step, spaces-end}
 use Rattle.answers.proofs.cells.put_spaces.Statement.{statement}

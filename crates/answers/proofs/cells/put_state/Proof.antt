@@ -1,6 +1,6 @@
 -- `cells::put_state`: the tests tell which text it is.
 use Rattle.answers.specs.Explained.{stateText}
-use Rattle.text.proofs.PutLaws.{wrote-as, wrote-then}
+use Rattle.byte_string.proofs.PutLaws.{wrote-as, wrote-then}
 use Rattle.choice.proofs.Branches.{eq!, ne! }
 use mathlib.Core.Path.{refl}
 use borrow.Author.Needs.{needs}

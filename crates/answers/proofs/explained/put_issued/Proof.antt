@@ -1,6 +1,6 @@
 -- `explained::put_issued`: the parts one after the other are the sentence.
 use Rattle.answers.specs.Explained.{issuedText}
-use Rattle.text.proofs.PutLaws.{wrote-then}
+use Rattle.byte_string.proofs.PutLaws.{wrote-then}
 use borrow.Author.Needs.{needs}
 use Rattle.answers.proofs.explained.put_issued.Statement.{statement}
 use Rattle.answers.proofs.explained.put_issued.Tie as tie

@@ -1,5 +1,5 @@
 -- `explained::put_notice`: the kind tells whether there is one.
-use Rattle.text.proofs.PutLaws.{wrote-as, wrote-none}
+use Rattle.byte_string.proofs.PutLaws.{wrote-as, wrote-none}
 use Rattle.answers.proofs.Pieces.{notice-in}
 use borrow.Author.Needs.{needs}
 use Rattle.answers.proofs.explained.put_notice.Statement.{statement}

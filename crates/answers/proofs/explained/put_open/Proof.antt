@@ -1,6 +1,6 @@
 -- `explained::put_open`: the parts one after the other.
 use Rattle.answers.specs.Explained.{openText}
-use Rattle.text.proofs.PutLaws.{wrote-then}
+use Rattle.byte_string.proofs.PutLaws.{wrote-then}
 use borrow.Author.Needs.{needs}
 use Rattle.answers.proofs.explained.put_open.Statement.{statement}
 use Rattle.answers.proofs.explained.put_open.Tie as tie

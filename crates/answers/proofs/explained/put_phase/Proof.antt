@@ -1,5 +1,5 @@
 -- `explained::put_phase`: the phase tells which text it is.
-use Rattle.text.proofs.PutLaws.{wrote-then}
+use Rattle.byte_string.proofs.PutLaws.{wrote-then}
 use Rattle.answers.specs.Explained.{phaseText}
 use borrow.Author.Needs.{needs}
 use Rattle.answers.proofs.explained.put_phase.Statement.{statement}

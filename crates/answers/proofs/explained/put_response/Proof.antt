@@ -1,5 +1,5 @@
 -- `explained::put_response`: a line of its own where there is one.
-use Rattle.text.proofs.PutLaws.{wrote-as, wrote-none, wrote-then}
+use Rattle.byte_string.proofs.PutLaws.{wrote-as, wrote-none, wrote-then}
 use Rattle.answers.proofs.Pieces.{response-none, response-some}
 use borrow.Author.Needs.{needs}
 use Rattle.answers.proofs.explained.put_response.Statement.{statement}

@@ -1,6 +1,6 @@
 -- `explained::put_trial`: the parts one after the other.
 use Rattle.answers.specs.Explained.{trialText}
-use Rattle.text.proofs.PutLaws.{wrote-then}
+use Rattle.byte_string.proofs.PutLaws.{wrote-then}
 use borrow.Author.Needs.{needs}
 use Rattle.answers.proofs.explained.put_trial.Statement.{statement}
 use Rattle.answers.proofs.explained.put_trial.Tie as tie

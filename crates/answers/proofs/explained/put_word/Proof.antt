@@ -3,7 +3,7 @@ use mathlib.Core.Path.{ap}
 use Prim.Native.Nat.{ℕ, _/_, _%_}
 use Rattle.answers.specs.Lines.{hex8}
 use Rattle.answers.specs.Explained.{wordText}
-use Rattle.text.proofs.PutLaws.{wrote-then, wrote-as}
+use Rattle.byte_string.proofs.PutLaws.{wrote-then, wrote-as}
 use borrow.Author.Needs.{needs}
 use Rattle.answers.proofs.explained.put_word.Statement.{statement}
 use Rattle.answers.proofs.explained.put_word.Tie as tie

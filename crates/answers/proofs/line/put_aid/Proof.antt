@@ -4,10 +4,13 @@ use native.Mathlib.Omega.{arith}
 use lib.ListN.{length}
 use lib.Seq.{length-take-le, take-all}
 use Rattle.text.specs.Hex.{hexText}
-use Rattle.text.proofs.PutLaws.{wrote-as}
+use Rattle.byte_string.proofs.PutLaws.{wrote-as}
 use borrow.Author.Needs.{needs}
 use Rattle.answers.proofs.line.put_aid.Statement.{statement}
 use Rattle.answers.proofs.line.put_aid.Tie as tie
+
+cast-n : tie.Need-cast-n
+cast-n c = search needs
 
 slice-aggregate-put-hex : tie.Need-slice-aggregate-put-hex
 slice-aggregate-put-hex c = search needs
@@ -19,15 +22,15 @@ same-length : tie.Need-same-length
 same-length c = search needs
 
 returns : tie.Need-returns
-returns c = let s = c .before .before .before .before .before .before .before .before in
+returns c = let s = c .before .before .before .before .before .before .before .before .before in
     let n : length (s .args .aid .bytes) ≡ 16 = search needs in
     wrote-as _ (ap hexText (sym (take-all (s .args .aid .len) (s .args .aid .bytes) (omega arith)))) (c .before .before .put-hex .ensures)
 
 array-share-prefix-bytes : tie.Need-array-share-prefix-bytes
-array-share-prefix-bytes c = let n : length (c .before .before .before .before .args .aid .bytes) ≡ 16 = search needs in omega arith
+array-share-prefix-bytes c = let n : length (c .before .before .before .before .before .args .aid .bytes) ≡ 16 = search needs in omega arith
 
 slice-aggregate-put-hex-2 : tie.Need-slice-aggregate-put-hex-2
-slice-aggregate-put-hex-2 c = let s = c .before .before .before .before .before in
+slice-aggregate-put-hex-2 c = let s = c .before .before .before .before .before .before in
     let n : length (s .args .aid .bytes) ≡ 16 = search needs in
     sym (length-take-le _ (s .args .aid .bytes) (omega arith))
 
@@ -44,6 +47,7 @@ pub put-aid-spec : {M : Type 1} → statement M
 put-aid-spec =
     tie.close
     (tie.spec
+    cast-n
     slice-aggregate-put-hex
     put-hex-requires
     same-length

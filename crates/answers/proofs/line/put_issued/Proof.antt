@@ -1,7 +1,7 @@
 -- `line::put_issued`: the parts one after the other are KIND:NUMBER:AID.
 use mathlib.Core.Path.{ap}
 use Rattle.answers.specs.Lines.{hex8, issuedWord}
-use Rattle.text.proofs.PutLaws.{wrote-then, wrote-as}
+use Rattle.byte_string.proofs.PutLaws.{wrote-then, wrote-as}
 use borrow.Author.Needs.{needs}
 use Rattle.answers.proofs.line.put_issued.Statement.{statement}
 use Rattle.answers.proofs.line.put_issued.Tie as tie

@@ -1,5 +1,5 @@
 -- `line::put_notice`: the kind tells whether there is one.
-use Rattle.text.proofs.PutLaws.{wrote-as}
+use Rattle.byte_string.proofs.PutLaws.{wrote-as}
 use Rattle.answers.proofs.Pieces.{notice-is}
 use borrow.Author.Needs.{needs}
 use Rattle.answers.proofs.line.put_notice.Statement.{statement}

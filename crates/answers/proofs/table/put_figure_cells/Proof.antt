@@ -1,7 +1,7 @@
 -- `table::put_figure_cells`: the cells one after the other.
 use Rattle.answers.proofs.Pieces.{wrote-size}
 use Rattle.answers.specs.Explained.{figureCells}
-use Rattle.text.proofs.PutLaws.{wrote-then}
+use Rattle.byte_string.proofs.PutLaws.{wrote-then}
 use borrow.Author.Needs.{needs}
 use Rattle.answers.proofs.table.put_figure_cells.Statement.{statement}
 use Rattle.answers.proofs.table.put_figure_cells.Tie as tie

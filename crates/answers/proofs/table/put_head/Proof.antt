@@ -1,6 +1,6 @@
 -- `table::put_head`: the test tells which text it is.
 use mathlib.Core.Path.{refl}
-use Rattle.text.proofs.PutLaws.{wrote-as, wrote-then}
+use Rattle.byte_string.proofs.PutLaws.{wrote-as, wrote-then}
 use Rattle.choice.proofs.Branches.{eq!, ne! }
 use Rattle.answers.specs.Explained.{headText}
 use borrow.Author.Needs.{needs}

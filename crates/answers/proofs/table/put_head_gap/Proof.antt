@@ -1,7 +1,7 @@
 -- `table::put_head_gap`: where the column is no wider there is nothing to write.
 use mathlib.Core.Path.{sym}
 use native.Mathlib.Omega.{arith}
-use Rattle.text.proofs.PutLaws.{wrote-as, wrote-none}
+use Rattle.byte_string.proofs.PutLaws.{wrote-as, wrote-none}
 use Rattle.answers.proofs.Pieces.{spaces-end}
 use borrow.Author.Needs.{needs}
 use Rattle.answers.proofs.table.put_head_gap.Statement.{statement}

@@ -1,8 +1,7 @@
 -- `table::put_name_cells`: the cells one after the other.
-use Rattle.text.proofs.PutLaws.{wrote-then, wrote-as}
+use Rattle.byte_string.proofs.PutLaws.{wrote-then, wrote-as}
 use mathlib.Core.Path.{ap}
 use Prim.Native.Nat.{ℕ, _-_, _*_}
-use Rattle.answers.specs.Lines.{aidText}
 use Rattle.answers.specs.Explained.{spaces, nameCells}
 use borrow.Author.Needs.{needs}
 use Rattle.answers.proofs.table.put_name_cells.Statement.{statement}
@@ -10,9 +9,6 @@ use Rattle.answers.proofs.table.put_name_cells.Tie as tie
 
 aid-size-requires : tie.Need-aid-size-requires
 aid-size-requires c κs = search needs
-
-name-requires : tie.Need-name-requires
-name-requires c κs = search needs
 
 put-column-requires : tie.Need-put-column-requires
 put-column-requires c κs = search needs
@@ -34,14 +30,15 @@ same-length c = search needs
 
 returns : tie.Need-returns
 unfolding nameCells
-returns c = wrote-then (wrote-then (wrote-then (c .before .before .before .before .before .before .before .before .before .before .before .before .before .before .before .put-column .ensures) (c .before .before .before .before .before .before .before .before .before .before .put-bytes .ensures)) (wrote-as _ (ap aidText (c .before .before .before .before .before .before .before .before .before .before .before .before .before .before .before .before .before .name .ensures)) (c .before .before .before .before .before .before .put-aid .ensures))) (wrote-as _ (ap (λ (n : ℕ). spaces ((c .before .before .before .before .before .before .before .before .before .before .before .before .before .before .before .before .before .before .before .before .args .widest - n) * 2)) (c .before .before .before .before .before .before .before .before .before .before .before .before .before .before .before .before .before .before .aid-size .ensures .0)) (c .before .before .put-gap .ensures))
+returns c =
+    wrote-then (wrote-then (wrote-then (c .before .before .before .before .before .before .before .before .before .before .before .before .before .before .before .put-column .ensures) (c .before .before .before .before .before .before .before .before .before .before .put-bytes .ensures)) (c .before .before .before .before .before .before .put-aid .ensures))
+    (wrote-as _ (ap (λ (n : ℕ). spaces ((c .before .before .before .before .before .before .before .before .before .before .before .before .before .before .before .before .before .before .before .before .args .widest - n) * 2)) (c .before .before .before .before .before .before .before .before .before .before .before .before .before .before .before .before .before .before .aid-size .ensures .0)) (c .before .before .put-gap .ensures))
 
 pub put-name-cells-spec : {M : Type 1} → statement M
 put-name-cells-spec =
     tie.close
     (tie.spec
     aid-size-requires
-    name-requires
     put-column-requires
     slice-aggregate-put-bytes
     put-bytes-requires

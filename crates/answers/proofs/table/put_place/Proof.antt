@@ -1,6 +1,6 @@
 -- `table::put_place`: a place that is not held has nothing to write.
 use mathlib.Core.Path.{refl}
-use Rattle.text.proofs.PutLaws.{wrote-as, wrote-none, wrote-then}
+use Rattle.byte_string.proofs.PutLaws.{wrote-as, wrote-none, wrote-then}
 use Rattle.choice.proofs.Branches.{eq!, ne! }
 use Rattle.answers.specs.Explained.{rowText, placeText}
 use borrow.Author.Needs.{needs}

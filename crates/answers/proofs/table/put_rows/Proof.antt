@@ -5,7 +5,7 @@ use Prim.Native.Nat.{_-_, _≤_}
 use native.Mathlib.Omega.{arith}
 use lib.ListN.{length, drop}
 use Rattle.isdp.specs.Sizes.{mostPlaces}
-use Rattle.text.proofs.PutLaws.{Writing, writing-starts, writing-as, writing-goes, writing-ends}
+use Rattle.byte_string.proofs.PutLaws.{Writing, writing-starts, writing-as, writing-goes, writing-ends}
 use Rattle.answers.specs.Explained.{rowsText}
 use Rattle.answers.proofs.Pieces.{rows-step, rows-end}
 use Rattle.answers.proofs.table.put_rows.Statement.{statement}

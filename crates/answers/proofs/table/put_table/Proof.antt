@@ -1,5 +1,5 @@
--- `table::put_table`: the head, then the rows; a card of the code has eight places.
-use Rattle.text.proofs.PutLaws.{wrote-then, wrote-as}
+-- `table::put_table`: the head, then the rows; a card of the code has a row for each of its places.
+use Rattle.byte_string.proofs.PutLaws.{wrote-then, wrote-as}
 use mathlib.Core.Path.{_≡_, ap}
 use Prim.Native.Nat.{ℕ, _≤_}
 use native.Mathlib.Omega.{arith}
@@ -18,6 +18,9 @@ widest-requires c κs = search needs
 put-head-requires : tie.Need-put-head-requires
 put-head-requires c κs = search needs
 
+cast-put-rows : tie.Need-cast-put-rows
+cast-put-rows c = search needs
+
 put-rows-requires : tie.Need-put-rows-requires
 put-rows-requires c κs = search needs
 
@@ -26,11 +29,12 @@ same-length c = search needs
 
 returns : tie.Need-returns
 unfolding tableText
-returns c = let s = c .before .before .before .before .before .before .before .before .before .before .before in
+returns c = let s = c .before .before .before .before .before .before .before .before .before .before .before .before in
     let n : length (s .args .card .places) ≡ mostPlaces = full (s .args .card) _ (s .good .0) in
-    let h : widestOf (s .args .card .places) ≤ 16 = omega (arith, c .before .before .before .before .before .before .before .before .widest .ensures) in
-    (wrote-then (wrote-as _ (ap headText (c .before .before .before .before .before .before .before .before .widest .ensures .0)) (c .before .before .before .before .before .before .put-head .ensures)) (wrote-as _ (ap (λ (w : ℕ). rowsText (c .before .before .before .before .before .before .before .before .before .before .before .args .card .fallback) w 0 (c .before .before .before .before .before .before .before .before .before .before .before .args .card .places)) (c .before .before .before .before .before .before .before .before .widest .ensures .0)) (c .before .before .put-rows .ensures)), omega (arith, table-length (s .args .card) h))
+    let wide = c .before .before .before .before .before .before .before .before .before .widest .ensures in
+    let h : widestOf (s .args .card .places) ≤ 16 = omega (arith, wide) in
+    (wrote-then (wrote-as _ (ap headText (wide .0)) (c .before .before .before .before .before .before .before .put-head .ensures)) (wrote-as _ (ap (λ (w : ℕ). rowsText (s .args .card .fallback) w 0 (s .args .card .places)) (wide .0)) (c .before .before .put-rows .ensures)), omega (arith, table-length (s .args .card) h))
 
 pub put-table-spec : {M : Type 1} → statement M
 put-table-spec =
-    tie.close (tie.spec widest-requires put-head-requires put-rows-requires same-length returns)
+    tie.close (tie.spec widest-requires put-head-requires cast-put-rows put-rows-requires same-length returns)

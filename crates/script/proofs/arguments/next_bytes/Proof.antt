@@ -32,6 +32,9 @@ part-is-hex-end c = let i = word-inside _ _ _ _ (sym (c .before .from .given .1)
 is-hex-requires : tie.Need-is-hex-requires
 is-hex-requires c κs = search needs
 
+sub-t12 : tie.Need-sub-t12
+sub-t12 c = let i = word-inside _ _ _ _ (sym (c .before .before .before .before .from .given .1) ∙ c .before .before .before .before .before .before .next-word .ensures) in search needs
+
 returns-2 : tie.Need-returns-2
 unfolding bytesAt
 returns-2 c = rw (← (sym (c .before .before .before .before .from .given .1) ∙ c .before .before .before .before .before .before .next-word .ensures)) (yes! _ (sym (c .before .is-hex .ensures) ∙ c .if1 .taken) refl)
@@ -52,5 +55,6 @@ next-bytes-spec =
     part-is-hex-start
     part-is-hex-end
     is-hex-requires
+    sub-t12
     returns-2
     returns-3)

@@ -12,8 +12,8 @@ next-value-requires c κs = search needs
 enum-known-why : tie.Need-enum-known-why
 enum-known-why c = search needs
 
-enum-known-verdict : tie.Need-enum-known-verdict
-enum-known-verdict c = search needs
+enum-known-n : tie.Need-enum-known-n
+enum-known-n c = search needs
 
 next-bytes-requires : tie.Need-next-bytes-requires
 next-bytes-requires c κs = search needs
@@ -33,11 +33,11 @@ enum-known-why-3 c = search needs
 enum-known-room : tie.Need-enum-known-room
 enum-known-room c = search needs
 
-cast-t16 : tie.Need-cast-t16
-cast-t16 c = let h0 = value-within _ _ _ _ _ (sym (c .before .before .before .before .before .before .before .before .before .verdict .given .1) ∙ c .before .before .before .before .before .before .before .before .before .before .before .next-value .ensures) in search needs
+cast-verdict : tie.Need-cast-verdict
+cast-verdict c = let h0 = value-within _ _ _ _ _ (sym (c .before .before .before .before .before .before .before .before .before .n .given .1) ∙ c .before .before .before .before .before .before .before .before .before .before .before .next-value .ensures) in search needs
 
-cast-t17 : tie.Need-cast-t17
-cast-t17 c = search needs
+cast-t19 : tie.Need-cast-t19
+cast-t19 c = search needs
 
 returns : tie.Need-returns
 unfolding commandAt
@@ -45,15 +45,15 @@ returns c = rw (← (sym (c .before .why .given .1) ∙ c .before .before .befor
 
 returns-2 : tie.Need-returns-2
 unfolding commandAt
-returns-2 c = rw (← (sym (c .before .before .before .before .before .verdict .given .1) ∙ c .before .before .before .before .before .before .before .next-value .ensures)) (rw (← (sym (c .before .why2 .given .1) ∙ c .before .before .before .next-bytes .ensures)) refl)
+returns-2 c = rw (← (sym (c .before .before .before .before .before .n .given .1) ∙ c .before .before .before .before .before .before .before .next-value .ensures)) (rw (← (sym (c .before .why2 .given .1) ∙ c .before .before .before .next-bytes .ensures)) refl)
 
 returns-3 : tie.Need-returns-3
 unfolding commandAt
-returns-3 c = rw (← (sym (c .before .before .before .before .before .before .before .before .before .verdict .given .1) ∙ c .before .before .before .before .before .before .before .before .before .before .before .next-value .ensures)) (rw (← (sym (c .before .before .before .before .before .bytes .given .1) ∙ c .before .before .before .before .before .before .before .next-bytes .ensures)) (rw (← (sym (c .before .why3 .given .1) ∙ c .before .before .before .next-room .ensures)) refl))
+returns-3 c = rw (← (sym (c .before .before .before .before .before .before .before .before .before .n .given .1) ∙ c .before .before .before .before .before .before .before .before .before .before .before .next-value .ensures)) (rw (← (sym (c .before .before .before .before .before .bytes .given .1) ∙ c .before .before .before .before .before .before .before .next-bytes .ensures)) (rw (← (sym (c .before .why3 .given .1) ∙ c .before .before .before .next-room .ensures)) refl))
 
 returns-4 : tie.Need-returns-4
 unfolding commandAt
-returns-4 c = rw (← (sym (c .before .before .before .before .before .before .before .before .before .verdict .given .1) ∙ c .before .before .before .before .before .before .before .before .before .before .before .next-value .ensures)) (rw (← (sym (c .before .before .before .before .before .bytes .given .1) ∙ c .before .before .before .before .before .before .before .next-bytes .ensures)) (rw (← (sym (c .before .room .given .1) ∙ c .before .before .before .next-room .ensures)) refl))
+returns-4 c = rw (← (sym (c .before .before .before .before .before .before .before .before .before .n .given .1) ∙ c .before .before .before .before .before .before .before .before .before .before .before .next-value .ensures)) (rw (← (sym (c .before .before .before .before .before .bytes .given .1) ∙ c .before .before .before .before .before .before .before .next-bytes .ensures)) (rw (← (sym (c .before .room .given .1) ∙ c .before .before .before .next-room .ensures)) refl))
 
 pub command-order-spec : {M : Type 1} → statement M
 command-order-spec =
@@ -61,15 +61,15 @@ command-order-spec =
     (tie.spec
     next-value-requires
     enum-known-why
-    enum-known-verdict
+    enum-known-n
     next-bytes-requires
     enum-known-why-2
     enum-known-bytes
     next-room-requires
     enum-known-why-3
     enum-known-room
-    cast-t16
-    cast-t17
+    cast-verdict
+    cast-t19
     returns
     returns-2
     returns-3

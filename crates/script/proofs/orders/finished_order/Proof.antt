@@ -21,11 +21,14 @@ next-value-requires c κs = search needs
 enum-known-why-2 : tie.Need-enum-known-why-2
 enum-known-why-2 c = search needs
 
-enum-known-policy : tie.Need-enum-known-policy
-enum-known-policy c = search needs
+enum-known-n : tie.Need-enum-known-n
+enum-known-n c = search needs
 
-cast-t11 : tie.Need-cast-t11
-cast-t11 c = let h0 = value-within _ _ _ _ _ (sym (c .before .policy .given .1) ∙ c .before .before .before .next-value .ensures) in search needs
+cast-policy : tie.Need-cast-policy
+cast-policy c = let h0 = value-within _ _ _ _ _ (sym (c .before .n .given .1) ∙ c .before .before .before .next-value .ensures) in search needs
+
+inner-requires : tie.Need-inner-requires
+inner-requires c κs = search needs
 
 returns : tie.Need-returns
 unfolding finishedAt
@@ -37,7 +40,7 @@ returns-2 c = rw (← (sym (c .before .before .before .before .before .aid .give
 
 returns-3 : tie.Need-returns-3
 unfolding finishedAt
-returns-3 c = rw (← (sym (c .before .before .before .before .before .aid .given .1) ∙ c .before .before .before .before .before .before .before .next-bytes .ensures)) (rw (← (sym (c .before .policy .given .1) ∙ c .before .before .before .next-value .ensures)) refl)
+returns-3 c = rw (← (sym (c .before .before .before .before .before .before .aid .given .1) ∙ c .before .before .before .before .before .before .before .before .next-bytes .ensures)) (rw (← (sym (c .before .before .n .given .1) ∙ c .before .before .before .before .next-value .ensures)) (c .inner .ensures))
 
 pub finished-order-spec : {M : Type 1} → statement M
 finished-order-spec =
@@ -48,8 +51,9 @@ finished-order-spec =
     enum-known-aid
     next-value-requires
     enum-known-why-2
-    enum-known-policy
-    cast-t11
+    enum-known-n
+    cast-policy
+    inner-requires
     returns
     returns-2
     returns-3)

@@ -14,14 +14,18 @@ enum-known-why c = search needs
 enum-known-aid : tie.Need-enum-known-aid
 enum-known-aid c = search needs
 
+inner-requires : tie.Need-inner-requires
+inner-requires c κs = search needs
+
 returns : tie.Need-returns
 unfolding keyedAt
 returns c = rw (← (sym (c .before .why .given .1) ∙ c .before .before .before .next-bytes .ensures)) refl
 
 returns-2 : tie.Need-returns-2
 unfolding keyedAt
-returns-2 c = rw (← (sym (c .before .aid .given .1) ∙ c .before .before .before .next-bytes .ensures)) refl
+returns-2 c = rw (← (sym (c .before .before .aid .given .1) ∙ c .before .before .before .before .next-bytes .ensures)) (c .inner .ensures)
 
 pub keyed-order-spec : {M : Type 1} → statement M
 keyed-order-spec =
-    tie.close (tie.spec next-bytes-requires enum-known-why enum-known-aid returns returns-2)
+    tie.close
+    (tie.spec next-bytes-requires enum-known-why enum-known-aid inner-requires returns returns-2)

@@ -1,4 +1,4 @@
--- `orders::order_by` meets its contract: each exit is one clause of `orderBy`.
+-- `orders::order_by` meets its contract: each arm is `counted` of what its own function ensures.
 use mathlib.Core.Path.{refl}
 use Rattle.script.specs.Orders.{orderBy}
 use borrow.Author.Needs.{needs}
@@ -53,20 +53,23 @@ counted-requires-5 c κs = search needs
 enum-told-6 : tie.Need-enum-told-6
 enum-told-6 c = search needs
 
+inner-requires : tie.Need-inner-requires
+inner-requires c κs = search needs
+
 counted-requires-6 : tie.Need-counted-requires-6
 counted-requires-6 c κs = search needs
 
 enum-told-7 : tie.Need-enum-told-7
 enum-told-7 c = search needs
 
+inner-requires-2 : tie.Need-inner-requires-2
+inner-requires-2 c κs = search needs
+
 counted-requires-7 : tie.Need-counted-requires-7
 counted-requires-7 c κs = search needs
 
 enum-told-8 : tie.Need-enum-told-8
 enum-told-8 c = search needs
-
-record-order-requires : tie.Need-record-order-requires
-record-order-requires c κs = search needs
 
 counted-requires-8 : tie.Need-counted-requires-8
 counted-requires-8 c κs = search needs
@@ -96,15 +99,15 @@ returns-5 c = rw (c .before .before .enum-told5 .given .1, ← (c .before .finis
 
 returns-6 : tie.Need-returns-6
 unfolding orderBy
-returns-6 c = rw (c .before .enum-told6 .given .1) (c .counted6 .ensures)
+returns-6 c = rw (c .before .before .enum-told6 .given .1, ← (c .before .inner .ensures)) (c .counted6 .ensures)
 
 returns-7 : tie.Need-returns-7
 unfolding orderBy
-returns-7 c = rw (c .before .enum-told7 .given .1) (c .counted7 .ensures)
+returns-7 c = rw (c .before .before .enum-told7 .given .1, ← (c .before .inner2 .ensures)) (c .counted7 .ensures)
 
 returns-8 : tie.Need-returns-8
 unfolding orderBy
-returns-8 c = rw (c .before .before .enum-told8 .given .1, ← (c .before .record-order .ensures)) (c .counted8 .ensures)
+returns-8 c = rw (c .before .enum-told8 .given .1) (c .counted8 .ensures)
 
 returns-9 : tie.Need-returns-9
 unfolding orderBy
@@ -130,11 +133,12 @@ order-by-spec =
     finished-order-requires
     counted-requires-5
     enum-told-6
+    inner-requires
     counted-requires-6
     enum-told-7
+    inner-requires-2
     counted-requires-7
     enum-told-8
-    record-order-requires
     counted-requires-8
     enum-told-9
     returns

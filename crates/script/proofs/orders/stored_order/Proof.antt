@@ -23,6 +23,9 @@ enum-known-why-2 c = search needs
 enum-known-n : tie.Need-enum-known-n
 enum-known-n c = search needs
 
+inner-requires : tie.Need-inner-requires
+inner-requires c κs = search needs
+
 returns : tie.Need-returns
 unfolding storedAt
 returns c = rw (← (sym (c .before .why .given .1) ∙ c .before .before .before .next-bytes .ensures)) refl
@@ -33,7 +36,7 @@ returns-2 c = rw (← (sym (c .before .before .before .before .before .aid .give
 
 returns-3 : tie.Need-returns-3
 unfolding storedAt
-returns-3 c = rw (← (sym (c .before .before .before .before .before .aid .given .1) ∙ c .before .before .before .before .before .before .before .next-bytes .ensures)) (rw (← (sym (c .before .n .given .1) ∙ c .before .before .before .next-value .ensures)) refl)
+returns-3 c = rw (← (sym (c .before .before .before .before .before .before .aid .given .1) ∙ c .before .before .before .before .before .before .before .before .next-bytes .ensures)) (rw (← (sym (c .before .before .n .given .1) ∙ c .before .before .before .before .next-value .ensures)) (c .inner .ensures))
 
 pub stored-order-spec : {M : Type 1} → statement M
 stored-order-spec =
@@ -45,6 +48,7 @@ stored-order-spec =
     next-value-requires
     enum-known-why-2
     enum-known-n
+    inner-requires
     returns
     returns-2
     returns-3)

@@ -1,4 +1,4 @@
--- `records::head_at` meets its contract: the four numbers in turn, then the phase. The cast to 16 bits fits, by `value-within`.
+-- `records::head_at` meets its contract: the four numbers in turn, then the phase. The casts fit, by `value-within`.
 use mathlib.Core.Path.{refl, sym, _∙_}
 use Rattle.script.proofs.Within.{value-within}
 use Rattle.script.specs.Records.{headAt}
@@ -52,10 +52,10 @@ enum-known-phase : tie.Need-enum-known-phase
 enum-known-phase c = search needs
 
 cast-t28 : tie.Need-cast-t28
-cast-t28 c = let h0 = value-within _ _ _ _ _ (sym (c .before .before .before .before .before .before .before .before .before .before .before .before .before .before .before .before .before .capacity .given .1) ∙ c .before .before .before .before .before .before .before .before .before .before .before .before .before .before .before .before .before .before .before .next-value .ensures) in let h1 = value-within _ _ _ _ _ (sym (c .before .before .before .before .before .before .before .before .before .before .before .before .before .volatile .given .1) ∙ c .before .before .before .before .before .before .before .before .before .before .before .before .before .before .before .next-value2 .ensures) in let h2 = value-within _ _ _ _ _ (sym (c .before .before .before .before .before .before .before .before .before .last .given .1) ∙ c .before .before .before .before .before .before .before .before .before .before .before .next-value3 .ensures) in let h3 = value-within _ _ _ _ _ (sym (c .before .before .before .before .before .fallback .given .1) ∙ c .before .before .before .before .before .before .before .next-value4 .ensures) in search needs
+cast-t28 c = let h = value-within _ _ _ _ _ (sym (c .before .before .before .before .before .before .before .before .before .last .given .1) ∙ c .before .before .before .before .before .before .before .before .before .before .before .next-value3 .ensures) in search needs
 
 cast-t29 : tie.Need-cast-t29
-cast-t29 c = search needs
+cast-t29 c = let h = value-within _ _ _ _ _ (sym (c .before .before .before .before .before .fallback .given .1) ∙ c .before .before .before .before .before .before .before .next-value4 .ensures) in search needs
 
 returns : tie.Need-returns
 unfolding headAt

@@ -29,6 +29,9 @@ no-record-requires-2 c κs = search needs
 enum-told : tie.Need-enum-told
 enum-told c = search needs
 
+with-requires : tie.Need-with-requires
+with-requires c κs = search needs
+
 returns : tie.Need-returns
 unfolding recordWith
 returns c = rw (← (sym (c .before .before .why .given .1) ∙ c .before .before .before .before .head-at .ensures)) (c .no-record .ensures)
@@ -39,7 +42,7 @@ returns-2 c = rw (← (sym (c .before .before .before .before .before .before .c
 
 returns-3 : tie.Need-returns-3
 unfolding recordWith
-returns-3 c = rw (← (sym (c .before .before .before .before .before .capacity .given .1) ∙ c .before .before .before .before .before .before .before .head-at .ensures)) (rw (← (c .before .before .before .read-places .ensures)) (rw (c .before .enum-told .given .1) refl))
+returns-3 c = rw (← (sym (c .before .before .before .before .before .before .capacity .given .1) ∙ c .before .before .before .before .before .before .before .before .head-at .ensures)) (rw (← (c .before .before .before .before .read-places .ensures)) (rw (c .before .before .enum-told .given .1, c .with .ensures) refl))
 
 pub record-with-spec : {M : Type 1} → statement M
 record-with-spec =
@@ -53,6 +56,7 @@ record-with-spec =
     enum-known-reading
     no-record-requires-2
     enum-told
+    with-requires
     returns
     returns-2
     returns-3)
