@@ -6,7 +6,7 @@ use mathlib.Core.Bool.{true}
 use mathlib.Core.Option.{some}
 use Rattle.status.specs.Rows.{wordOf}
 use Rattle.choice.specs.Choice.{pick, atMost, isBelow, isSame}
-use Rattle.tlv.specs.Lists.{closed, elementOf, restOf, listOf, listWithin, listAt, elementAt, listWrong}
+use Rattle.tlv.specs.Lists.{listWrong, listAt, listWithin, listOf, elementOf, restOf, closed}
 use Rattle.tlv.specs.Tlv.{tagAt, lengthAt, afterLength, afterTag, headAt, expectOf, expectAt}
 use Rattle.tlv.specs.Encoding.{window}
 use Rattle.reader.specs.Reader.{aloneAt}
@@ -14,12 +14,12 @@ use Rattle.fields.specs.Delete.{verificationAt, deletionAt}
 use Rattle.fields.specs.GetStatus.{tagsAt, listingAt}
 use Rattle.fields.specs.StoreData.{dgiAt, namedBy, confirmationAt, storeDataAt}
 use Rattle.fields.specs.Grammar as field
+use Rattle.fields.specs.Grammar.{Wanted}
 use Rattle.install.specs.Parameters.{protocolsWithin, protocolsAt, numberAt, grantOf, memoryAt, parametersAt}
 use Rattle.install.specs.Install.{prefixedOf, prefixedAt, namesAt, rightsAt, installOf}
 use Rattle.command.specs.Framing.{lengthWrong, classRight, classWrong, instructionWrong, parametersRight, parametersWrong, shapeRight, shapeWrong}
 use Rattle.command.specs.Requests.{fieldOf, dataWrong}
 use Rattle.command.specs.Reading.{readOf}
-use Rattle.fields.specs.Grammar.{Wanted}
 use Rattle.command.specs.Grammar.{readAs}
 use Rattle.command.proofs.Written.{command-written}
 use Rattle.steps.specs.Laws.Met.{aidEnding}
@@ -34,7 +34,7 @@ abbrev storing : ℕ → List ℕ
 storing dgi = 0x80 ∷ 0xE2 ∷ 0x88 ∷ 0x00 ∷ 0x0A ∷ 0x3A ∷ dgi ∷ 0x07 ∷ 0x4F ∷ 0x05 ∷ aidEnding 2
 
 pub every-call-met : EveryCallMet
-unfolding readOf wordOf window lengthWrong classRight classWrong instructionWrong parametersRight parametersWrong shapeRight shapeWrong fieldOf dataWrong pick atMost isBelow isSame tagAt lengthAt afterLength afterTag headAt expectOf expectAt closed elementOf restOf listOf listWithin listAt elementAt listWrong aloneAt verificationAt deletionAt tagsAt listingAt dgiAt namedBy confirmationAt storeDataAt protocolsWithin protocolsAt numberAt grantOf memoryAt parametersAt prefixedOf prefixedAt namesAt rightsAt installOf
+unfolding readOf wordOf window lengthWrong classRight classWrong instructionWrong parametersRight parametersWrong shapeRight shapeWrong fieldOf dataWrong pick atMost isBelow isSame tagAt lengthAt afterLength afterTag headAt expectOf expectAt aloneAt verificationAt deletionAt tagsAt listingAt dgiAt namedBy confirmationAt storeDataAt protocolsWithin protocolsAt numberAt grantOf memoryAt parametersAt prefixedOf prefixedAt namesAt rightsAt installOf listWrong listAt listWithin listOf elementOf restOf closed
 every-call-met =
     record {
       create = is-written (0x80 ∷ 0xE6 ∷ 0x0C ∷ 0x00 ∷ 0x22 ∷ 5 ∷ (aidEnding 2 ++ 5 ∷ (aidEnding 2 ++ 5 ∷ (aidEnding 5 ++ 1 ∷ 0x80 ∷ 0x0C ∷ 0xC9 ∷ 4 ∷ 0x81 ∷ 2 ∷ 3 ∷ 0x70 ∷ 0xEF ∷ 4 ∷ 0x83 ∷ 2 ∷ 0x02 ∷ 0x58 ∷ 0 ∷ [])))) _ refl refl;

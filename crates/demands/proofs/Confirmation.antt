@@ -14,8 +14,7 @@ use Rattle.card.specs.Clock.{outstanding}
 use Rattle.card.specs.declared.Card.{Card}
 use Rattle.card.specs.declared.Phase.{Phase}
 use Rattle.card.specs.declared.Phase.the-variants.{Quiet, Trial, Back, Fallen}
-use Rattle.fields.specs.Grammar.{confirmation}
-use Rattle.fields.specs.Grammar.{storeData}
+use Rattle.fields.specs.Grammar.{confirmation, storeData}
 use Rattle.steps.specs.Steps.{successOf}
 use Rattle.steps.proofs.Rows.{Passed}
 use Rattle.steps.specs.Asked.{Asked, Asked.unread, Asked.create, Asked.on, Asked.confirm, Asked.statusOfAll, Asked.getData, Asked.tick, Asked.lost}

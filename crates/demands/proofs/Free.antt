@@ -39,10 +39,10 @@ use Rattle.steps.proofs.Rows.{Passed}
 use Rattle.steps.specs.Asked.{Act, Act.enable, Act.disable, Act.delete, Act.masterDelete, Act.setFallBack, Act.status, Act.keyed, Act.stored, Act.finished, Asked, Asked.unread, Asked.create, Asked.on, Asked.confirm, Asked.statusOfAll, Asked.getData, Asked.tick, Asked.lost}
 use Rattle.steps.specs.Steps.{stepOf, actStep, responseOf, successOf}
 use Rattle.steps.proofs.Kept.{Legal}
+use Rattle.steps.proofs.Laws.Places.{held-within}
 use Rattle.manager.specs.Calls.{Call, asked, askedOf}
 use Rattle.manager.specs.Manager.{step, run, work}
 use Rattle.manager.proofs.Kept.{rows-accepted, legal, step-sound}
-use Rattle.steps.proofs.Laws.Places.{held-within}
 use Rattle.demands.specs.Inputs.{Inputs, freshOf}
 use Rattle.demands.specs.Said.{said, Exchange, exchanges}
 use Rattle.demands.specs.Free.{Made, without, afterConfirm, afterAct, afterAsked, madeAfter, history, room, first, FreeIsCounted}

@@ -27,18 +27,17 @@ use Rattle.card.specs.Fresh.{freshCard, freshOutcome}
 use Rattle.card.specs.declared.Card.{Card}
 use Rattle.card.specs.declared.Phase.the-variants.{Trial}
 use Rattle.choice.specs.Choice.{pick, atMost, isBelow, isSame}
-use Rattle.tlv.specs.Lists.{closed, elementOf, restOf, listOf, listWithin, listAt, elementAt, listWrong}
+use Rattle.tlv.specs.Lists.{listWrong, listAt, listWithin, listOf, elementOf, restOf, closed}
 use Rattle.tlv.specs.Tlv.{tagAt, lengthAt, afterLength, afterTag, headAt, expectOf, expectAt}
 use Rattle.tlv.specs.Encoding.{window, Bytes}
 use Rattle.reader.specs.Reader.{aloneAt}
 use Rattle.fields.specs.StoreData.{dgiAt, namedBy, confirmationAt, storeDataAt}
-use Rattle.fields.specs.Grammar.{confirmation}
+use Rattle.fields.specs.Grammar.{confirmation, Created}
+use Rattle.fields.specs.Grammar as written
 use Rattle.install.specs.Parameters.{protocolsWithin, protocolsAt, numberAt, grantOf, memoryAt, parametersAt}
 use Rattle.install.specs.Install.{prefixedOf, prefixedAt, namesAt, rightsAt, installOf}
-use Rattle.fields.specs.Grammar.{Created}
 use Rattle.command.specs.Framing.{lengthWrong, classRight, classWrong, instructionWrong, parametersRight, parametersWrong, shapeRight, shapeWrong}
 use Rattle.command.specs.Requests.{fieldOf, dataWrong}
-use Rattle.fields.specs.Grammar as written
 use Rattle.command.specs.Grammar.{readAs, Encodes}
 use Rattle.command.specs.Reading.{readOf}
 use Rattle.command.proofs.Written.{command-written}
@@ -123,7 +122,7 @@ bytes-of (x ∷ xs) e zero = ltb-true x 256 (and-l _ _ e)
 bytes-of (x ∷ xs) e (suc i) = bytes-of xs (and-r (ltb x 256) _ e) i
 
 reads : (readAs createBytes (readOf createBytes 1000) ≡ some (written.create asks)) × (readAs createBytes (readOf createBytes 100) ≡ some (written.create asks))
-unfolding readOf wordOf window lengthWrong classRight classWrong instructionWrong parametersRight parametersWrong shapeRight shapeWrong fieldOf dataWrong pick atMost isBelow isSame tagAt lengthAt afterLength afterTag headAt expectOf expectAt closed elementOf restOf listOf listWithin listAt elementAt listWrong protocolsWithin protocolsAt numberAt grantOf memoryAt parametersAt prefixedOf prefixedAt namesAt rightsAt installOf aloneAt
+unfolding readOf wordOf window lengthWrong classRight classWrong instructionWrong parametersRight parametersWrong shapeRight shapeWrong fieldOf dataWrong pick atMost isBelow isSame tagAt lengthAt afterLength afterTag headAt expectOf expectAt protocolsWithin protocolsAt numberAt grantOf memoryAt parametersAt prefixedOf prefixedAt namesAt rightsAt installOf listWrong listAt listWithin listOf elementOf restOf closed aloneAt
 reads = (refl, refl)
 
 encoded-in : (capacity : ℕ) → readAs createBytes (readOf createBytes capacity) ≡ some (written.create asks) → Encodes capacity (written.create asks) createBytes
@@ -156,7 +155,7 @@ abbrev confirmBytes : ℕ → List ℕ
 confirmBytes n = 0x80 ∷ 0xE2 ∷ 0x89 ∷ 0x00 ∷ 0x07 ∷ 0x3A ∷ 0x08 ∷ 0x04 ∷ 0x4E ∷ 0x02 ∷ 0 ∷ n ∷ 0x00 ∷ []
 
 confirm-reads : (readAs (confirmBytes 1) (readOf (confirmBytes 1) 1000) ≡ some (written.storeData (confirmation 1))) × (readAs (confirmBytes 2) (readOf (confirmBytes 2) 1000) ≡ some (written.storeData (confirmation 2)))
-unfolding readOf wordOf window lengthWrong classRight classWrong instructionWrong parametersRight parametersWrong shapeRight shapeWrong fieldOf dataWrong pick atMost isBelow isSame tagAt lengthAt afterLength afterTag headAt expectOf expectAt closed elementOf restOf listOf listWithin listAt elementAt listWrong aloneAt dgiAt namedBy confirmationAt storeDataAt
+unfolding readOf wordOf window lengthWrong classRight classWrong instructionWrong parametersRight parametersWrong shapeRight shapeWrong fieldOf dataWrong pick atMost isBelow isSame tagAt lengthAt afterLength afterTag headAt expectOf expectAt aloneAt dgiAt namedBy confirmationAt storeDataAt listWrong listAt listWithin listOf elementOf restOf closed
 confirm-reads = (refl, refl)
 
 trial-sound : sound trial ≡ true

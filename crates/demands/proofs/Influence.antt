@@ -21,11 +21,11 @@ use Rattle.card.proofs.Sounds.{parts}
 use Rattle.card.specs.Answers.{Outcome, accepted, refused, settle}
 use Rattle.card.specs.declared.Card.{Card}
 use Rattle.card.specs.declared.Step.{Step}
-use Rattle.command.specs.Framing.{lengthWrong, classWrong, instructionWrong, parametersWrong, shapeWrong}
 use Rattle.fields.specs.declared.request.Request.{Request}
 use Rattle.fields.specs.declared.request.Request.the-variants as request
 use Rattle.fields.specs.declared.request.Field.{Field}
 use Rattle.fields.specs.declared.request.Field.the-variants as field
+use Rattle.command.specs.Framing.{lengthWrong, classWrong, instructionWrong, parametersWrong, shapeWrong}
 use Rattle.command.specs.Requests.{fieldOf}
 use Rattle.steps.specs.Asked.{Asked}
 use Rattle.steps.specs.Conditions.{cardRows}

@@ -11,7 +11,7 @@ use Rattle.card.specs.Steps.{tickStep, lostStep, confirmStep}
 use Rattle.card.specs.Answers.{accepted, refused}
 use Rattle.card.specs.Fresh.{freshOutcome}
 use Rattle.choice.specs.Choice.{pick, atMost, isBelow, isSame}
-use Rattle.tlv.specs.Lists.{closed, elementOf, restOf, listOf, listWithin, listAt, elementAt, listWrong}
+use Rattle.tlv.specs.Lists.{listWrong, listAt, listWithin, listOf, elementOf, restOf, closed}
 use Rattle.tlv.specs.Tlv.{tagAt, lengthAt, afterLength, afterTag, headAt, expectOf, expectAt}
 use Rattle.reader.specs.Reader.{aloneAt}
 use Rattle.fields.specs.StoreData.{dgiAt, confirmationAt, namedBy, storeDataAt}
@@ -28,7 +28,7 @@ use Rattle.demands.specs.Others.{OthersMet}
 use Rattle.demands.specs.Free.{without, history, room, FreeMet}
 
 pub met : UsedBytesMet × OthersMet × FreeMet
-unfolding wordOf sameBytes padded isFor clash zeros placeOk seek quotas allOf anyOf countOf distinct allOff enableAt tickOf lostOf confirmOf phaseOk sound tickStep lostStep confirmStep accepted refused freshOutcome pick atMost isBelow isSame tagAt lengthAt afterLength afterTag headAt expectOf expectAt closed elementOf restOf listOf listWithin listAt elementAt listWrong aloneAt dgiAt confirmationAt namedBy storeDataAt protocolsWithin protocolsAt numberAt grantOf memoryAt parametersAt prefixedOf prefixedAt namesAt rightsAt installOf lengthWrong classRight classWrong instructionWrong parametersRight parametersWrong shapeRight shapeWrong fieldOf dataWrong deletedResponse step run exchanges noneFills without history fresh room
+unfolding wordOf sameBytes padded isFor clash zeros placeOk seek quotas allOf anyOf countOf distinct allOff enableAt tickOf lostOf confirmOf phaseOk sound tickStep lostStep confirmStep accepted refused freshOutcome pick atMost isBelow isSame tagAt lengthAt afterLength afterTag headAt expectOf expectAt aloneAt dgiAt confirmationAt namedBy storeDataAt protocolsWithin protocolsAt numberAt grantOf memoryAt parametersAt prefixedOf prefixedAt namesAt rightsAt installOf lengthWrong classRight classWrong instructionWrong parametersRight parametersWrong shapeRight shapeWrong fieldOf dataWrong deletedResponse step run exchanges noneFills without history fresh room listWrong listAt listWithin listOf elementOf restOf closed
 met = (
   record { five = refl; one-sound = refl; other-sound = refl; spared = refl },
   record { there = refl; target = refl; other = refl; stays = refl; goes = refl },

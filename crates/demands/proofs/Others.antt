@@ -26,9 +26,9 @@ use Rattle.card.proofs.Sounds.{choose}
 use Rattle.card.proofs.Outcomes.{accepted-card}
 use Rattle.steps.specs.Asked.{Act, Act.enable, Act.disable, Act.delete, Act.masterDelete, Act.setFallBack, Act.status, Act.keyed, Act.stored, Act.finished, Asked, Asked.unread, Asked.create, Asked.on, Asked.confirm, Asked.statusOfAll, Asked.getData, Asked.tick, Asked.lost}
 use Rattle.steps.specs.Steps.{stepOf, actStep, responseOf}
+use Rattle.steps.proofs.Laws.Places.{held-within}
 use Rattle.manager.specs.Calls.{asked}
 use Rattle.manager.specs.Manager.{step, work}
-use Rattle.steps.proofs.Laws.Places.{held-within}
 use Rattle.demands.specs.Others.{AsItWas, targets, leaves, leavesIn, OthersUntouched, SaveTheDeletion}
 use Rattle.demands.proofs.Taken.{hands-back, takes-step}
 

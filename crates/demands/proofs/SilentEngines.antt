@@ -14,17 +14,16 @@ use Rattle.places.specs.Places.{seek, quotas, allOf, anyOf, countOf, distinct, 
 use Rattle.card.specs.Sound.{phaseOk, sound}
 use Rattle.card.specs.Clock.{tickOf, lostOf, confirmOf}
 use Rattle.card.specs.Steps.{tickStep, lostStep, confirmStep}
-use Rattle.card.specs.Notifications.{noticeSince}
+use Rattle.card.specs.Notifications.{noticeSince, silent, codeOf}
 use Rattle.card.specs.Answers.{accepted}
 use Rattle.card.specs.Fresh.{freshOutcome}
-use Rattle.card.specs.Notifications.{silent, codeOf}
 use Rattle.card.specs.declared.Notification.{Notification}
 use Rattle.card.specs.declared.Kind.the-variants.{Silent}
 use Rattle.card.specs.Noticed.{JustOpened, silently, told}
 use Rattle.card.specs.declared.Phase.{Phase}
 use Rattle.card.specs.declared.Phase.the-variants.{Quiet, Trial, Back, Fallen}
 use Rattle.choice.specs.Choice.{pick, atMost, isBelow, isSame}
-use Rattle.tlv.specs.Lists.{closed, elementOf, restOf, listOf, listWithin, listAt, elementAt, listWrong}
+use Rattle.tlv.specs.Lists.{listWrong, listAt, listWithin, listOf, elementOf, restOf, closed}
 use Rattle.tlv.specs.Tlv.{tagAt, lengthAt, afterLength, afterTag, headAt, expectOf, expectAt}
 use Rattle.reader.specs.Reader.{aloneAt}
 use Rattle.fields.specs.StoreData.{dgiAt, confirmationAt, namedBy, storeDataAt}
@@ -32,9 +31,8 @@ use Rattle.install.specs.Parameters.{protocolsWithin, protocolsAt, numberAt, gr
 use Rattle.install.specs.Install.{prefixedOf, prefixedAt, namesAt, rightsAt, installOf}
 use Rattle.command.specs.Framing.{lengthWrong, classRight, classWrong, instructionWrong, parametersRight, parametersWrong, shapeRight, shapeWrong}
 use Rattle.command.specs.Requests.{fieldOf, dataWrong}
-use Rattle.manager.specs.Calls.{Call}
+use Rattle.manager.specs.Calls.{Call, Call.Tick, Call.Lost}
 use Rattle.manager.specs.Manager.{step}
-use Rattle.manager.specs.Calls.{Call.Tick, Call.Lost}
 use Rattle.demands.specs.Change.{enabledBytes, isTick}
 use Rattle.demands.specs.Inputs.{freshOf}
 use Rattle.demands.specs.Examples.{aid, inputs, enable, confirm, load, ticks}
@@ -56,7 +54,7 @@ record Runs : Type 0 where
   tick : Silence (silentOn isTick) (load 2 0 ++ enable 2 ∷ ticks 9) Tick
 
 runs : Runs
-unfolding reached remembered step wordOf sameBytes padded isFor clash zeros placeOk seek quotas allOf anyOf countOf distinct allOff enableAt phaseOk sound tickOf lostOf confirmOf tickStep lostStep confirmStep noticeSince accepted freshOutcome pick atMost isBelow isSame tagAt lengthAt afterLength afterTag headAt expectOf expectAt closed elementOf restOf listOf listWithin listAt elementAt listWrong aloneAt dgiAt confirmationAt namedBy storeDataAt protocolsWithin protocolsAt numberAt grantOf memoryAt parametersAt prefixedOf prefixedAt namesAt rightsAt installOf lengthWrong classRight classWrong instructionWrong parametersRight parametersWrong shapeRight shapeWrong fieldOf dataWrong
+unfolding reached remembered step wordOf sameBytes padded isFor clash zeros placeOk seek quotas allOf anyOf countOf distinct allOff enableAt phaseOk sound tickOf lostOf confirmOf tickStep lostStep confirmStep noticeSince accepted freshOutcome pick atMost isBelow isSame tagAt lengthAt afterLength afterTag headAt expectOf expectAt aloneAt dgiAt confirmationAt namedBy storeDataAt protocolsWithin protocolsAt numberAt grantOf memoryAt parametersAt prefixedOf prefixedAt namesAt rightsAt installOf lengthWrong classRight classWrong instructionWrong parametersRight parametersWrong shapeRight shapeWrong fieldOf dataWrong listWrong listAt listWithin listOf elementOf restOf closed
 runs =
     record {
       made = refl;

@@ -23,13 +23,13 @@ use Rattle.card.specs.declared.Card.{Card}
 use Rattle.card.proofs.Outcomes.{decided}
 use Rattle.tlv.specs.Encoding.{Bytes}
 use Rattle.fields.specs.Grammar.{Wanted, wantedOf}
+use Rattle.fields.specs.Places.{Placed, RequestIn}
+use Rattle.fields.specs.declared.request.Request.{Request}
+use Rattle.fields.specs.declared.request.Request.the-variants as request
 use Rattle.command.specs.Grammar.{Encodes, readAs}
 use Rattle.command.specs.Reading.{readOf}
 use Rattle.command.specs.Framing.{lengthWrong, classWrong, instructionWrong, parametersWrong, shapeWrong}
 use Rattle.command.specs.Requests.{dataWrong}
-use Rattle.fields.specs.Places.{Placed, RequestIn}
-use Rattle.fields.specs.declared.request.Request.{Request}
-use Rattle.fields.specs.declared.request.Request.the-variants as request
 use Rattle.command.specs.declared.Reading.{Reading}
 use Rattle.command.specs.declared.Reading.the-variants as reading
 use Rattle.command.proofs.Answers.{passes-done, done-read, refused-word}

@@ -27,7 +27,7 @@ use Rattle.card.specs.Ticks.{stepsIn, ticksToCome}
 use Rattle.card.specs.Answers.{Outcome, refused, accepted}
 use Rattle.card.specs.Fresh.{freshOutcome}
 use Rattle.choice.specs.Choice.{pick, atMost, isBelow, isSame}
-use Rattle.tlv.specs.Lists.{closed, elementOf, restOf, listOf, listWithin, listAt, elementAt, listWrong}
+use Rattle.tlv.specs.Lists.{listWrong, listAt, listWithin, listOf, elementOf, restOf, closed}
 use Rattle.tlv.specs.Tlv.{tagAt, lengthAt, afterLength, afterTag, headAt, expectOf, expectAt}
 use Rattle.reader.specs.Reader.{aloneAt}
 use Rattle.fields.specs.StoreData.{dgiAt, confirmationAt, namedBy, storeDataAt}
@@ -87,7 +87,7 @@ record Runs : Type 0 where
   late-quiet : isQuiet (cardAfter lateConfirmationTaken inputs (load 2 0 ++ enable 2 ∷ (ticks 10 ++ confirm 1 ∷ [])) .phase) ≡ true
 
 runs : Runs
-unfolding reached remembered ticksAmong staysOpen step run wordOf sameBytes padded isFor clash zeros placeOk seek quotas allOf anyOf countOf distinct allOff enableAt phaseOk sound tickOf lostOf confirmOf tickStep lostStep confirmStep noticeSince stepsIn ticksToCome refused accepted freshOutcome pick atMost isBelow isSame tagAt lengthAt afterLength afterTag headAt expectOf expectAt closed elementOf restOf listOf listWithin listAt elementAt listWrong aloneAt dgiAt confirmationAt namedBy storeDataAt verificationAt deletionAt noted listedWithin listedAt tagsAt listingAt protocolsWithin protocolsAt numberAt grantOf memoryAt parametersAt prefixedOf prefixedAt namesAt rightsAt installOf lengthWrong classRight classWrong instructionWrong parametersRight parametersWrong shapeRight shapeWrong fieldOf dataWrong statusBody statusRow rowOf rowsFrom statusResponse oneStatus dataResponse deletedResponse
+unfolding reached remembered ticksAmong staysOpen step run wordOf sameBytes padded isFor clash zeros placeOk seek quotas allOf anyOf countOf distinct allOff enableAt phaseOk sound tickOf lostOf confirmOf tickStep lostStep confirmStep noticeSince stepsIn ticksToCome refused accepted freshOutcome pick atMost isBelow isSame tagAt lengthAt afterLength afterTag headAt expectOf expectAt aloneAt dgiAt confirmationAt namedBy storeDataAt verificationAt deletionAt noted listedWithin listedAt tagsAt listingAt protocolsWithin protocolsAt numberAt grantOf memoryAt parametersAt prefixedOf prefixedAt namesAt rightsAt installOf lengthWrong classRight classWrong instructionWrong parametersRight parametersWrong shapeRight shapeWrong fieldOf dataWrong statusBody statusRow rowOf rowsFrom statusResponse oneStatus dataResponse deletedResponse listWrong listAt listWithin listOf elementOf restOf closed
 runs =
     record {
       made = refl;
@@ -164,7 +164,7 @@ left c true w r = refl
 left c false w r = refl
 
 listed-card : (c : Card) → step c getStatus .card ≡ c
-unfolding step fieldOf pick isSame listingAt tagsAt aloneAt expectAt closed elementOf restOf listOf listWithin listAt elementAt listWrong expectOf headAt afterTag afterLength tagAt lengthAt atMost isBelow
+unfolding step fieldOf pick isSame listingAt tagsAt aloneAt expectAt expectOf headAt afterTag afterLength tagAt lengthAt atMost isBelow listWrong listAt listWithin listOf elementOf restOf closed
 listed-card c = left c (isDone (tableWord c getStatus)) (tableWord c getStatus) (responseOf c (asked c getStatus))
 
 -- a creation does not

@@ -9,8 +9,7 @@ use Rattle.card.specs.Sound.{sound}
 use Rattle.card.specs.Answers.{Outcome}
 use Rattle.card.specs.declared.Card.{Card}
 use Rattle.fields.specs.Grammar as field
-use Rattle.fields.specs.Grammar.{Created}
-use Rattle.fields.specs.Grammar.{Wanted}
+use Rattle.fields.specs.Grammar.{Created, Wanted}
 use Rattle.command.specs.Grammar.{Encodes}
 use Rattle.steps.specs.Laws.Met.{aidEnding}
 use Rattle.steps.specs.Laws.Create.{CreateAnswers}

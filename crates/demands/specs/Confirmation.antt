@@ -9,8 +9,7 @@ use Rattle.card.specs.Sound.{sound}
 use Rattle.card.specs.Clock.{outstanding}
 use Rattle.card.specs.declared.Card.{Card}
 use Rattle.card.specs.declared.Phase.the-variants.{Quiet}
-use Rattle.fields.specs.Grammar.{confirmation}
-use Rattle.fields.specs.Grammar.{storeData}
+use Rattle.fields.specs.Grammar.{confirmation, storeData}
 use Rattle.command.specs.Grammar.{Encodes}
 use Rattle.manager.specs.Calls.{Call, Call.Command}
 use Rattle.manager.specs.Table.{leastBuffer}

@@ -11,8 +11,7 @@ use Rattle.places.specs.Places.{isFree, anyOf}
 use Rattle.card.specs.Cards.{isQuiet, freeIn}
 use Rattle.card.specs.Sound.{sound}
 use Rattle.card.specs.declared.Card.{Card}
-use Rattle.fields.specs.Grammar.{Created}
-use Rattle.fields.specs.Grammar.{create}
+use Rattle.fields.specs.Grammar.{Created, create}
 use Rattle.command.specs.Grammar.{Encodes}
 use Rattle.manager.specs.Calls.{Call.Command}
 use Rattle.manager.specs.Table.{leastBuffer}
