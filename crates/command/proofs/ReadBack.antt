@@ -11,26 +11,22 @@ use lib.Seq.{take-append-seam}
 use borrow.Author.Tests.{le-ltb}
 use Rattle.byte_string.specs.Bytes.{byte}
 use Rattle.tlv.specs.Encoding.{window}
-use Rattle.fields.specs.Grammar.{EncodesStored, EncodesDeleted, EncodesListed}
-use Rattle.fields.specs.StoreData.{storeDataAt}
-use Rattle.fields.specs.Delete.{deletionAt}
-use Rattle.fields.specs.GetStatus.{listingAt}
+use Rattle.fields.specs.Grammar.{EncodesStored, EncodesDeleted, EncodesListed, Wanted, create, storeData, deletion, getStatus, getData, foundAs}
 use Rattle.fields.proofs.StoreDataGrammar.{store-data-back}
 use Rattle.fields.proofs.DeletionGrammar.{deletion-back}
 use Rattle.fields.proofs.ListingGrammar.{listing-back}
-use Rattle.install.specs.Grammar.{EncodesInstall}
-use Rattle.install.specs.Install.{installOf}
+use Rattle.install.specs.Grammar.{EncodesCreated}
 use Rattle.install.proofs.ReadBack.{install-back}
 use Rattle.command.specs.Framing.{lengthWrong, classRight, classWrong, instructionWrong, parametersRight, parametersWrong, shapeRight, shapeWrong, dataEnd}
 use Rattle.command.specs.Frame.{leOf, framed}
 use Rattle.command.specs.Requests.{fieldOf, dataWrong}
 use Rattle.command.specs.Reading.{readOf}
-use Rattle.command.specs.Grammar.{Wanted, create, storeData, deletion, getStatus, getData, readAs, Framed, Bare, CommandBack}
+use Rattle.command.specs.Grammar.{readAs, Framed, Bare, CommandBack}
 use Rattle.command.proofs.Frames.{five, framed-length, framed-shape}
 use Rattle.command.proofs.Answers.{Passes, passes-done}
-use Rattle.command.proofs.Fields.{fieldAs, accepted-as, right-as, field-create, field-deletion, field-store-data, field-listing, field-get-data, create-as, store-data-as, deletion-as, listing-as}
+use Rattle.command.proofs.Fields.{accepted-as, right-as, field-create, field-deletion, field-store-data, field-listing, field-get-data}
 
-passes-read : (s : List ℕ) (capacity : ℕ) (v : Wanted) → Passes s capacity → fieldAs s (fieldOf s capacity) ≡ some v → readAs s (readOf s capacity) ≡ some v
+passes-read : (s : List ℕ) (capacity : ℕ) (v : Wanted) → Passes s capacity → foundAs s (fieldOf s capacity) ≡ some v → readAs s (readOf s capacity) ≡ some v
 unfolding readOf
 passes-read s capacity v p q = rw (passes-done s capacity p) (accepted-as s (fieldOf s capacity) ∙ q)
 
@@ -49,7 +45,7 @@ module _ (class instruction p1 p2 : ℕ) (field : List ℕ) (b : Bool) where
 
     framed-passes : (capacity : ℕ) (v : Wanted) → classRight class ≡ true → parametersRight instruction p1 p2 ≡ true → (instruction ≡ 0xCA → ⊥)
         → instructionWrong (framed class instruction p1 p2 field b) ≡ false
-        → fieldAs (framed class instruction p1 p2 field b) (fieldOf (framed class instruction p1 p2 field b) capacity) ≡ some v
+        → foundAs (framed class instruction p1 p2 field b) (fieldOf (framed class instruction p1 p2 field b) capacity) ≡ some v
         → readAs (framed class instruction p1 p2 field b) (readOf (framed class instruction p1 p2 field b) capacity) ≡ some v
     unfolding lengthWrong classWrong parametersWrong shapeWrong dataWrong
     framed-passes capacity v c p n i q =
@@ -66,7 +62,7 @@ module _ (class instruction p1 p2 : ℕ) (field : List ℕ) (b : Bool) where
 -- a command with a data field, where the field's own theorem reads it back
 framed-back : (s : List ℕ) (capacity : ℕ) (v : Wanted) (instruction : ℕ) (Encoded : List ℕ → Type 0) → (instruction ≡ 0xCA → ⊥)
     → ((t : List ℕ) → byte t 1 ≡ instruction → instructionWrong t ≡ false)
-    → ((t : List ℕ) → byte t 1 ≡ instruction → 5 ≤ dataEnd t → dataEnd t ≤ length t → Encoded (window t 5 (dataEnd t)) → fieldAs t (fieldOf t capacity) ≡ some v)
+    → ((t : List ℕ) → byte t 1 ≡ instruction → 5 ≤ dataEnd t → dataEnd t ≤ length t → Encoded (window t 5 (dataEnd t)) → foundAs t (fieldOf t capacity) ≡ some v)
     → Framed instruction Encoded s → readAs s (readOf s capacity) ≡ some v
 framed-back s capacity v instruction Encoded n known reads f =
     let t : List ℕ = framed (f .class) instruction (f .p1) (f .p2) (f .field) (f .withLe) in
@@ -80,7 +76,7 @@ bare-back : (s : List ℕ) (capacity : ℕ) → Bare s → readAs s (readOf s ca
 unfolding lengthWrong classWrong instructionWrong parametersRight parametersWrong shapeRight shapeWrong dataWrong
 bare-back s capacity f =
     let t : List ℕ = f .class ∷ 0xCA ∷ 0xFF ∷ 0x21 ∷ 0x00 ∷ [] in
-    let q : fieldAs t (fieldOf t capacity) ≡ some getData = ap (fieldAs t) (sym (field-get-data t capacity refl)) in
+    let q : foundAs t (fieldOf t capacity) ≡ some getData = ap (foundAs t) (sym (field-get-data t capacity refl)) in
     subst (λ (z : List ℕ). readAs z (readOf z capacity) ≡ some getData) (sym (f .written))
     (passes-read t capacity getData record {
       lengthRight = refl;
@@ -93,12 +89,12 @@ bare-back s capacity f =
 
 pub command-back : CommandBack
 unfolding instructionWrong
-command-back s capacity (create u) = framed-back s capacity (create u) 0xE6 (EncodesInstall capacity (u .aid) (u .quota)) (omega arith) (λ t i. rw i refl) (λ t i o l e.
-    ap (fieldAs t) (sym (field-create t capacity i)) ∙ create-as t (installOf t 5 (dataEnd t) capacity) u (install-back t 5 (dataEnd t) capacity u o l e))
+command-back s capacity (create u) = framed-back s capacity (create u) 0xE6 (EncodesCreated capacity u) (omega arith) (λ t i. rw i refl) (λ t i o l e.
+    ap (foundAs t) (sym (field-create t capacity i)) ∙ install-back t 5 (dataEnd t) capacity u o l e)
 command-back s capacity (storeData u) = framed-back s capacity (storeData u) 0xE2 (EncodesStored u) (omega arith) (λ t i. rw i refl) (λ t i o l e.
-    ap (fieldAs t) (sym (field-store-data t capacity i)) ∙ store-data-as t (storeDataAt t 5 (dataEnd t)) u (store-data-back t 5 (dataEnd t) u o l e))
+    ap (foundAs t) (sym (field-store-data t capacity i)) ∙ store-data-back t 5 (dataEnd t) u o l e)
 command-back s capacity (deletion u) = framed-back s capacity (deletion u) 0xE4 (EncodesDeleted u) (omega arith) (λ t i. rw i refl) (λ t i o l e.
-    ap (fieldAs t) (sym (field-deletion t capacity i)) ∙ deletion-as t (deletionAt t 5 (dataEnd t)) u (deletion-back t 5 (dataEnd t) u o l e))
+    ap (foundAs t) (sym (field-deletion t capacity i)) ∙ deletion-back t 5 (dataEnd t) u o l e)
 command-back s capacity (getStatus u) = framed-back s capacity (getStatus u) 0xF2 (EncodesListed u) (omega arith) (λ t i. rw i refl) (λ t i o l e.
-    ap (fieldAs t) (sym (field-listing t capacity i)) ∙ listing-as t (listingAt t 5 (dataEnd t)) u (listing-back t 5 (dataEnd t) u o l e))
+    ap (foundAs t) (sym (field-listing t capacity i)) ∙ listing-back t 5 (dataEnd t) u o l e)
 command-back s capacity getData = bare-back s capacity

@@ -12,28 +12,24 @@ use borrow.Author.Tests.{eqb-true, ne-eqb, eq-eqb, not-false}
 use Rattle.byte_string.specs.Bytes.{byte}
 use Rattle.tlv.specs.Encoding.{window, Bytes}
 use Rattle.choice.proofs.Branches.{each-eq}
-use Rattle.fields.specs.StoreData.{storeDataAt}
-use Rattle.fields.specs.Delete.{deletionAt}
-use Rattle.fields.specs.GetStatus.{listingAt}
+use Rattle.fields.specs.Grammar.{Wanted, getData, wantedOf, foundAs}
 use Rattle.fields.proofs.StoreDataGrammar.{store-data-written}
 use Rattle.fields.proofs.DeletionGrammar.{deletion-written}
 use Rattle.fields.proofs.ListingGrammar.{listing-written}
-use Rattle.install.specs.Install.{installOf}
 use Rattle.install.proofs.Written.{install-written}
-use Rattle.command.specs.declared.request.Request.{Request}
-use Rattle.command.specs.declared.request.Request.the-variants as request
-use Rattle.command.specs.declared.request.Field.{Field}
-use Rattle.command.specs.declared.request.Field.the-variants as field
+use Rattle.fields.specs.declared.request.Request.{Request}
+use Rattle.fields.specs.declared.request.Request.the-variants as request
+use Rattle.fields.specs.declared.request.Field.{Field}
+use Rattle.fields.specs.declared.request.Field.the-variants as field
 use Rattle.command.specs.declared.Reading.{Reading}
 use Rattle.command.specs.declared.Reading.the-variants as reading
 use Rattle.command.specs.Framing.{classRight, classWrong, instructionWrong, parametersRight, parametersWrong, shapeRight, shapeWrong, isBare, dataEnd}
 use Rattle.command.specs.Frame.{framed, dataField, hasLe}
 use Rattle.command.specs.Requests.{fieldOf}
 use Rattle.command.specs.Reading.{readOf}
-use Rattle.command.specs.Grammar.{Wanted, getData, wantedOf, readAs, Framed, Bare, Encodes, CommandWritten}
+use Rattle.command.specs.Grammar.{readAs, Framed, Bare, Encodes, CommandWritten}
 use Rattle.command.proofs.Frames.{and-l, and-r, five, framed-whole, field-length}
 use Rattle.command.proofs.Answers.{Passes, read-passes, read-done}
-use Rattle.command.proofs.Fields.{fieldAs, as-create, as-store-data, as-deletion, as-listing}
 
 read-as : (s : List ℕ) (r : Reading) (v : Wanted) → readAs s r ≡ some v → (q : Request) × ((reading.Read q ≡ r) × (some (wantedOf s q) ≡ some v))
 read-as s (reading.Read q) v e = (q, (refl, e))
@@ -127,23 +123,19 @@ unfolding fieldOf
 command-written s capacity v b q =
     let r = read-as s (readOf s capacity) v q in
     let p = read-passes s capacity (r .0) (r .1 .0) in
-    let f : fieldAs s (fieldOf s capacity) ≡ some v = ap (fieldAs s) (sym (read-done s capacity (r .0) (r .1 .0) .1)) ∙ r .1 .1 in
-    let P : Field → Type 0 = λ z. fieldAs s z ≡ some v → Encodes capacity v s in
+    let f : foundAs s (fieldOf s capacity) ≡ some v = ap (foundAs s) (sym (read-done s capacity (r .0) (r .1 .0) .1)) ∙ r .1 .1 in
+    let P : Field → Type 0 = λ z. foundAs s z ≡ some v → Encodes capacity v s in
     each-eq P
-    (λ i h. let u = as-create s (installOf s 5 (dataEnd s) capacity) v h in
-    subst (λ (w : Wanted). Encodes capacity w s) (u .1 .1)
-    (framed-written s capacity p 0xE6 _ b i (omega arith) (install-written s 5 (dataEnd s) capacity (u .0) b (u .1 .0) .1 .1)))
+    (λ i h. let u = install-written s 5 (dataEnd s) capacity v b h in
+    subst (λ (w : Wanted). Encodes capacity w s) (u .meant) (framed-written s capacity p 0xE6 _ b i (omega arith) (u .encoded)))
     (λ x. each-eq P
-    (λ i h. let u = as-deletion s (deletionAt s 5 (dataEnd s)) v h in
-    subst (λ (w : Wanted). Encodes capacity w s) (u .1 .1)
-    (framed-written s capacity p 0xE4 _ b i (omega arith) (deletion-written s 5 (dataEnd s) (u .0) b (u .1 .0) .1 .1)))
+    (λ i h. let u = deletion-written s 5 (dataEnd s) v b h in
+    subst (λ (w : Wanted). Encodes capacity w s) (u .meant) (framed-written s capacity p 0xE4 _ b i (omega arith) (u .encoded)))
     (λ y. each-eq P
-    (λ i h. let u = as-store-data s (storeDataAt s 5 (dataEnd s)) v h in
-    subst (λ (w : Wanted). Encodes capacity w s) (u .1 .1)
-    (framed-written s capacity p 0xE2 _ b i (omega arith) (store-data-written s 5 (dataEnd s) (u .0) b (u .1 .0) .1 .1)))
+    (λ i h. let u = store-data-written s 5 (dataEnd s) v b h in
+    subst (λ (w : Wanted). Encodes capacity w s) (u .meant) (framed-written s capacity p 0xE2 _ b i (omega arith) (u .encoded)))
     (λ z. each-eq P
-    (λ i h. let u = as-listing s (listingAt s 5 (dataEnd s)) v h in
-    subst (λ (w : Wanted). Encodes capacity w s) (u .1 .1)
-    (framed-written s capacity p 0xF2 _ b i (omega arith) (listing-written s 5 (dataEnd s) (u .0) b (u .1 .0) .1 .1)))
+    (λ i h. let u = listing-written s 5 (dataEnd s) v b h in
+    subst (λ (w : Wanted). Encodes capacity w s) (u .meant) (framed-written s capacity p 0xF2 _ b i (omega arith) (u .encoded)))
     (λ w h. let g : getData ≡ v = cc in
     subst (λ (w : Wanted). Encodes capacity w s) g (bare-written s capacity p (instruction-last s capacity p x y z w)))))) f

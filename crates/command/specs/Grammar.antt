@@ -1,42 +1,21 @@
 -- Document 01, 'Reading a command', from the writer's side: the string of each command, for every legal value, class, and Le or not.
 -- Reading such a string gives the value back, and whatever is accepted is such a string; an AID counts by its bytes.
-use Prim.Native.Nat.{ℕ, _+_, _≤_}
+use Prim.Native.Nat.{ℕ, _≤_}
 use mathlib.Core.Path.{_≡_}
 use mathlib.Core.List.{List, [], _∷_}
 use mathlib.Core.Option.{Option, none, some}
 use mathlib.Core.Bool.{Bool, true}
 use lib.ListN.{length}
-use Rattle.byte_string.specs.Bytes.{partOf}
 use Rattle.tlv.specs.Encoding.{Bytes}
-use Rattle.fields.specs.Grammar.{Stored, enable, disable, setFallBack, confirmation, EncodesStored, Deleted, delete, masterDelete, EncodesDeleted, Asked, asked, EncodesListed}
-use Rattle.install.specs.Grammar.{Created, EncodesInstall}
-use Rattle.command.specs.declared.request.Request.{Request}
-use Rattle.command.specs.declared.request.Request.the-variants as request
+use Rattle.fields.specs.Places.{RequestIn}
+use Rattle.fields.specs.Grammar.{EncodesStored, EncodesDeleted, EncodesListed, Wanted, create, storeData, deletion, getStatus, getData, wantedOf}
+use Rattle.install.specs.Grammar.{EncodesCreated}
+use Rattle.fields.specs.declared.request.Request.{Request}
 use Rattle.command.specs.declared.Reading.{Reading}
 use Rattle.command.specs.declared.Reading.the-variants as reading
 use Rattle.command.specs.Framing.{classRight, parametersRight}
 use Rattle.command.specs.Frame.{framed}
 use Rattle.command.specs.Reading.{readOf}
-
--- what a command asks for
-pub data Wanted : Type 0 where
-  create : Created → Wanted
-  storeData : Stored → Wanted
-  deletion : Deleted → Wanted
-  getStatus : Asked → Wanted
-  getData : Wanted
-
-abbrev pub wantedOf : List ℕ → Request → Wanted
-wantedOf s (request.Create part quota) = create (record { aid = partOf s part; quota = quota })
-wantedOf s (request.Enable part) = storeData (enable (partOf s part))
-wantedOf s (request.Disable part) = storeData (disable (partOf s part))
-wantedOf s (request.SetFallBack part) = storeData (setFallBack (partOf s part))
-wantedOf s (request.Confirm number) = storeData (confirmation number)
-wantedOf s (request.Delete part) = deletion (delete (partOf s part))
-wantedOf s (request.MasterDelete part) = deletion (masterDelete (partOf s part))
-wantedOf s (request.GetStatusOfAll life fallBack) = getStatus (asked [] life fallBack)
-wantedOf s (request.GetStatusOfOne part life fallBack) = getStatus (asked (partOf s part) life fallBack)
-wantedOf s request.GetData = getData
 
 abbrev pub readAs : List ℕ → Reading → Option Wanted
 readAs s (reading.Read r) = some (wantedOf s r)
@@ -62,7 +41,7 @@ pub record Bare (s : List ℕ) : Type 0 where
   pub written : s ≡ class ∷ 0xCA ∷ 0xFF ∷ 0x21 ∷ 0x00 ∷ []
 
 abbrev pub Encodes : ℕ → Wanted → List ℕ → Type 0
-Encodes capacity (create v) s = Framed 0xE6 (EncodesInstall capacity (v .aid) (v .quota)) s
+Encodes capacity (create v) s = Framed 0xE6 (EncodesCreated capacity v) s
 Encodes capacity (storeData v) s = Framed 0xE2 (EncodesStored v) s
 Encodes capacity (deletion v) s = Framed 0xE4 (EncodesDeleted v) s
 Encodes capacity (getStatus v) s = Framed 0xF2 (EncodesListed v) s
@@ -75,3 +54,7 @@ CommandBack = (s : List ℕ) (capacity : ℕ) (v : Wanted) → Encodes capacity 
 -- whatever is accepted is the encoding of what was read
 abbrev pub CommandWritten : Type 0
 CommandWritten = (s : List ℕ) (capacity : ℕ) (v : Wanted) → Bytes s → readAs s (readOf s capacity) ≡ some v → Encodes capacity v s
+
+-- what an accepted command names stands in it
+abbrev pub ReadInside : Type 0
+ReadInside = (s : List ℕ) (capacity : ℕ) (r : Request) → reading.Read r ≡ readOf s capacity → RequestIn s capacity r

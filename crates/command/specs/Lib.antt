@@ -3,5 +3,4 @@ pub mod Framing
 pub mod Frame
 pub mod Requests
 pub mod Reading
-pub mod Places
 pub mod Grammar

@@ -1,17 +1,26 @@
 // Reading a command: from a byte string of any length to a request, or to the word of its refusal.
 mod framing;
-mod request;
 
+use byte_string::byte_at;
+pub use fields::Field;
+pub use fields::Request;
+use fields::read_deletion;
+use fields::read_listing;
+use fields::read_store_data;
+use framing::DELETE;
+use framing::GET_STATUS;
+use framing::INSTALL;
+use framing::STORE_DATA;
 use framing::class_wrong;
+use framing::data_end;
 use framing::instruction_wrong;
 use framing::length_wrong;
 use framing::parameters_wrong;
 use framing::shape_wrong;
-pub use request::Field;
-pub use request::Request;
-use request::read_field;
+use install::read_install;
 use status::Status;
 ghost use mathlib.Core.Path.{_≡_};
+ghost use Rattle.command.specs.Requests.{fieldOf};
 ghost use Rattle.command.specs.Reading.{readOf, readingWord};
 
 pub enum Reading {
@@ -29,6 +38,29 @@ impl Reading {
             Reading::Refused(status) => status,
         }
     }
+}
+
+const FIELD: usize = 5;
+
+// What is left of the instructions is GET DATA, which has no data field.
+fn read_field(bytes: &[u8], capacity: u32) -> Field
+    ensures { λ r. ⌜ r ≡ fieldOf (now (bytes .entry)) capacity ⌝ }
+{
+    let instruction = byte_at(bytes, 1);
+    let end = data_end(bytes);
+    if instruction == INSTALL {
+        return read_install(bytes, FIELD, end, capacity);
+    }
+    if instruction == DELETE {
+        return read_deletion(bytes, FIELD, end);
+    }
+    if instruction == STORE_DATA {
+        return read_store_data(bytes, FIELD, end);
+    }
+    if instruction == GET_STATUS {
+        return read_listing(bytes, FIELD, end);
+    }
+    Field::Found(Request::GetData)
 }
 
 pub fn read(bytes: &[u8], capacity: u32) -> Reading

@@ -9,21 +9,26 @@ use lib.ListN.{length}
 use Rattle.byte_string.specs.Bytes.{between, partOf}
 use Rattle.tlv.specs.Tlv.{expectAt}
 use Rattle.tlv.specs.declared.Element.the-variants as element
+use Rattle.tlv.specs.Lists.{listWrong}
+use Rattle.tlv.specs.Filled.{Filled, ended, primitive, constructed}
 use Rattle.tlv.specs.Encoding.{window, Bytes, encodeElement}
-use Rattle.choice.proofs.Branches.{each-eq, eq!, ne! }
+use Rattle.choice.proofs.Branches.{no!, each, each-eq, eq!, ne! }
 use Rattle.tlv.proofs.Inside.{Expected, expect-parts, expect-inside}
 use Rattle.tlv.proofs.Windows.{window-length, window-part}
+use Rattle.tlv.proofs.Fills.{right-filled, filled-right, first-level, second-level}
 use Rattle.tlv.proofs.Written.{element-written}
-use Rattle.tlv.proofs.ReadBack.{one, two, element-back}
+use Rattle.tlv.specs.Grammar.{one, two}
+use Rattle.tlv.proofs.ReadBack.{element-back}
 use Rattle.fields.specs.declared.Verification.{Verification}
 use Rattle.fields.specs.declared.Verification.the-variants as verification
-use Rattle.fields.specs.declared.Deletion.{Deletion}
-use Rattle.fields.specs.declared.Deletion.the-variants as deletion
-use Rattle.fields.specs.Alone.{aloneAt}
+use Rattle.fields.specs.declared.request.Request.the-variants as request
+use Rattle.fields.specs.declared.request.Field.{Field}
+use Rattle.fields.specs.declared.request.Field.the-variants as field
+use Rattle.reader.specs.Reader.{aloneAt}
 use Rattle.fields.specs.Delete.{verificationAt, deletionAt}
-use Rattle.fields.specs.Grammar.{Named, Deleted, delete, masterDelete, deletedOf, Verified, Given, encodeVerification, LegalVerified, encodeMasterDelete, EncodesDeleted, DeletionBack, DeletionWritten}
-use Rattle.fields.proofs.Only.{alone-expected}
-use Rattle.fields.proofs.Parts.{alone-back, alone-written, part-named}
+use Rattle.fields.specs.Grammar.{Named, delete, masterDelete, Wanted, deletion, foundAs, Written, Verified, Given, encodeVerification, LegalVerified, encodeMasterDelete, EncodesDeleted, DeletionBack, DeletionWritten, DeletionFilled}
+use Rattle.reader.proofs.Alone.{alone-expected, alone-written, alone-back}
+use Rattle.fields.proofs.Parts.{part-named}
 use Rattle.fields.proofs.Cases.{each-filled, same-value, no-value}
 use Rattle.tlv.proofs.Branches.{each-found}
 use Rattle.tlv.proofs.Written.{elements-written}
@@ -31,14 +36,17 @@ use Rattle.tlv.proofs.Written.{elements-written}
 -- ---- an encoded field is read back
 
 verification-back : (s : List ℕ) (at end : ℕ) → at ≤ end → end ≤ length s → (v : Verified) → LegalVerified v
-    → window s at end ≡ encodeVerification v → verification.Filled ≡ verificationAt s at end
+    → window s at end ≡ encodeVerification v → (verification.Filled ≡ verificationAt s at end) × Filled s 2 at end
 unfolding encodeVerification verificationAt
 verification-back s at end ordered held v l q =
     let a = element-back s at end ordered held 0x42 1 255 (v .of42) _ (one (omega arith) (omega arith)) (l .given42 .least) (l .given42 .most) q in
     let b = element-back s (a .stop) end (a .within) held 0x45 1 255 (v .of45) _ (one (omega arith) (omega arith)) (l .given45 .least) (l .given45 .most) (a .after) in
     let c = element-back s (b .stop) end (b .within) held 0x5F20 1 255 (v .of5F20) _ (two (omega arith) (omega arith) (omega arith)) (l .given5F20 .least) (l .given5F20 .most) (b .after) in
     let d = alone-back s (c .stop) end (c .within) held 0x93 1 255 (v .of93) (one (omega arith) (omega arith)) (l .given93 .least) (l .given93 .most) (c .after) in
-    rw (← a .found) (rw (← b .found) (rw (← c .found) (rw (← d .found) refl)))
+    let l = second-level in (
+      rw (← a .found) (rw (← b .found) (rw (← c .found) (rw (← d .found) refl))),
+      primitive l (a .head) (primitive l (b .head) (primitive l (c .head) (primitive l (d .head) (ended l held)))),
+    )
 
 pub deletion-back : DeletionBack
 unfolding deletionAt
@@ -47,8 +55,9 @@ deletion-back s at end (delete aid) ordered held (named, q) =
     let n : end - a .stop ≡ 0 = sym (window-length s (a .stop) end held) ∙ ap length (a .after) in
     let w = a .within in let l = a .long in
     let m : a .stop ≡ end = omega arith in
-    let r : deletion.Delete (between (a .start) (a .stop)) ≡ deletionAt s at end = rw (← a .found) (eq! _ m refl) in
-    rw (← r) (ap (λ (l : List ℕ). some (delete l)) (window-part s (a .start) (a .stop) (omega arith) ∙ a .value))
+    let f : Filled s 1 at end = primitive first-level (a .head) (subst (λ (k : ℕ). Filled s 1 k end) (sym m) (ended first-level held)) in
+    let r : field.Found (request.Delete (between (a .start) (a .stop))) ≡ deletionAt s at end = no! _ (filled-right f) (rw (← a .found) (eq! _ m refl)) in
+    rw (← r) (ap (λ (l : List ℕ). some (deletion (delete l))) (window-part s (a .start) (a .stop) (omega arith) ∙ a .value))
 deletion-back s at end (masterDelete aid) ordered held (v, (named, (l, q))) =
     let a = element-back s at end ordered held 0x4F 5 16 aid _ (one (omega arith) (omega arith)) (named .least) (named .most) q in
     let b = element-back s (a .stop) end (a .within) held 0xB6 0 255 (encodeVerification v) _ (one (omega arith) (omega arith)) (omega arith) (l .most) (a .after) in
@@ -56,9 +65,10 @@ deletion-back s at end (masterDelete aid) ordered held (v, (named, (l, q))) =
     let f = verification-back s (b .start) (b .stop) (i .ordered) (omega arith) v l (b .value) in
     let t = alone-back s (b .stop) end (b .within) held 0x9E 1 255 (v .of9E) (one (omega arith) (omega arith)) (l .given9E .least) (l .given9E .most) (b .after) in
     let k = a .long in
-    let r : deletion.MasterDelete (between (a .start) (a .stop)) ≡ deletionAt s at end =
-    rw (← a .found) (ne! _ (omega arith) (rw (← b .found) (rw (← f) (rw (← t .found) refl)))) in
-    rw (← r) (ap (λ (l : List ℕ). some (masterDelete l)) (window-part s (a .start) (a .stop) (omega arith) ∙ a .value))
+    let r : field.Found (request.MasterDelete (between (a .start) (a .stop))) ≡ deletionAt s at end =
+    no! _ (filled-right (primitive first-level (a .head) (constructed first-level (b .head) (f .1) (primitive first-level (t .head) (ended first-level held)))))
+    (rw (← a .found) (ne! _ (omega arith) (rw (← b .found) (rw (← f .0) (rw (← t .found) refl))))) in
+    rw (← r) (ap (λ (l : List ℕ). some (deletion (masterDelete l))) (window-part s (a .start) (a .stop) (omega arith) ∙ a .value))
 
 -- ---- what is accepted is so encoded
 
@@ -100,12 +110,12 @@ module _ (s : List ℕ) (b : Bytes s) where
             ∙ ap (λ (l : List ℕ). encodeElement 0x5F20 (window s k₃ third) ++ l) (alone-written s third end 0x93 1 255 k₄ stop b q₄)));
       }
 
-module _ (s : List ℕ) (at end : ℕ) (w : Deleted) (b : Bytes s) where
-  abbrev Encoded : Deleted → Type 0
-  Encoded v = (at ≤ end) × ((end ≤ length s) × EncodesDeleted v (window s at end))
+module _ (s : List ℕ) (at end : ℕ) (w : Wanted) (b : Bytes s) where
+  abbrev Encoded : Wanted → Type 0
+  Encoded z = Written deletion EncodesDeleted s at end z
 
-  abbrev Accepted : Deletion → Type 0
-  Accepted z = deletedOf s z ≡ some w → Encoded w
+  abbrev Accepted : Field → Type 0
+  Accepted z = foundAs s z ≡ some w → Encoded w
 
   module _ (start stop : ℕ) (q : element.Found start stop ≡ expectAt s at end 0x4F 5 16) where
     named : Named (partOf s (between start stop))
@@ -114,15 +124,15 @@ module _ (s : List ℕ) (at end : ℕ) (w : Deleted) (b : Bytes s) where
         let i = x .inside in
         subst Named (sym (window-part s start stop (i .ordered))) (part-named s start stop (i .ordered) (omega arith) (x .least) (x .most))
 
-    delete-written : stop ≡ end → Accepted (deletion.Delete (between start stop))
+    delete-written : stop ≡ end → Accepted (field.Found (request.Delete (between start stop)))
     delete-written h =
         let i = expect-inside s at end 0x4F 5 16 start stop q in
         let bytes : window s at end ≡ encodeElement 0x4F (partOf s (between start stop)) =
         ap (window s at) (sym h) ∙ element-written s at end 0x4F 5 16 start stop b q ∙ ap (encodeElement 0x4F) (sym (window-part s start stop (i .ordered))) in
-        same-value Encoded (delete (partOf s (between start stop))) w (omega arith, (omega arith, (named, bytes)))
+        same-value Encoded (deletion (delete (partOf s (between start stop)))) w record { ordered = omega arith; held = omega arith; value = delete (partOf s (between start stop)); meant = refl; encoded = (named, bytes) }
 
     master-written : (from to k e : ℕ) → element.Found from to ≡ expectAt s stop end 0xB6 0 255 → verification.Filled ≡ verificationAt s from to
-        → element.Found k e ≡ aloneAt s to end 0x9E 1 255 → Accepted (deletion.MasterDelete (between start stop))
+        → element.Found k e ≡ aloneAt s to end 0x9E 1 255 → Accepted (field.Found (request.MasterDelete (between start stop)))
     master-written from to k e q₂ f g =
         let i = expect-inside s at end 0x4F 5 16 start stop q in
         let x = expect-parts s stop end 0xB6 0 255 from to q₂ in
@@ -145,11 +155,12 @@ module _ (s : List ℕ) (at end : ℕ) (w : Deleted) (b : Bytes s) where
         ∙ ap (λ (a : List ℕ). encodeElement 0xB6 a ++ window s to end) (v .bytes)
         ∙ ap (λ (a : List ℕ). encodeElement 0xB6 (encodeVerification (v .values)) ++ a) (alone-written s to end 0x9E 1 255 k e b g
         ∙ ap (encodeElement 0x9E) (sym (v .last)))) in
-        same-value Encoded (masterDelete (partOf s (between start stop))) w (omega arith, (omega arith, (v .values, (named, (l, bytes)))))
+        same-value Encoded (deletion (masterDelete (partOf s (between start stop)))) w record { ordered = omega arith; held = omega arith; value = masterDelete (partOf s (between start stop)); meant = refl; encoded = (v .values, (named, (l, bytes))) }
 
   accepted : Accepted (deletionAt s at end)
   unfolding deletionAt
-  accepted = each-found Accepted (expectAt s at end 0x4F 5 16) (no-value (Encoded w) w) λ start stop q.
+  accepted = each Accepted (listWrong s at end) (λ _. no-value (Encoded w) w) λ _.
+      each-found Accepted (expectAt s at end 0x4F 5 16) (no-value (Encoded w) w) λ start stop q.
       each-eq Accepted (delete-written start stop q)
       (λ _. each-found Accepted (expectAt s stop end 0xB6 0 255) (no-value (Encoded w) w) λ from to q₂.
       each-filled Accepted (verificationAt s from to) (no-value (Encoded w) w) λ f.
@@ -157,3 +168,8 @@ module _ (s : List ℕ) (at end : ℕ) (w : Deleted) (b : Bytes s) where
 
 pub deletion-written : DeletionWritten
 deletion-written s at end w b q = accepted s at end w b q
+
+pub deletion-filled : DeletionFilled
+unfolding deletionAt
+deletion-filled s at end r = each (λ (z : Field). field.Found r ≡ z → Filled s 1 at end) (listWrong s at end)
+    (λ _ q. let z : _≡_ {A = ℕ} 0 1 = cc in absurd (omega arith)) (λ e _. right-filled s at end e)

@@ -1,7 +1,5 @@
 -- The laws of the data fields.
-pub mod Alone
 pub mod Left
-pub mod Only
 pub mod Cases
 pub mod Parts
 pub mod StoreDataGrammar

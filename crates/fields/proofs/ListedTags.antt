@@ -13,7 +13,8 @@ use Rattle.choice.proofs.Branches.{each-le, each-eq, le!, nle!, eq!, ne! }
 use Rattle.tlv.proofs.Inside.{tag-inside}
 use Rattle.tlv.proofs.Windows.{window-none, window-length, window-cut}
 use Rattle.tlv.proofs.Written.{tag-written}
-use Rattle.tlv.proofs.ReadBack.{LegalTag, one, two, tag-back}
+use Rattle.tlv.specs.Grammar.{LegalTag, one, two}
+use Rattle.tlv.proofs.ReadBack.{tag-back}
 use Rattle.fields.specs.declared.Tags.{Tags}
 use Rattle.fields.specs.declared.Tags.the-variants as tags
 use Rattle.fields.specs.GetStatus.{noted, onTag, onShown, listedWithin, listedAt}

@@ -9,21 +9,25 @@ use lib.ListN.{length}
 use Rattle.byte_string.specs.Bytes.{between, partOf}
 use Rattle.tlv.specs.Tlv.{expectAt}
 use Rattle.tlv.specs.declared.Element.the-variants as element
+use Rattle.tlv.specs.Lists.{listWrong}
+use Rattle.tlv.specs.Filled.{Filled, ended, primitive}
 use Rattle.tlv.specs.Encoding.{window, Bytes, encodeElement}
-use Rattle.choice.proofs.Branches.{each-lt, each-eq, nlt!, eq!, ne! }
+use Rattle.choice.proofs.Branches.{no!, each, each-lt, each-eq, nlt!, eq!, ne! }
 use Rattle.tlv.proofs.Inside.{expect-parts, expect-inside}
 use Rattle.tlv.proofs.Windows.{window-none, window-length, window-part}
+use Rattle.tlv.proofs.Fills.{right-filled, filled-right, first-level}
 use Rattle.tlv.proofs.ReadBack.{element-back}
-use Rattle.tlv.proofs.ReadBack as legal
+use Rattle.tlv.specs.Grammar as legal
 use Rattle.fields.specs.declared.Tags.{Tags}
 use Rattle.fields.specs.declared.Tags.the-variants as tags
-use Rattle.fields.specs.declared.Listing.{Listing}
-use Rattle.fields.specs.declared.Listing.the-variants as listing
-use Rattle.fields.specs.Alone.{aloneAt}
+use Rattle.fields.specs.declared.request.Request.the-variants as request
+use Rattle.fields.specs.declared.request.Field.{Field}
+use Rattle.fields.specs.declared.request.Field.the-variants as field
+use Rattle.reader.specs.Reader.{aloneAt}
 use Rattle.fields.specs.GetStatus.{rowsOf, tagsAt, listingAt}
-use Rattle.fields.specs.Grammar.{Named, ListedTag, Asked, asked, Sought, all, one, Short, listedOf, encodeTags, encodeList, showsLife, showsFallBack, EncodesListed, ListingBack, ListingWritten}
-use Rattle.fields.proofs.Only.{alone-expected}
-use Rattle.fields.proofs.Parts.{alone-back, alone-written, part-named}
+use Rattle.fields.specs.Grammar.{Named, ListedTag, asked, Wanted, getStatus, foundAs, Written, Sought, all, one, Short, encodeTags, encodeList, showsLife, showsFallBack, EncodesListed, ListingBack, ListingWritten, ListingFilled}
+use Rattle.reader.proofs.Alone.{alone-expected, alone-written, alone-back}
+use Rattle.fields.proofs.Parts.{part-named}
 use Rattle.fields.proofs.ListedTags.{listed-back, listed-written}
 use Rattle.fields.proofs.Cases.{each-shown, same-value, no-value}
 use Rattle.tlv.proofs.Branches.{each-found}
@@ -35,13 +39,15 @@ empty : (s : List ℕ) (at end : ℕ) → at ≤ end → end ≤ length s → wi
 empty s at end o h q = let n : end - at ≡ 0 = sym (window-length s at end h) ∙ ap length q in omega arith
 
 tags-back : (s : List ℕ) (at end : ℕ) → at ≤ end → end ≤ length s → (ts : Option (List ListedTag)) → Short ts
-    → window s at end ≡ encodeList ts → tags.Shown (showsLife ts) (showsFallBack ts) ≡ tagsAt s at end
+    → window s at end ≡ encodeList ts → (tags.Shown (showsLife ts) (showsFallBack ts) ≡ tagsAt s at end) × Filled s 1 at end
 unfolding tagsAt
-tags-back s at end o h none short q = eq! _ (empty s at end o h q) refl
+tags-back s at end o h none short q =
+    let e = empty s at end o h q in
+    (eq! _ e refl, subst (λ (k : ℕ). Filled s 1 k end) (sym e) (ended first-level h))
 tags-back s at end o h (some ts) short q =
     let a = alone-back s at end o h 0x5C 0 255 (encodeTags ts) (legal.one (omega arith) (omega arith)) (omega arith) short q in
     let i = alone-expected s at end 0x5C 0 255 (a .start) end (a .found) .inside in
-    ne! _ (omega arith) (rw (← a .found) (listed-back ts s (a .start) end (i .ordered) h (a .value)))
+    (ne! _ (omega arith) (rw (← a .found) (listed-back ts s (a .start) end (i .ordered) h (a .value))), primitive first-level (a .head) (ended first-level h))
 
 sought-most : {who : List ℕ} → Sought who → length who ≤ 16
 sought-most all = omega arith
@@ -50,22 +56,24 @@ sought-most (one named) = named .most
 module _ (s : List ℕ) (life shown : Bool) where
   -- the rows for a value of 4F that is `who`
   who-back : (who : List ℕ) → Sought who → (start stop : ℕ) → stop ≡ start + length who → window s start stop ≡ who
-      → listedOf s (rowsOf start stop life shown) ≡ some (asked who life shown)
+      → foundAs s (rowsOf start stop life shown) ≡ some (getStatus (asked who life shown))
   who-back who all start stop l q =
-      let r : listing.All life shown ≡ rowsOf start stop life shown = eq! _ (omega arith) refl in
+      let r : field.Found (request.GetStatusOfAll life shown) ≡ rowsOf start stop life shown = eq! _ (omega arith) refl in
       rw (← r) refl
   who-back who (one named) start stop l q =
       let k = named .least in
-      let r : listing.One (between start stop) life shown ≡ rowsOf start stop life shown = ne! _ (omega arith) (nlt! _ (omega arith) refl) in
-      rw (← r) (ap (λ (a : List ℕ). some (asked a life shown)) (window-part s start stop (omega arith) ∙ q))
+      let r : field.Found (request.GetStatusOfOne (between start stop) life shown) ≡ rowsOf start stop life shown = ne! _ (omega arith) (nlt! _ (omega arith) refl) in
+      rw (← r) (ap (λ (a : List ℕ). some (getStatus (asked a life shown))) (window-part s start stop (omega arith) ∙ q))
 
 pub listing-back : ListingBack
 unfolding listingAt
 listing-back s at end v o h e =
     let a = element-back s at end o h 0x4F 0 16 (v .who) (encodeList (e .tags)) (legal.one (omega arith) (omega arith)) (omega arith) (sought-most (e .sought)) (e .written) in
     let t = tags-back s (a .stop) end (a .within) h (e .tags) (e .short) (a .after) in
-    rw (← a .found) (rw (← t) (rw (← e .lifeAsked) (rw (← e .fallBackAsked)
-    (who-back s (v .life) (v .fallBackShown) (v .who) (e .sought) (a .start) (a .stop) (a .long) (a .value)))))
+    let r : rowsOf (a .start) (a .stop) (showsLife (e .tags)) (showsFallBack (e .tags)) ≡ listingAt s at end =
+    no! _ (filled-right (primitive first-level (a .head) (t .1))) (rw (← a .found) (rw (← t .0) refl)) in
+    rw (← r) (rw (← e .lifeAsked) (rw (← e .fallBackAsked)
+    (who-back s (v .life) (v .fallBackShown) (v .who) (e .sought) (a .start) (a .stop) (a .long) (a .value))))
 
 -- ---- what is accepted is so encoded
 
@@ -97,38 +105,40 @@ tags-written s at end life shown b =
       bytes = alone-written s at end 0x5C 0 255 start stop b g ∙ ap (encodeElement 0x5C) (w .bytes);
     })
 
-module _ (s : List ℕ) (at end : ℕ) (w : Asked) (b : Bytes s) where
-  abbrev Encoded : Asked → Type 0
-  Encoded v = (at ≤ end) × ((end ≤ length s) × EncodesListed v (window s at end))
+module _ (s : List ℕ) (at end : ℕ) (w : Wanted) (b : Bytes s) where
+  abbrev Encoded : Wanted → Type 0
+  Encoded z = Written getStatus EncodesListed s at end z
 
-  abbrev Accepted : Listing → Type 0
-  Accepted z = listedOf s z ≡ some w → Encoded w
+  abbrev Accepted : Field → Type 0
+  Accepted z = foundAs s z ≡ some w → Encoded w
 
   module _ (start stop : ℕ) (q : element.Found start stop ≡ expectAt s at end 0x4F 0 16) where
     who-written : (who : List ℕ) (life shown : Bool) → Sought who → window s start stop ≡ who → tags.Shown life shown ≡ tagsAt s stop end
-        → Encoded (asked who life shown)
+        → Encoded (getStatus (asked who life shown))
     who-written who life shown sought e t =
         let i = expect-inside s at end 0x4F 0 16 start stop q in
-        let l = tags-written s stop end life shown b t in (
-          omega arith,
-          (
-            omega arith,
-            record {
-              tags = l .tags;
-              sought = sought;
-              short = l .short;
-              lifeAsked = l .lists;
-              fallBackAsked = l .listsToo;
-              written = elements-written s at end 0x4F 0 16 start stop b q
-                  ∙ ap (λ (a : List ℕ). encodeElement 0x4F a ++ window s stop end) e
-                  ∙ ap (λ (a : List ℕ). encodeElement 0x4F who ++ a) (l .bytes);
-            },
-          ),
-        )
+        let l = tags-written s stop end life shown b t in
+        record {
+          ordered = omega arith;
+          held = omega arith;
+          value = asked who life shown;
+          meant = refl;
+          encoded = record {
+            tags = l .tags;
+            sought = sought;
+            short = l .short;
+            lifeAsked = l .lists;
+            fallBackAsked = l .listsToo;
+            written = elements-written s at end 0x4F 0 16 start stop b q
+                ∙ ap (λ (a : List ℕ). encodeElement 0x4F a ++ window s stop end) e
+                ∙ ap (λ (a : List ℕ). encodeElement 0x4F who ++ a) (l .bytes);
+          };
+        }
 
   accepted : Accepted (listingAt s at end)
   unfolding listingAt
-  accepted = each-found Accepted (expectAt s at end 0x4F 0 16) (no-value (Encoded w) w) λ start stop q.
+  accepted = each Accepted (listWrong s at end) (λ _. no-value (Encoded w) w) λ _.
+      each-found Accepted (expectAt s at end 0x4F 0 16) (no-value (Encoded w) w) λ start stop q.
       each-shown Accepted (tagsAt s stop end) (no-value (Encoded w) w) λ life shown g.
       let x = expect-parts s at end 0x4F 0 16 start stop q in
       let i = x .inside in
@@ -136,12 +146,17 @@ module _ (s : List ℕ) (at end : ℕ) (w : Asked) (b : Bytes s) where
       each-eq Accepted
       (λ h.
       let m : start ≡ stop = omega arith in
-      same-value Encoded (asked [] life shown) w
+      same-value Encoded (getStatus (asked [] life shown)) w
       (who-written start stop q [] life shown all (ap (λ (n : ℕ). window s n stop) m ∙ window-none s stop) g))
       (λ _. each-lt Accepted (λ _. no-value (Encoded w) w) (λ k.
       let named : Named (partOf s (between start stop)) = subst Named (sym p) (part-named s start stop (i .ordered) (omega arith) (omega arith) (x .most)) in
-      same-value Encoded (asked (partOf s (between start stop)) life shown) w
+      same-value Encoded (getStatus (asked (partOf s (between start stop)) life shown)) w
       (who-written start stop q (partOf s (between start stop)) life shown (one named) (sym p) g)))
 
 pub listing-written : ListingWritten
 listing-written s at end w b q = accepted s at end w b q
+
+pub listing-filled : ListingFilled
+unfolding listingAt
+listing-filled s at end r = each (λ (z : Field). field.Found r ≡ z → Filled s 1 at end) (listWrong s at end)
+    (λ _ q. let z : _≡_ {A = ℕ} 0 1 = cc in absurd (omega arith)) (λ e _. right-filled s at end e)

@@ -1,51 +1,19 @@
--- The parts that the grammar's proofs share, both ways: an element alone in its window, a DGI, and an AID in its place.
+-- The parts that the grammar's proofs share, both ways: a DGI, and an AID in its place.
 use Prim.Native.Nat.{ℕ, _+_, _-_, _/_, _%_, _≤_, _<_}
 use mathlib.Core.Path.{_≡_, sym, ap, _∙_}
-use mathlib.Core.List.{List, [], _∷_, append-nil}
+use mathlib.Core.List.{List, _∷_}
 use native.Mathlib.Omega.{arith}
 use lib.ListN.{length}
 use Rattle.byte_string.specs.Bytes.{byte, pairAt}
+use Rattle.tlv.specs.declared.HeadRead.the-variants as head
 use Rattle.tlv.specs.declared.Element.the-variants as element
-use Rattle.tlv.specs.Encoding.{window, Bytes, encodeElement}
+use Rattle.tlv.specs.Encoding.{window, Bytes}
 use Rattle.choice.proofs.Branches.{each-lt, each-eq, nlt!, eq! }
 use Rattle.tlv.proofs.Windows.{window-first, window-length, window-starts}
-use Rattle.tlv.proofs.Written.{element-written}
-use Rattle.tlv.proofs.ReadBack.{LegalTag, element-back}
 use Rattle.fields.specs.declared.Dgi.{Dgi}
 use Rattle.fields.specs.declared.Dgi.the-variants as dgi
-use Rattle.fields.specs.Alone.{aloneAt}
 use Rattle.fields.specs.StoreData.{dgiAt}
 use Rattle.fields.specs.Grammar.{Named, encodeDgi}
-use Rattle.fields.proofs.Only.{alone-parts}
-
--- ---- an element alone
-
-pub alone-written : (s : List ℕ) (at end t low high start stop : ℕ) → Bytes s → element.Found start stop ≡ aloneAt s at end t low high
-    → window s at end ≡ encodeElement t (window s start stop)
-alone-written s at end t low high start stop b q =
-    let a = alone-parts s at end t low high start stop q in
-    ap (window s at) (sym (a .fills)) ∙ element-written s at end t low high start stop b (a .found)
-
-module _ (s : List ℕ) (at end : ℕ) (ordered : at ≤ end) (held : end ≤ length s) (t low high : ℕ) (v : List ℕ) where
-  pub record AloneBack : Type 0 where
-    pub start : ℕ
-    pub found : element.Found start end ≡ aloneAt s at end t low high
-    pub long : end ≡ start + length v
-    pub value : window s start end ≡ v
-
-  pub alone-back : LegalTag t → low ≤ length v → length v ≤ high → window s at end ≡ encodeElement t v → AloneBack
-  unfolding aloneAt
-  alone-back l least most q =
-      let e = element-back s at end ordered held t low high v [] l least most (q ∙ sym (append-nil (encodeElement t v))) in
-      let n : end - e .stop ≡ 0 = sym (window-length s (e .stop) end held) ∙ ap length (e .after) in
-      let w = e .within in
-      let m : e .stop ≡ end = omega arith in
-      record {
-        start = e .start;
-        found = rw (← e .found) (eq! _ m (ap (element.Found (e .start)) (sym m)));
-        long = sym m ∙ e .long;
-        value = ap (window s (e .start)) (sym m) ∙ e .value;
-      }
 
 -- ---- a DGI
 

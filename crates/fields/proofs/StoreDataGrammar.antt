@@ -9,19 +9,23 @@ use lib.ListN.{length}
 use Rattle.byte_string.specs.Bytes.{byte, pairAt, between, partOf}
 use Rattle.tlv.specs.declared.Element.the-variants as element
 use Rattle.byte_string.specs.declared.Part.{Part}
+use Rattle.tlv.specs.Lists.{listWrong}
+use Rattle.tlv.specs.Filled.{Filled, ended, primitive}
 use Rattle.tlv.specs.Encoding.{window, Bytes, encodeNumber, encodeTag, encodeLength, encodeElement}
-use Rattle.choice.proofs.Branches.{each-eq, lt!, eq!, ne! }
+use Rattle.choice.proofs.Branches.{no!, each, each-eq, lt!, eq!, ne! }
 use Rattle.tlv.proofs.Windows.{window-starts, window-part}
+use Rattle.tlv.proofs.Fills.{right-filled, filled-right, first-level}
 use Rattle.tlv.proofs.Written.{window-two}
-use Rattle.tlv.proofs.ReadBack.{one}
+use Rattle.tlv.specs.Grammar.{one}
 use Rattle.fields.specs.declared.Dgi.the-variants as dgi
-use Rattle.fields.specs.declared.StoreData.{StoreData}
-use Rattle.fields.specs.declared.StoreData.the-variants as store
-use Rattle.fields.specs.Alone.{aloneAt}
+use Rattle.fields.specs.declared.request.Request.the-variants as request
+use Rattle.fields.specs.declared.request.Field.{Field}
+use Rattle.fields.specs.declared.request.Field.the-variants as field
+use Rattle.reader.specs.Reader.{aloneAt}
 use Rattle.fields.specs.StoreData.{dgiAt, confirmationAt, namedBy, storeDataAt}
-use Rattle.fields.specs.Grammar.{Named, Stored, enable, disable, setFallBack, confirmation, storedOf, encodeDgi, EncodesStored, StoreDataBack, StoreDataWritten}
-use Rattle.fields.proofs.Only.{alone-expected, alone-parts}
-use Rattle.fields.proofs.Parts.{alone-back, alone-written, dgi-back, dgi-parts, dgi-written, part-named}
+use Rattle.fields.specs.Grammar.{Named, enable, disable, setFallBack, confirmation, Wanted, storeData, foundAs, Written, encodeDgi, EncodesStored, StoreDataBack, StoreDataWritten, StoreDataFilled}
+use Rattle.reader.proofs.Alone.{alone-expected, alone-parts, alone-written, alone-back}
+use Rattle.fields.proofs.Parts.{dgi-back, dgi-parts, dgi-written, part-named}
 use Rattle.fields.proofs.Cases.{each-dgi, same-value, no-value}
 use Rattle.tlv.proofs.Branches.{each-found}
 
@@ -50,12 +54,12 @@ module _ (s : List ℕ) (at end : ℕ) (ordered : at ≤ end) (held : end ≤ le
       let l = a .long in
       record {
         part = between (a .start) end;
-        read = rw (← d .found) (ne! _ other (rw (← a .found) refl));
+        read = rw (← d .found) (no! _ (filled-right (primitive first-level (a .head) (ended first-level held))) (ne! _ other (rw (← a .found) refl)));
         bytes = window-part s (a .start) end (omega arith) ∙ a .value;
       }
 
   number-back : (number : ℕ) → window s at end ≡ encodeDgi 0x3A08 (encodeElement 0x4E (encodeNumber number))
-      → store.Confirm number ≡ storeDataAt s at end
+      → field.Found (request.Confirm number) ≡ storeDataAt s at end
   unfolding storeDataAt confirmationAt
   number-back number q =
       let n = short-element 0x4E (encodeNumber number) (omega arith) (omega arith) in
@@ -66,32 +70,32 @@ module _ (s : List ℕ) (at end : ℕ) (ordered : at ≤ end) (held : end ≤ le
       let y = window-starts s (a .start + 1) end (omega arith) held (number % 256) [] (x .after) in
       let f = x .first in let g = y .first in
       let e : number ≡ pairAt s (a .start) = omega arith in
-      rw (← d .found) (eq! _ refl (rw (← a .found) (ap store.Confirm e)))
+      rw (← d .found) (no! _ (filled-right (primitive first-level (a .head) (ended first-level held))) (eq! _ refl (rw (← a .found) (ap (λ (n : ℕ). field.Found (request.Confirm n)) e))))
 
 pub store-data-back : StoreDataBack
 unfolding namedBy
 store-data-back s at end (enable aid) ordered held (named, q) =
     let a = aid-back s at end ordered held 0x3A03 aid (omega arith) named q in
-    let r : store.Enable (a .part) ≡ namedBy 0x3A03 (a .part) = eq! _ refl refl in
-    rw (← a .read) (rw (← r) (ap (λ (l : List ℕ). some (enable l)) (a .bytes)))
+    let r : field.Found (request.Enable (a .part)) ≡ namedBy 0x3A03 (a .part) = eq! _ refl refl in
+    rw (← a .read) (rw (← r) (ap (λ (l : List ℕ). some (storeData (enable l))) (a .bytes)))
 store-data-back s at end (disable aid) ordered held (named, q) =
     let a = aid-back s at end ordered held 0x3A04 aid (omega arith) named q in
-    let r : store.Disable (a .part) ≡ namedBy 0x3A04 (a .part) = ne! _ (omega arith) (eq! _ refl refl) in
-    rw (← a .read) (rw (← r) (ap (λ (l : List ℕ). some (disable l)) (a .bytes)))
+    let r : field.Found (request.Disable (a .part)) ≡ namedBy 0x3A04 (a .part) = ne! _ (omega arith) (eq! _ refl refl) in
+    rw (← a .read) (rw (← r) (ap (λ (l : List ℕ). some (storeData (disable l))) (a .bytes)))
 store-data-back s at end (setFallBack aid) ordered held (named, q) =
     let a = aid-back s at end ordered held 0x3A05 aid (omega arith) named q in
-    let r : store.SetFallBack (a .part) ≡ namedBy 0x3A05 (a .part) = ne! _ (omega arith) (ne! _ (omega arith) (eq! _ refl refl)) in
-    rw (← a .read) (rw (← r) (ap (λ (l : List ℕ). some (setFallBack l)) (a .bytes)))
+    let r : field.Found (request.SetFallBack (a .part)) ≡ namedBy 0x3A05 (a .part) = ne! _ (omega arith) (ne! _ (omega arith) (eq! _ refl refl)) in
+    rw (← a .read) (rw (← r) (ap (λ (l : List ℕ). some (storeData (setFallBack l))) (a .bytes)))
 store-data-back s at end (confirmation number) ordered held (legal, q) = rw (← number-back s at end ordered held number q) refl
 
 -- ---- what is accepted is so encoded
 
-module _ (s : List ℕ) (at end : ℕ) (v : Stored) (b : Bytes s) where
-  abbrev Encoded : Stored → Type 0
-  Encoded w = (at ≤ end) × ((end ≤ length s) × EncodesStored w (window s at end))
+module _ (s : List ℕ) (at end : ℕ) (w : Wanted) (b : Bytes s) where
+  abbrev Encoded : Wanted → Type 0
+  Encoded z = Written storeData EncodesStored s at end z
 
-  abbrev Accepted : StoreData → Type 0
-  Accepted z = storedOf s z ≡ some v → Encoded v
+  abbrev Accepted : Field → Type 0
+  Accepted z = foundAs s z ≡ some w → Encoded w
 
   module _ (number contents : ℕ) (d : dgi.Found number contents ≡ dgiAt s at end) (start stop : ℕ) where
     aid-written : element.Found start stop ≡ aloneAt s contents end 0x4F 5 16 → Accepted (namedBy number (between start stop))
@@ -104,19 +108,19 @@ module _ (s : List ℕ) (at end : ℕ) (v : Stored) (b : Bytes s) where
         let aid = partOf s (between start stop) in
         let e : aid ≡ window s start stop = window-part s start stop k in
         let named : Named aid = subst Named (sym e) (part-named s start stop k (omega arith) (x .least) (x .most)) in
-        let w : window s at end ≡ encodeDgi number (encodeElement 0x4F aid) =
+        let bytes : window s at end ≡ encodeDgi number (encodeElement 0x4F aid) =
         dgi-written s at end number contents b d
         ∙ ap (encodeDgi number) (alone-written s contents end 0x4F 5 16 start stop b g ∙ ap (encodeElement 0x4F) (sym e)) in
         let by : (n : ℕ) → number ≡ n → window s at end ≡ encodeDgi n (encodeElement 0x4F aid) =
-        λ n h. subst (λ (m : ℕ). window s at end ≡ encodeDgi m (encodeElement 0x4F aid)) h w in
+        λ n h. subst (λ (m : ℕ). window s at end ≡ encodeDgi m (encodeElement 0x4F aid)) h bytes in
         let lies : at ≤ end = omega arith in
         let held : end ≤ length s = omega arith in
-        each-eq Accepted (λ h. same-value Encoded (enable aid) v (lies, (held, (named, by 0x3A03 h))))
-        (λ _. each-eq Accepted (λ h. same-value Encoded (disable aid) v (lies, (held, (named, by 0x3A04 h))))
-        (λ _. each-eq Accepted (λ h. same-value Encoded (setFallBack aid) v (lies, (held, (named, by 0x3A05 h))))
-        (λ _. no-value (Encoded v) v)))
+        each-eq Accepted (λ h. same-value Encoded (storeData (enable aid)) w record { ordered = lies; held = held; value = enable aid; meant = refl; encoded = (named, by 0x3A03 h) })
+        (λ _. each-eq Accepted (λ h. same-value Encoded (storeData (disable aid)) w record { ordered = lies; held = held; value = disable aid; meant = refl; encoded = (named, by 0x3A04 h) })
+        (λ _. each-eq Accepted (λ h. same-value Encoded (storeData (setFallBack aid)) w record { ordered = lies; held = held; value = setFallBack aid; meant = refl; encoded = (named, by 0x3A05 h) })
+        (λ _. no-value (Encoded w) w)))
 
-    number-written : number ≡ 0x3A08 → element.Found start stop ≡ aloneAt s contents end 0x4E 2 2 → Accepted (store.Confirm (pairAt s start))
+    number-written : number ≡ 0x3A08 → element.Found start stop ≡ aloneAt s contents end 0x4E 2 2 → Accepted (field.Found (request.Confirm (pairAt s start)))
     number-written h g =
         let p = dgi-parts s at end number contents d in
         let x = alone-expected s contents end 0x4E 2 2 start stop g in
@@ -130,18 +134,26 @@ module _ (s : List ℕ) (at end : ℕ) (v : Stored) (b : Bytes s) where
         let low : byte s (start + 1) ≡ n % 256 = omega arith in
         let c : window s start stop ≡ encodeNumber n =
         ap (window s start) {x = stop} {y = start + 1 + 1} (omega arith) ∙ window-two s start (omega arith) ∙ cc in
-        let w : window s at end ≡ encodeDgi 0x3A08 (encodeElement 0x4E (encodeNumber n)) =
+        let bytes : window s at end ≡ encodeDgi 0x3A08 (encodeElement 0x4E (encodeNumber n)) =
         dgi-written s at end number contents b d
         ∙ ap (encodeDgi number) (alone-written s contents end 0x4E 2 2 start stop b g ∙ ap (encodeElement 0x4E) c)
         ∙ ap (λ (m : ℕ). encodeDgi m (encodeElement 0x4E (encodeNumber n))) h in
-        same-value Encoded (confirmation n) v (omega arith, (omega arith, (omega arith, w)))
+        same-value Encoded (storeData (confirmation n)) w record { ordered = omega arith; held = omega arith; value = confirmation n; meant = refl; encoded = (omega arith, bytes) }
 
   accepted : Accepted (storeDataAt s at end)
   unfolding storeDataAt confirmationAt
-  accepted = each-dgi Accepted (dgiAt s at end) (no-value (Encoded v) v) λ number contents d.
-      each-eq Accepted
-      (λ h. each-found Accepted (aloneAt s contents end 0x4E 2 2) (no-value (Encoded v) v) λ start stop g. number-written number contents d start stop h g)
-      (λ _. each-found Accepted (aloneAt s contents end 0x4F 5 16) (no-value (Encoded v) v) λ start stop g. aid-written number contents d start stop g)
+  accepted = each-dgi Accepted (dgiAt s at end) (no-value (Encoded w) w) λ number contents d.
+      each Accepted (listWrong s contents end) (λ _. no-value (Encoded w) w) (λ _. each-eq Accepted
+      (λ h. each-found Accepted (aloneAt s contents end 0x4E 2 2) (no-value (Encoded w) w) λ start stop g. number-written number contents d start stop h g)
+      (λ _. each-found Accepted (aloneAt s contents end 0x4F 5 16) (no-value (Encoded w) w) λ start stop g. aid-written number contents d start stop g))
 
 pub store-data-written : StoreDataWritten
-store-data-written s at end v b q = accepted s at end v b q
+store-data-written s at end w b q = accepted s at end w b q
+
+pub store-data-filled : StoreDataFilled
+unfolding storeDataAt
+store-data-filled s at end r =
+    let P : Field → Type 0 = λ z. field.Found r ≡ z → Filled s 1 (at + 3) end in
+    let none : P field.Wrong = λ q. let z : _≡_ {A = ℕ} 0 1 = cc in absurd (omega arith) in
+    each-dgi P (dgiAt s at end) none λ number contents d. each P (listWrong s contents end) (λ _. none) λ e _.
+    subst (λ (k : ℕ). Filled s 1 k end) (dgi-parts s at end number contents d .place) (right-filled s contents end e)

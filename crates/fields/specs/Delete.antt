@@ -5,11 +5,13 @@ use mathlib.Core.List.{List}
 use Rattle.byte_string.specs.Bytes.{between}
 use Rattle.choice.specs.Choice.{pick, isSame}
 use Rattle.tlv.specs.Tlv.{expectAt, onFound}
-use Rattle.fields.specs.Alone.{aloneAt}
+use Rattle.tlv.specs.Lists.{listWrong}
+use Rattle.reader.specs.Reader.{aloneAt}
 use Rattle.fields.specs.declared.Verification.{Verification}
 use Rattle.fields.specs.declared.Verification.the-variants as verification
-use Rattle.fields.specs.declared.Deletion.{Deletion}
-use Rattle.fields.specs.declared.Deletion.the-variants as deletion
+use Rattle.fields.specs.declared.request.Request.the-variants as request
+use Rattle.fields.specs.declared.request.Field.{Field}
+use Rattle.fields.specs.declared.request.Field.the-variants as field
 
 -- what B6 holds
 unfoldable pub verificationAt : List ℕ → ℕ → ℕ → Verification
@@ -24,11 +26,12 @@ abbrev pub onFilled {ℓ} : {X : Type ℓ} → Verification → X → X → X
 onFilled verification.Wrong w x = w
 onFilled verification.Filled w x = x
 
-unfoldable pub deletionAt : List ℕ → ℕ → ℕ → Deletion
+unfoldable pub deletionAt : List ℕ → ℕ → ℕ → Field
 deletionAt s at end =
-    onFound (expectAt s at end 0x4F 5 16) deletion.Wrong λ start stop.
-    pick (isSame stop end) (deletion.Delete (between start stop))
-    (onFound (expectAt s stop end 0xB6 0 255) deletion.Wrong λ from to.
-    onFilled (verificationAt s from to) deletion.Wrong
-    (onFound (aloneAt s to end 0x9E 1 255) deletion.Wrong λ _ _.
-    deletion.MasterDelete (between start stop)))
+    pick (listWrong s at end) field.Wrong
+    (onFound (expectAt s at end 0x4F 5 16) field.Wrong λ start stop.
+    pick (isSame stop end) (field.Found (request.Delete (between start stop)))
+    (onFound (expectAt s stop end 0xB6 0 255) field.Wrong λ from to.
+    onFilled (verificationAt s from to) field.Wrong
+    (onFound (aloneAt s to end 0x9E 1 255) field.Wrong λ _ _.
+    field.Found (request.MasterDelete (between start stop)))))

@@ -9,11 +9,13 @@ use Rattle.choice.specs.Choice.{pick, atMost, isBelow, isSame}
 use Rattle.tlv.specs.Tlv.{tagAt, expectAt, onFound}
 use Rattle.tlv.specs.declared.TagRead.{TagRead}
 use Rattle.tlv.specs.declared.TagRead.the-variants as tag
-use Rattle.fields.specs.Alone.{aloneAt}
+use Rattle.tlv.specs.Lists.{listWrong}
+use Rattle.reader.specs.Reader.{aloneAt}
 use Rattle.fields.specs.declared.Tags.{Tags}
 use Rattle.fields.specs.declared.Tags.the-variants as tags
-use Rattle.fields.specs.declared.Listing.{Listing}
-use Rattle.fields.specs.declared.Listing.the-variants as listing
+use Rattle.fields.specs.declared.request.Request.the-variants as request
+use Rattle.fields.specs.declared.request.Field.{Field}
+use Rattle.fields.specs.declared.request.Field.the-variants as field
 
 -- one more listed tag
 unfoldable pub noted : ℕ → Bool → Bool → Tags
@@ -50,14 +52,15 @@ tagsAt s at end =
     listedAt s start stop)
 
 -- all rows where 4F is empty, else the row of its AID
-abbrev pub rowsOf : ℕ → ℕ → Bool → Bool → Listing
+abbrev pub rowsOf : ℕ → ℕ → Bool → Bool → Field
 rowsOf start stop life fallBack =
-    pick (isSame (stop - start) 0) (listing.All life fallBack)
-    (pick (isBelow (stop - start) 5) listing.Wrong
-    (listing.One (between start stop) life fallBack))
+    pick (isSame (stop - start) 0) (field.Found (request.GetStatusOfAll life fallBack))
+    (pick (isBelow (stop - start) 5) field.Wrong
+    (field.Found (request.GetStatusOfOne (between start stop) life fallBack)))
 
-unfoldable pub listingAt : List ℕ → ℕ → ℕ → Listing
+unfoldable pub listingAt : List ℕ → ℕ → ℕ → Field
 listingAt s at end =
-    onFound (expectAt s at end 0x4F 0 16) listing.Wrong λ start stop.
-    onShown (tagsAt s stop end) listing.Wrong λ life fallBack.
-    rowsOf start stop life fallBack
+    pick (listWrong s at end) field.Wrong
+    (onFound (expectAt s at end 0x4F 0 16) field.Wrong λ start stop.
+    onShown (tagsAt s stop end) field.Wrong λ life fallBack.
+    rowsOf start stop life fallBack)

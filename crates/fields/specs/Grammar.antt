@@ -7,23 +7,22 @@ use mathlib.Core.Option.{Option, none, some}
 use mathlib.Core.Bool.{Bool, true, false}
 use lib.ListN.{length}
 use Rattle.byte_string.specs.Bytes.{partOf}
+use Rattle.tlv.specs.Filled.{Filled}
 use Rattle.tlv.specs.Encoding.{window, Bytes, encodeNumber, encodeTag, encodeElement}
-use Rattle.fields.specs.declared.StoreData.{StoreData}
-use Rattle.fields.specs.declared.StoreData.the-variants as store
-use Rattle.fields.specs.declared.Deletion.{Deletion}
-use Rattle.fields.specs.declared.Deletion.the-variants as deletion
-use Rattle.fields.specs.declared.Listing.{Listing}
-use Rattle.fields.specs.declared.Listing.the-variants as listing
+use Rattle.fields.specs.declared.request.Request.{Request}
+use Rattle.fields.specs.declared.request.Request.the-variants as request
+use Rattle.fields.specs.declared.request.Field.{Field}
+use Rattle.fields.specs.declared.request.Field.the-variants as field
 use Rattle.fields.specs.StoreData.{storeDataAt}
 use Rattle.fields.specs.Delete.{deletionAt}
 use Rattle.fields.specs.GetStatus.{listingAt}
 
--- an AID has 5 to 16 bytes
-pub record Named (aid : List ℕ) : Type 0 where
-  pub least : 5 ≤ length aid
-  pub most : length aid ≤ 16
+-- ---- what a command asks for
 
--- ---- STORE DATA
+-- the AID and the quota of a create
+pub record Created : Type 0 where
+  pub aid : List ℕ
+  pub quota : ℕ
 
 pub data Stored : Type 0 where
   enable : List ℕ → Stored
@@ -31,12 +30,56 @@ pub data Stored : Type 0 where
   setFallBack : List ℕ → Stored
   confirmation : ℕ → Stored
 
-abbrev pub storedOf : List ℕ → StoreData → Option Stored
-storedOf s (store.Enable aid) = some (enable (partOf s aid))
-storedOf s (store.Disable aid) = some (disable (partOf s aid))
-storedOf s (store.SetFallBack aid) = some (setFallBack (partOf s aid))
-storedOf s (store.Confirm number) = some (confirmation number)
-storedOf s store.Wrong = none
+pub data Deleted : Type 0 where
+  delete : List ℕ → Deleted
+  masterDelete : List ℕ → Deleted
+
+-- whom a GET STATUS asks for, and which optional tags
+pub record Asked : Type 0 where
+  pub who : List ℕ
+  pub life : Bool
+  pub fallBackShown : Bool
+
+abbrev pub asked : List ℕ → Bool → Bool → Asked
+asked who life shown = record { who = who; life = life; fallBackShown = shown }
+
+pub data Wanted : Type 0 where
+  create : Created → Wanted
+  storeData : Stored → Wanted
+  deletion : Deleted → Wanted
+  getStatus : Asked → Wanted
+  getData : Wanted
+
+abbrev pub wantedOf : List ℕ → Request → Wanted
+wantedOf s (request.Create part quota) = create (record { aid = partOf s part; quota = quota })
+wantedOf s (request.Enable part) = storeData (enable (partOf s part))
+wantedOf s (request.Disable part) = storeData (disable (partOf s part))
+wantedOf s (request.SetFallBack part) = storeData (setFallBack (partOf s part))
+wantedOf s (request.Confirm number) = storeData (confirmation number)
+wantedOf s (request.Delete part) = deletion (delete (partOf s part))
+wantedOf s (request.MasterDelete part) = deletion (masterDelete (partOf s part))
+wantedOf s (request.GetStatusOfAll life fallBack) = getStatus (asked [] life fallBack)
+wantedOf s (request.GetStatusOfOne part life fallBack) = getStatus (asked (partOf s part) life fallBack)
+wantedOf s request.GetData = getData
+
+abbrev pub foundAs : List ℕ → Field → Option Wanted
+foundAs s (field.Found r) = some (wantedOf s r)
+foundAs s field.Wrong = none
+
+-- what was read is a value of its kind, and the window holds the bytes of that
+pub record Written {Kind : Type 0} (means : Kind → Wanted) (Encoded : Kind → List ℕ → Type 0) (s : List ℕ) (at end : ℕ) (w : Wanted) : Type 0 where
+  pub ordered : at ≤ end
+  pub held : end ≤ length s
+  pub value : Kind
+  pub meant : means value ≡ w
+  pub encoded : Encoded value (window s at end)
+
+-- an AID has 5 to 16 bytes
+pub record Named (aid : List ℕ) : Type 0 where
+  pub least : 5 ≤ length aid
+  pub most : length aid ≤ 16
+
+-- ---- STORE DATA
 
 abbrev pub encodeDgi : ℕ → List ℕ → List ℕ
 encodeDgi number contents = number / 256 ∷ number % 256 ∷ length contents ∷ contents
@@ -50,23 +93,18 @@ EncodesStored (confirmation number) bytes = (number < 65536) × (bytes ≡ encod
 -- reading an encoded field gives it back
 abbrev pub StoreDataBack : Type 0
 StoreDataBack = (s : List ℕ) (at end : ℕ) (v : Stored) → at ≤ end → end ≤ length s → EncodesStored v (window s at end)
-    → storedOf s (storeDataAt s at end) ≡ some v
+    → foundAs s (storeDataAt s at end) ≡ some (storeData v)
 
 -- whatever is accepted is the encoding of what was read
 abbrev pub StoreDataWritten : Type 0
-StoreDataWritten = (s : List ℕ) (at end : ℕ) (v : Stored) → Bytes s → storedOf s (storeDataAt s at end) ≡ some v
-    → (at ≤ end) × ((end ≤ length s) × EncodesStored v (window s at end))
+StoreDataWritten = (s : List ℕ) (at end : ℕ) (w : Wanted) → Bytes s → foundAs s (storeDataAt s at end) ≡ some w
+    → Written storeData EncodesStored s at end w
+
+-- what is accepted is, after its DGI, a list of elements
+abbrev pub StoreDataFilled : Type 0
+StoreDataFilled = (s : List ℕ) (at end : ℕ) (r : Request) → field.Found r ≡ storeDataAt s at end → Filled s 1 (at + 3) end
 
 -- ---- DELETE
-
-pub data Deleted : Type 0 where
-  delete : List ℕ → Deleted
-  masterDelete : List ℕ → Deleted
-
-abbrev pub deletedOf : List ℕ → Deletion → Option Deleted
-deletedOf s (deletion.Delete aid) = some (delete (partOf s aid))
-deletedOf s (deletion.MasterDelete aid) = some (masterDelete (partOf s aid))
-deletedOf s deletion.Wrong = none
 
 -- the values that a master delete has beside the AID, by their tags
 pub record Verified : Type 0 where
@@ -106,11 +144,14 @@ EncodesDeleted (masterDelete aid) bytes = (v : Verified) × (Named aid × (Legal
 
 abbrev pub DeletionBack : Type 0
 DeletionBack = (s : List ℕ) (at end : ℕ) (v : Deleted) → at ≤ end → end ≤ length s → EncodesDeleted v (window s at end)
-    → deletedOf s (deletionAt s at end) ≡ some v
+    → foundAs s (deletionAt s at end) ≡ some (deletion v)
 
 abbrev pub DeletionWritten : Type 0
-DeletionWritten = (s : List ℕ) (at end : ℕ) (v : Deleted) → Bytes s → deletedOf s (deletionAt s at end) ≡ some v
-    → (at ≤ end) × ((end ≤ length s) × EncodesDeleted v (window s at end))
+DeletionWritten = (s : List ℕ) (at end : ℕ) (w : Wanted) → Bytes s → foundAs s (deletionAt s at end) ≡ some w
+    → Written deletion EncodesDeleted s at end w
+
+abbrev pub DeletionFilled : Type 0
+DeletionFilled = (s : List ℕ) (at end : ℕ) (r : Request) → field.Found r ≡ deletionAt s at end → Filled s 1 at end
 
 -- ---- GET STATUS
 
@@ -164,20 +205,6 @@ pub data Sought : List ℕ → Type 0 where
   all : Sought []
   one : {who : List ℕ} → Named who → Sought who
 
--- whom a GET STATUS asks for, and which optional tags
-pub record Asked : Type 0 where
-  pub who : List ℕ
-  pub life : Bool
-  pub fallBackShown : Bool
-
-abbrev pub asked : List ℕ → Bool → Bool → Asked
-asked who life shown = record { who = who; life = life; fallBackShown = shown }
-
-abbrev pub listedOf : List ℕ → Listing → Option Asked
-listedOf s (listing.All life shown) = some (asked [] life shown)
-listedOf s (listing.One part life shown) = some (asked (partOf s part) life shown)
-listedOf s listing.Wrong = none
-
 -- a GET STATUS is encoded in as many ways as there are lists that show the same tags
 pub record EncodesListed (v : Asked) (bytes : List ℕ) : Type 0 where
   pub tags : Option (List ListedTag)
@@ -189,8 +216,11 @@ pub record EncodesListed (v : Asked) (bytes : List ℕ) : Type 0 where
 
 abbrev pub ListingBack : Type 0
 ListingBack = (s : List ℕ) (at end : ℕ) (v : Asked) → at ≤ end → end ≤ length s → EncodesListed v (window s at end)
-    → listedOf s (listingAt s at end) ≡ some v
+    → foundAs s (listingAt s at end) ≡ some (getStatus v)
 
 abbrev pub ListingWritten : Type 0
-ListingWritten = (s : List ℕ) (at end : ℕ) (v : Asked) → Bytes s → listedOf s (listingAt s at end) ≡ some v
-    → (at ≤ end) × ((end ≤ length s) × EncodesListed v (window s at end))
+ListingWritten = (s : List ℕ) (at end : ℕ) (w : Wanted) → Bytes s → foundAs s (listingAt s at end) ≡ some w
+    → Written getStatus EncodesListed s at end w
+
+abbrev pub ListingFilled : Type 0
+ListingFilled = (s : List ℕ) (at end : ℕ) (r : Request) → field.Found r ≡ listingAt s at end → Filled s 1 at end

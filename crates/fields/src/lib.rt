@@ -1,31 +1,25 @@
 // The data fields of STORE DATA, DELETE and GET STATUS. Every function reads a window of the whole command, from `at` up to `end`;
-// one that does not lie in it is wrong. An AID is handed on as its place in the command.
+// one that does not lie in it is wrong. A data field is first read as a list of elements, then in the table's order; an AID is handed on
+// as its place in the command.
+
+mod request;
 
 use byte_string::Part;
 use byte_string::read_pair;
-use reader::only_element;
+use reader::last_element;
+use reader::next_element;
+pub use request::Field;
+pub use request::Request;
 use tlv::Element;
 use tlv::TagRead;
-use tlv::expect;
+use tlv::list_wrong;
 use tlv::read_tag;
 ghost use mathlib.Core.Path.{_≡_};
 ghost use Prim.Native.Nat.{ℕ, _+_, _≤_, _<_};
 ghost use lib.ListN.{length};
-ghost use Rattle.fields.specs.Alone.{aloneAt};
 ghost use Rattle.fields.specs.StoreData.{dgiAt, confirmationAt, storeDataAt};
 ghost use Rattle.fields.specs.Delete.{verificationAt, deletionAt};
 ghost use Rattle.fields.specs.GetStatus.{noted, listedAt, tagsAt, listingAt};
-
-// The element that the table has there, where it fills the window: the command up to `end` is read with a reader.
-fn read_alone(s: &[u8], at: usize, end: usize, tag: u16, low: usize, high: usize) -> Element
-    ensures { λ r. ⌜ r ≡ aloneAt (now (s .entry)) at end tag low high ⌝ }
-{
-    if s.len() < end {
-        return Element::Wrong;
-    }
-    let field = &s[..end];
-    only_element(field, at, tag, low, high)
-}
 
 // A DGI that fills the window: its number, and where its contents start.
 pub enum Dgi {
@@ -59,14 +53,6 @@ fn read_dgi(s: &[u8], at: usize, end: usize) -> Dgi
     Dgi::Found { dgi, start }
 }
 
-pub enum StoreData {
-    Enable(Part),
-    Disable(Part),
-    SetFallBack(Part),
-    Confirm(u16),
-    Wrong,
-}
-
 const ENABLE: u16 = 0x3A03;
 
 const DISABLE: u16 = 0x3A04;
@@ -75,17 +61,17 @@ const SET_FALL_BACK: u16 = 0x3A05;
 
 const CONFIRMATION: u16 = 0x3A08;
 
-fn read_confirmation(s: &[u8], at: usize, end: usize) -> StoreData
+fn read_confirmation(s: &[u8], at: usize, end: usize) -> Field
     ensures { λ r. ⌜ r ≡ confirmationAt (now (s .entry)) at end ⌝ }
 {
-    let Element::Found { start, stop: _ } = read_alone(s, at, end, 0x4E, 2, 2) else {
-        return StoreData::Wrong;
+    let Element::Found { start, stop: _ } = last_element(s, at, end, 0x4E, 2, 2) else {
+        return Field::Wrong;
     };
     let number = read_pair(s, start);
-    StoreData::Confirm(number)
+    Field::Found(Request::Confirm(number))
 }
 
-pub fn read_store_data(s: &[u8], at: usize, end: usize) -> StoreData
+pub fn read_store_data(s: &[u8], at: usize, end: usize) -> Field
     ensures { λ r. ⌜ r ≡ storeDataAt (now (s .entry)) at end ⌝ }
 {
     let Dgi::Found {
@@ -93,26 +79,29 @@ pub fn read_store_data(s: &[u8], at: usize, end: usize) -> StoreData
         start: contents,
     } = read_dgi(s, at, end)
     else {
-        return StoreData::Wrong;
+        return Field::Wrong;
     };
+    if list_wrong(s, contents, end) {
+        return Field::Wrong;
+    }
     if dgi == CONFIRMATION {
         return read_confirmation(s, contents, end);
     }
-    let Element::Found { start, stop } = read_alone(s, contents, end, 0x4F, 5, 16) else {
-        return StoreData::Wrong;
+    let Element::Found { start, stop } = last_element(s, contents, end, 0x4F, 5, 16) else {
+        return Field::Wrong;
     };
     let len = stop - start;
     let aid = Part { start, len };
     if dgi == ENABLE {
-        return StoreData::Enable(aid);
+        return Field::Found(Request::Enable(aid));
     }
     if dgi == DISABLE {
-        return StoreData::Disable(aid);
+        return Field::Found(Request::Disable(aid));
     }
     if dgi == SET_FALL_BACK {
-        return StoreData::SetFallBack(aid);
+        return Field::Found(Request::SetFallBack(aid));
     }
-    StoreData::Wrong
+    Field::Wrong
 }
 
 pub enum Verification {
@@ -127,62 +116,59 @@ fn read_verification(s: &[u8], at: usize, end: usize) -> Verification
     let Element::Found {
         start: _,
         stop: first,
-    } = expect(s, at, end, 0x42, 1, 255)
+    } = next_element(s, at, end, 0x42, 1, 255)
     else {
         return Verification::Wrong;
     };
     let Element::Found {
         start: _,
         stop: second,
-    } = expect(s, first, end, 0x45, 1, 255)
+    } = next_element(s, first, end, 0x45, 1, 255)
     else {
         return Verification::Wrong;
     };
     let Element::Found {
         start: _,
         stop: third,
-    } = expect(s, second, end, 0x5F20, 1, 255)
+    } = next_element(s, second, end, 0x5F20, 1, 255)
     else {
         return Verification::Wrong;
     };
-    let Element::Found { start: _, stop: _ } = read_alone(s, third, end, 0x93, 1, 255) else {
+    let Element::Found { start: _, stop: _ } = last_element(s, third, end, 0x93, 1, 255) else {
         return Verification::Wrong;
     };
     Verification::Filled
 }
 
-pub enum Deletion {
-    Delete(Part),
-    MasterDelete(Part),
-    Wrong,
-}
-
 // Delete has the AID alone; a master delete goes on with B6 and the token.
-pub fn read_deletion(s: &[u8], at: usize, end: usize) -> Deletion
+pub fn read_deletion(s: &[u8], at: usize, end: usize) -> Field
     ensures { λ r. ⌜ r ≡ deletionAt (now (s .entry)) at end ⌝ }
 {
-    let Element::Found { start, stop } = expect(s, at, end, 0x4F, 5, 16) else {
-        return Deletion::Wrong;
+    if list_wrong(s, at, end) {
+        return Field::Wrong;
+    }
+    let Element::Found { start, stop } = next_element(s, at, end, 0x4F, 5, 16) else {
+        return Field::Wrong;
     };
     let len = stop - start;
     let aid = Part { start, len };
     if stop == end {
-        return Deletion::Delete(aid);
+        return Field::Found(Request::Delete(aid));
     }
     let Element::Found {
         start: from,
         stop: to,
-    } = expect(s, stop, end, 0xB6, 0, 255)
+    } = next_element(s, stop, end, 0xB6, 0, 255)
     else {
-        return Deletion::Wrong;
+        return Field::Wrong;
     };
     let Verification::Filled = read_verification(s, from, to) else {
-        return Deletion::Wrong;
+        return Field::Wrong;
     };
-    let Element::Found { start: _, stop: _ } = read_alone(s, to, end, 0x9E, 1, 255) else {
-        return Deletion::Wrong;
+    let Element::Found { start: _, stop: _ } = last_element(s, to, end, 0x9E, 1, 255) else {
+        return Field::Wrong;
     };
-    Deletion::MasterDelete(aid)
+    Field::Found(Request::MasterDelete(aid))
 }
 
 // Which of the two optional tags a row of the answer shows.
@@ -251,45 +237,35 @@ fn read_tags(s: &[u8], at: usize, end: usize) -> Tags
             fall_back: true,
         };
     }
-    let Element::Found { start, stop } = read_alone(s, at, end, 0x5C, 0, 255) else {
+    let Element::Found { start, stop } = last_element(s, at, end, 0x5C, 0, 255) else {
         return Tags::Wrong;
     };
     read_listed(s, start, stop)
 }
 
-pub enum Listing {
-    All {
-        life: bool,
-        fall_back: bool,
-    },
-    One {
-        aid: Part,
-        life: bool,
-        fall_back: bool,
-    },
-    Wrong,
-}
-
-pub fn read_listing(s: &[u8], at: usize, end: usize) -> Listing
+pub fn read_listing(s: &[u8], at: usize, end: usize) -> Field
     ensures { λ r. ⌜ r ≡ listingAt (now (s .entry)) at end ⌝ }
 {
-    let Element::Found { start, stop } = expect(s, at, end, 0x4F, 0, 16) else {
-        return Listing::Wrong;
+    if list_wrong(s, at, end) {
+        return Field::Wrong;
+    }
+    let Element::Found { start, stop } = next_element(s, at, end, 0x4F, 0, 16) else {
+        return Field::Wrong;
     };
     let Tags::Shown { life, fall_back } = read_tags(s, stop, end) else {
-        return Listing::Wrong;
+        return Field::Wrong;
     };
     let len = stop - start;
     if len == 0 {
-        return Listing::All { life, fall_back };
+        return Field::Found(Request::GetStatusOfAll { life, fall_back });
     }
     if len < 5 {
-        return Listing::Wrong;
+        return Field::Wrong;
     }
     let aid = Part { start, len };
-    Listing::One {
+    Field::Found(Request::GetStatusOfOne {
         aid,
         life,
         fall_back,
-    }
+    })
 }

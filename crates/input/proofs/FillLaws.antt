@@ -10,10 +10,8 @@ use Rattle.byte_string.specs.Put.{put, after}
 use Rattle.byte_string.proofs.PutLaws.{put-front, after-fits}
 use Rattle.lines.specs.Window.{heldOf, keptOf, grownOf}
 use Rattle.lines.specs.declared.Window.{Window}
-use Rattle.lines.specs.Lines.{Line}
-use Rattle.lines.specs.Cuts.{Session, read}
-use Rattle.input.specs.Filled.{FilledFrom}
-use Rattle.input.specs.declared.Filled.{Filled}
+use Rattle.lines.specs.Cuts.{read}
+use Rattle.input.specs.Filled.{FilledReads}
 use Rattle.lines.proofs.Cuts.{held-le}
 
 module _ (w : Window) (buf : List ℕ) (v : Window) (k : List ℕ) (p : v ≡ keptOf w buf) (q : k ≡ put buf 0 (heldOf w buf)) where
@@ -53,7 +51,5 @@ module _ (w : Window) (buf : List ℕ) (v : Window) (k : List ℕ) (p : v ≡ ke
         ∙ take-append-add (heldOf w buf) (ys ++ post) count
         ∙ ap (λ (x : List ℕ). heldOf w buf ++ x) (take-append-le count ys post h)
 
--- so what `fill` answers is a read of a session with the window
-pub filled-reads : {w : Window} {buf : List ℕ} {r : Filled} {m input : List ℕ} {ls : List Line} (p : FilledFrom w buf r m)
-    → Session (r .window) m input ls → Session w buf (p .bytes ++ input) ls
-filled-reads p = read (p .bytes) (p .held) (p .skipping)
+pub filled-reads : FilledReads
+filled-reads w buf r m input ls p = read (p .bytes) (p .held) (p .skipping)

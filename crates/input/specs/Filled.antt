@@ -6,6 +6,8 @@ use mathlib.Core.List.{List, [], _++_}
 use lib.IntN.{ℤ, pos, negsuc}
 use lib.ListN.{length}
 use Rattle.lines.specs.Window.{heldOf}
+use Rattle.lines.specs.Lines.{Line}
+use Rattle.lines.specs.Cuts.{Session}
 use Rattle.lines.specs.declared.Window.{Window}
 use Rattle.input.specs.declared.Filled.{Filled}
 use Rattle.input.specs.declared.Arrival.{Arrival}
@@ -29,3 +31,8 @@ pub record FilledFrom (w : Window) (buf : List ℕ) (r : Filled) (m : List ℕ) 
   pub skipping : r .window .skipping ≡ w .skipping
   pub brings : Brings (r .arrival) bytes
   pub size : length m ≡ length buf
+
+-- what `fill` answers is a read of a session with the window
+abbrev pub FilledReads : Type 0
+FilledReads = (w : Window) (buf : List ℕ) (r : Filled) (m input : List ℕ) (ls : List Line) (p : FilledFrom w buf r m)
+    → Session (r .window) m input ls → Session w buf (p .bytes ++ input) ls

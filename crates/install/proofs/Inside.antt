@@ -10,16 +10,16 @@ use Rattle.tlv.specs.declared.LengthRead.{LengthRead}
 use Rattle.tlv.specs.declared.LengthRead.the-variants as len
 use Rattle.tlv.specs.declared.Element.{Element}
 use Rattle.tlv.specs.declared.Element.the-variants as element
-use Rattle.choice.proofs.Branches.{each-lt, each-eq}
+use Rattle.choice.proofs.Branches.{each, each-lt, each-eq}
 use Rattle.tlv.proofs.Inside.{Inside, length-inside}
-use Rattle.byte_string.specs.declared.Part.{Part}
+use Rattle.fields.specs.Places.{FieldIn}
 use Rattle.tlv.specs.Tlv.{expectAt}
+use Rattle.tlv.specs.Lists.{listWrong}
+use Rattle.reader.specs.Reader.{aloneAt}
 use Rattle.install.specs.declared.Protocols.{Protocols}
 use Rattle.install.specs.declared.Protocols.the-variants as protocols
 use Rattle.install.specs.declared.Quota.{Quota}
 use Rattle.install.specs.declared.Quota.the-variants as quota
-use Rattle.install.specs.declared.Installation.{Installation}
-use Rattle.install.specs.declared.Installation.the-variants as installation
 use Rattle.install.specs.Parameters.{protocolsAt, onListed, numberAt, grantOf, memoryAt, parametersAt}
 use Rattle.install.specs.Install.{prefixedOf, prefixedAt, namesAt, rightsAt, onGranted, installOf}
 
@@ -87,32 +87,20 @@ module _ (s : List ℕ) (at end capacity : ℕ) where
 
   memory-within : Within capacity (memoryAt s at end capacity)
   unfolding memoryAt
-  memory-within = each-found (Within capacity) (expectAt s at end 0x83 2 4) tt λ k e _.
-      each-eq (Within capacity) (λ _. each-eq (Within capacity) (λ _. tt) (λ _. grant-within (numberAt s k (e - k)))) (λ _. tt)
+  memory-within = each-found (Within capacity) (aloneAt s at end 0x83 2 4) tt λ k e _.
+      each-eq (Within capacity) (λ _. tt) (λ _. grant-within (numberAt s k (e - k)))
 
 parameters-within : (s : List ℕ) (at end capacity : ℕ) → Within capacity (parametersAt s at end capacity)
 unfolding parametersAt
-parameters-within s at end capacity = each-found (Within capacity) (expectAt s at end 0xC9 1 255) tt λ k e _.
-    each-listed (Within capacity) (protocolsAt s k e) tt λ _. each-found (Within capacity) (expectAt s e end 0xEF 0 255) tt λ f t _.
-    each-eq (Within capacity) (λ _. memory-within s f t capacity) (λ _. tt)
+parameters-within s at end capacity = each (Within capacity) (listWrong s at end) (λ _. tt) λ _.
+    each-found (Within capacity) (expectAt s at end 0xC9 1 255) tt λ k e _. each-listed (Within capacity) (protocolsAt s k e) tt λ _.
+    each-found (Within capacity) (aloneAt s e end 0xEF 0 255) tt λ f t _. memory-within s f t capacity
 
--- what is handed on: an AID of 5 to 16 bytes that stands in the bytes, and a quota of 1 up to the capacity
-pub record Created (s : List ℕ) (capacity : ℕ) (aid : Part) (number : ℕ) : Type 0 where
-  pub held : aid .start + aid .len ≤ length s
-  pub least : 5 ≤ aid .len
-  pub most : aid .len ≤ 16
-  pub some : 1 ≤ number
-  pub within : number ≤ capacity
-
-abbrev pub Handed : List ℕ → ℕ → Installation → Type 0
-Handed s capacity installation.Wrong = Unit
-Handed s capacity (installation.Create aid number) = Created s capacity aid number
-
-pub install-inside : (s : List ℕ) (at end capacity : ℕ) → Handed s capacity (installOf s at end capacity)
+pub install-inside : (s : List ℕ) (at end capacity : ℕ) → FieldIn s capacity (installOf s at end capacity)
 unfolding installOf
 install-inside s at end capacity =
-    each-found (Handed s capacity) (namesAt s at end) tt λ k e q. each-found (Handed s capacity) (rightsAt s e end) tt λ f t _.
-    each-granted (Handed s capacity) (parametersAt s f t capacity) tt λ n g.
+    each-found (FieldIn s capacity) (namesAt s at end) tt λ k e q. each-found (FieldIn s capacity) (rightsAt s e end) tt λ f t _.
+    each-granted (FieldIn s capacity) (parametersAt s f t capacity) tt λ n g.
     let p = names-inside s end k e at q .1 in let i = p .inside in let c = p .stops in let l = p .least in let m = p .most in
     let w : Within capacity (quota.Granted n) = subst (Within capacity) (sym g) (parameters-within s f t capacity) in
-    record { held = omega arith; least = omega arith; most = omega arith; some = w .0; within = w .1 }
+    (record { held = omega arith; least = omega arith; most = omega arith }, record { least = w .0; most = w .1 })

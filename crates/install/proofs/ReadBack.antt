@@ -8,13 +8,16 @@ use native.Mathlib.Omega.{arith}
 use lib.ListN.{length, length-append}
 use Rattle.tlv.specs.declared.Element.the-variants as element
 use Rattle.tlv.specs.Encoding.{window, encodeLength, encodeElement}
-use Rattle.choice.proofs.Branches.{le!, nle!, nlt!, eq!, ne! }
+use Rattle.choice.proofs.Branches.{no!, le!, nle!, nlt!, eq!, ne! }
 use Rattle.tlv.proofs.Inside.{expect-inside}
 use Rattle.tlv.proofs.Windows.{window-length, window-begins, window-part}
-use Rattle.tlv.proofs.ReadBack.{one, length-back, element-back}
+use Rattle.tlv.specs.Filled.{Filled, ended, primitive, constructed}
+use Rattle.tlv.specs.Grammar.{one}
+use Rattle.tlv.proofs.Fills.{filled-right, first-level, second-level}
+use Rattle.tlv.proofs.ReadBack.{length-back, element-back}
+use Rattle.reader.proofs.Alone.{alone-back}
 use Rattle.install.specs.declared.Protocols.the-variants as protocols
 use Rattle.install.specs.declared.Quota.the-variants as quota
-use Rattle.install.specs.declared.Installation.the-variants as installation
 use Rattle.install.specs.Parameters.{protocolsWithin, protocolsAt, numberAt, grantOf, memoryAt, parametersAt}
 use Rattle.install.specs.Install.{prefixedOf, prefixedAt, namesAt, rightsAt, installOf}
 use Rattle.install.specs.Grammar.{Free, encodePrefixed, encodeProtocols, encodeParameters, encodeNames, encodeRights, encodeInstall, highFirst, Sized, OrTwoMore, AllPairs, LegalParameters, InstallBack}
@@ -76,17 +79,18 @@ protocols-back s at end values o l p q = protocols-back-within (end - at) s at e
 
 memory-back : (s : List ℕ) (at end capacity number : ℕ) (memory : List ℕ) → at ≤ end → end ≤ length s → OrTwoMore 2 memory
     → number ≡ highFirst 0 memory → 1 ≤ number → number ≤ capacity → window s at end ≡ encodeElement 0x83 memory
-    → quota.Granted number ≡ memoryAt s at end capacity
+    → (quota.Granted number ≡ memoryAt s at end capacity) × Filled s 2 at end
 unfolding memoryAt grantOf
 memory-back s at end capacity number memory o l c n g f q =
     let least = c .least in let most = c .most in let not = c .notBetween in
-    let b = element-back s at end o l 0x83 2 4 memory [] (one (omega arith) (omega arith)) (omega arith) (omega arith) (q ∙ sym (append-nil (encodeElement 0x83 memory))) in
-    let w = b .within in let k = b .long in
-    let e = nothing-left s (b .stop) end w l (b .after) in
-    let other : b .stop - b .start ≡ 3 → ⊥ = λ z. not (omega arith) in
-    let m : numberAt s (b .start) (b .stop - b .start) ≡ number =
-    number-first s (b .start) (b .stop) (omega arith) (omega arith) (omega arith) (omega arith) other ∙ ap (highFirst 0) (b .value) ∙ sym n in
-    rw (← b .found) (eq! _ e (ne! _ other (rw m (ne! _ (omega arith) (nlt! _ (omega arith) refl)))))
+    let b = alone-back s at end o l 0x83 2 4 memory (one (omega arith) (omega arith)) (omega arith) (omega arith) q in
+    let k = b .long in
+    let other : end - b .start ≡ 3 → ⊥ = λ z. not (omega arith) in
+    let m : numberAt s (b .start) (end - b .start) ≡ number =
+    number-first s (b .start) end (omega arith) l (omega arith) (omega arith) other ∙ ap (highFirst 0) (b .value) ∙ sym n in (
+      rw (← b .found) (ne! _ other (rw m (ne! _ (omega arith) (nlt! _ (omega arith) refl)))),
+      primitive second-level (b .head) (ended second-level l),
+    )
 
 -- ---- the install parameters
 
@@ -104,12 +108,11 @@ parameters-back s at end capacity number free o l p h q =
     (one (omega arith) (omega arith)) (p .listed .least) (p .listed .most) q in
     let aw = a .within in let al = a .long in
     let r = protocols-back s (a .start) (a .stop) (free .protocols) (omega arith) (omega arith) (p .pairs) (a .value) in
-    let b = element-back s (a .stop) end aw l 0xEF 0 255 (encodeElement 0x83 (free .memory)) []
-    (one (omega arith) (omega arith)) (omega arith) (omega arith) (a .after ∙ sym (append-nil (encodeElement 0xEF (encodeElement 0x83 (free .memory))))) in
-    let bw = b .within in let bl = b .long in
-    let e = nothing-left s (b .stop) end bw l (b .after) in
-    rw (← a .found) (rw (← r) (rw (← b .found) (eq! _ e
-    (memory-back s (b .start) (b .stop) capacity number (free .memory) (omega arith) (omega arith) (p .counted) (p .number) (p .granted) (p .fits) (b .value)))))
+    let b = alone-back s (a .stop) end aw l 0xEF 0 255 (encodeElement 0x83 (free .memory)) (one (omega arith) (omega arith)) (omega arith) (omega arith) (a .after) in
+    let bl = b .long in
+    let n = memory-back s (b .start) end capacity number (free .memory) (omega arith) l (p .counted) (p .number) (p .granted) (p .fits) (b .value) in
+    no! _ (filled-right (primitive first-level (a .head) (constructed first-level (b .head) (n .1) (ended first-level l))))
+    (rw (← a .found) (rw (← r) (rw (← b .found) (n .0))))
 
 -- ---- load file AID, module AID and ISD-P AID
 

@@ -1,29 +1,36 @@
 -- Create's data field: whatever is accepted is the encoding of what was read. Each reader's definition is followed to the branch that reads
 -- something; there the window is cut where its parts were found, and each part is the bytes of its encoding.
-use Prim.Native.Nat.{ℕ, zero, suc, _+_, _-_, _≤_}
-use mathlib.Core.Path.{_≡_, sym, ap, subst, _∙_}
+use Prim.Native.Nat.{ℕ, zero, suc, _-_, _≤_}
+use mathlib.Core.Path.{_≡_, refl, sym, ap, subst, _∙_}
 use mathlib.Core.List.{List, [], _∷_, _++_}
 use mathlib.Core.Option.{none, some}
 use native.Mathlib.Omega.{arith}
 use lib.ListN.{length}
 use Rattle.byte_string.specs.Bytes.{between, partOf}
 use Rattle.tlv.specs.Tlv.{expectAt}
+use Rattle.tlv.specs.Lists.{listWrong}
+use Rattle.reader.specs.Reader.{aloneAt}
+use Rattle.reader.proofs.Alone.{alone-expected, alone-written}
 use Rattle.tlv.specs.declared.Element.{Element}
 use Rattle.tlv.specs.declared.Element.the-variants as element
 use Rattle.tlv.specs.Encoding.{window, Bytes, encodeLength, encodeElement}
-use Rattle.choice.proofs.Branches.{each-le, each-lt, each-eq}
+use Rattle.choice.proofs.Branches.{each, each-le, each-lt, each-eq}
 use Rattle.tlv.proofs.Inside.{expect-parts}
 use Rattle.tlv.proofs.Windows.{window-none, window-length, window-part, window-cut}
 use Rattle.tlv.proofs.Written.{length-written, element-written}
+use Rattle.tlv.specs.Filled.{Filled}
+use Rattle.tlv.proofs.Fills.{right-filled}
+use Rattle.fields.specs.Grammar.{Created, Wanted, create, foundAs, Written}
+use Rattle.fields.specs.declared.request.Field.{Field}
+use Rattle.fields.specs.declared.request.Field.the-variants as field
+use Rattle.fields.proofs.Cases.{same-value}
 use Rattle.install.specs.declared.Protocols.{Protocols}
 use Rattle.install.specs.declared.Protocols.the-variants as protocols
 use Rattle.install.specs.declared.Quota.{Quota}
 use Rattle.install.specs.declared.Quota.the-variants as quota
-use Rattle.install.specs.declared.Installation.{Installation}
-use Rattle.install.specs.declared.Installation.the-variants as installation
 use Rattle.install.specs.Parameters.{protocolsWithin, protocolsAt, numberAt, grantOf, memoryAt, parametersAt}
 use Rattle.install.specs.Install.{prefixedAt, namesAt, rightsAt, installOf}
-use Rattle.install.specs.Grammar.{Free, encodePrefixed, encodeProtocols, encodeParameters, encodeNames, encodeRights, encodeInstall, highFirst, Sized, OrTwoMore, AllPairs, EncodesInstall, Created, createdOf, InstallWritten}
+use Rattle.install.specs.Grammar.{Free, encodePrefixed, encodeProtocols, encodeParameters, encodeNames, encodeRights, encodeInstall, highFirst, Sized, OrTwoMore, AllPairs, EncodesInstall, EncodesCreated, InstallWritten, ParametersFilled}
 use Rattle.install.proofs.Inside.{prefixed-parts, each-found, each-granted, each-listed}
 use Rattle.install.proofs.Numbers.{number-first}
 
@@ -92,8 +99,8 @@ unfolding memoryAt grantOf
 memory-written s at end capacity number b =
     let P : Quota → Type 0 = λ z. quota.Granted number ≡ z → MemoryWritten s at end capacity number in
     let none : P quota.Wrong = λ q. let z : _≡_ {A = ℕ} 0 1 = cc in absurd (omega arith) in
-    each-found P (expectAt s at end 0x83 2 4) none λ k e f. each-eq P (λ g. each-eq P (λ _. none) (λ t. each-eq P (λ _. none) (λ u. each-lt P (λ _. none) (λ v q.
-    let x = expect-parts s at end 0x83 2 4 k e f in let j = x .inside in let y = x .least in let z = x .most in
+    each-found P (aloneAt s at end 0x83 2 4) none λ k e f. each-eq P (λ _. none) (λ t. each-eq P (λ _. none) (λ u. each-lt P (λ _. none) (λ v q.
+    let x = alone-expected s at end 0x83 2 4 k e f in let j = x .inside in let y = x .least in let z = x .most in
     let m : number ≡ numberAt s k (e - k) = cc in
     let n = window-length s k e (omega arith) in
     record {
@@ -102,8 +109,8 @@ memory-written s at end capacity number b =
       numbered = m ∙ number-first s k e (omega arith) (omega arith) y z t;
       granted = omega arith;
       fits = omega arith;
-      written = ap (window s at) (sym g) ∙ element-written s at end 0x83 2 4 k e b f;
-    })))) (λ _. none)
+      written = alone-written s at end 0x83 2 4 k e b f;
+    })))
 
 -- ---- the install parameters
 
@@ -124,10 +131,11 @@ module _ (s : List ℕ) (at end capacity number : ℕ) where
   parameters-written b =
       let P : Quota → Type 0 = λ z. quota.Granted number ≡ z → ParametersWritten in
       let none : P quota.Wrong = λ q. let z : _≡_ {A = ℕ} 0 1 = cc in absurd (omega arith) in
+      each P (listWrong s at end) (λ _. none) λ _.
       each-found P (expectAt s at end 0xC9 1 255) none λ k e c. each-listed P (protocolsAt s k e) none λ l.
-      each-found P (expectAt s e end 0xEF 0 255) none λ f t d. each-eq P (λ g q.
+      each-found P (aloneAt s e end 0xEF 0 255) none λ f t d q.
       let x = expect-parts s at end 0xC9 1 255 k e c in let i = x .inside in let y = x .least in let z = x .most in
-      let u = expect-parts s e end 0xEF 0 255 f t d in let j = u .inside in
+      let u = alone-expected s e end 0xEF 0 255 f t d in let j = u .inside in
       let r = protocols-written s k e b (omega arith) (omega arith) l in
       let m = memory-written s f t capacity number b q in
       let n = window-length s k e (omega arith) in
@@ -144,8 +152,8 @@ module _ (s : List ℕ) (at end capacity number : ℕ) where
         written = window-cut s at e end (omega arith) (omega arith) (omega arith)
             ∙ ap (λ (w : List ℕ). w ++ window s e end) (element-written s at end 0xC9 1 255 k e b c ∙ ap (encodeElement 0xC9) (r .written))
             ∙ ap (λ (w : List ℕ). encodeElement 0xC9 (encodeProtocols (r .values)) ++ w)
-            (ap (window s e) (sym g) ∙ element-written s e end 0xEF 0 255 f t b d ∙ ap (encodeElement 0xEF) (m .written));
-      }) (λ _. none)
+            (alone-written s e end 0xEF 0 255 f t b d ∙ ap (encodeElement 0xEF) (m .written));
+      }
 
 -- ---- load file AID, module AID and ISD-P AID
 
@@ -265,16 +273,27 @@ module _ (s : List ℕ) (at end capacity start stop from to number : ℕ) where
 
 pub install-written : InstallWritten
 unfolding installOf
-install-written s at end capacity v b =
-    let P : Installation → Type 0 = λ z. createdOf s z ≡ some v → (at ≤ end) × ((end ≤ length s) × EncodesInstall capacity (v .aid) (v .quota) (window s at end)) in
-    let none : P installation.Wrong = λ q. let z : _≡_ {A = ℕ} 0 1 = cc in absurd (omega arith) in
+install-written s at end capacity w b =
+    let Encoded : Wanted → Type 0 = λ z. Written create (EncodesCreated capacity) s at end z in
+    let P : Field → Type 0 = λ z. foundAs s z ≡ some w → Encoded w in
+    let none : P field.Wrong = λ q. let z : _≡_ {A = ℕ} 0 1 = cc in absurd (omega arith) in
     each-found P (namesAt s at end) none λ start stop c. each-found P (rightsAt s stop end) none λ from to d.
-    each-granted P (parametersAt s from to capacity) none λ number g q.
+    each-granted P (parametersAt s from to capacity) none λ number g.
     let n = names-written s at end start stop c in
     let r = rights-written s stop end from to d in
     let p = parameters-written s from to capacity number b g in
-    let o = n .ordered in let w = n .within in let x = n .reached in
-    let e : record { aid = partOf s (between start stop); quota = number } ≡ v = cc in
-    let f : window s start stop ≡ v .aid = sym (window-part s start stop (omega arith)) ∙ ap (λ (z : Created). z .aid) e in
-    let h : number ≡ v .quota = ap (λ (z : Created). z .quota) e in
-    (omega arith, (n .held, rw (← f, ← h) (whole s at end capacity start stop from to number n r p)))
+    let o = n .ordered in let m = n .within in
+    let e : partOf s (between start stop) ≡ window s start stop = window-part s start stop (n .reached) in
+    let v : Created = record { aid = partOf s (between start stop); quota = number } in
+    same-value Encoded (create v) w record {
+      ordered = omega arith;
+      held = n .held;
+      value = v;
+      meant = refl;
+      encoded = rw e (whole s at end capacity start stop from to number n r p);
+    }
+
+pub parameters-filled : ParametersFilled
+unfolding parametersAt
+parameters-filled s at end capacity number = each (λ (z : Quota). quota.Granted number ≡ z → Filled s 1 at end) (listWrong s at end)
+    (λ _ q. let z : _≡_ {A = ℕ} 0 1 = cc in absurd (omega arith)) (λ e _. right-filled s at end e)

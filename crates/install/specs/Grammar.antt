@@ -3,12 +3,13 @@
 use Prim.Native.Nat.{ℕ, _+_, _*_, _≤_}
 use mathlib.Core.Path.{_≡_}
 use mathlib.Core.List.{List, [], _∷_, _++_}
-use mathlib.Core.Option.{Option, none, some}
+use mathlib.Core.Option.{some}
 use lib.ListN.{length}
-use Rattle.byte_string.specs.Bytes.{partOf}
 use Rattle.tlv.specs.Encoding.{window, Bytes, encodeLength, encodeElement}
-use Rattle.install.specs.declared.Installation.{Installation}
-use Rattle.install.specs.declared.Installation.the-variants as installation
+use Rattle.tlv.specs.Filled.{Filled}
+use Rattle.fields.specs.Grammar.{Created, Wanted, create, foundAs, Written}
+use Rattle.install.specs.declared.Quota.the-variants as quota
+use Rattle.install.specs.Parameters.{parametersAt}
 use Rattle.install.specs.Install.{installOf}
 
 -- a field after its length
@@ -82,20 +83,19 @@ pub record EncodesInstall (capacity : ℕ) (aid : List ℕ) (quota : ℕ) (bytes
   pub short : length (encodeParameters free) ≤ 255
   pub written : bytes ≡ encodeInstall aid free
 
-pub record Created : Type 0 where
-  pub aid : List ℕ
-  pub quota : ℕ
-
-abbrev pub createdOf : List ℕ → Installation → Option Created
-createdOf s (installation.Create part quota) = some (record { aid = partOf s part; quota = quota })
-createdOf s installation.Wrong = none
+abbrev pub EncodesCreated : ℕ → Created → List ℕ → Type 0
+EncodesCreated capacity v bytes = EncodesInstall capacity (v .aid) (v .quota) bytes
 
 -- reading an encoded field gives it back
 abbrev pub InstallBack : Type 0
-InstallBack = (s : List ℕ) (at end capacity : ℕ) (v : Created) → at ≤ end → end ≤ length s → EncodesInstall capacity (v .aid) (v .quota) (window s at end)
-    → createdOf s (installOf s at end capacity) ≡ some v
+InstallBack = (s : List ℕ) (at end capacity : ℕ) (v : Created) → at ≤ end → end ≤ length s → EncodesCreated capacity v (window s at end)
+    → foundAs s (installOf s at end capacity) ≡ some (create v)
 
 -- whatever is accepted is the encoding of what was read
 abbrev pub InstallWritten : Type 0
-InstallWritten = (s : List ℕ) (at end capacity : ℕ) (v : Created) → Bytes s → createdOf s (installOf s at end capacity) ≡ some v
-    → (at ≤ end) × ((end ≤ length s) × EncodesInstall capacity (v .aid) (v .quota) (window s at end))
+InstallWritten = (s : List ℕ) (at end capacity : ℕ) (w : Wanted) → Bytes s → foundAs s (installOf s at end capacity) ≡ some w
+    → Written create (EncodesCreated capacity) s at end w
+
+-- accepted install parameters are a list of elements
+abbrev pub ParametersFilled : Type 0
+ParametersFilled = (s : List ℕ) (at end capacity number : ℕ) → quota.Granted number ≡ parametersAt s at end capacity → Filled s 1 at end

@@ -12,8 +12,9 @@ use Rattle.tlv.specs.declared.Element.{Element}
 use Rattle.tlv.specs.declared.Element.the-variants as element
 use Rattle.install.specs.declared.Quota.{Quota}
 use Rattle.install.specs.declared.Quota.the-variants as quota
-use Rattle.install.specs.declared.Installation.{Installation}
-use Rattle.install.specs.declared.Installation.the-variants as installation
+use Rattle.fields.specs.declared.request.Request.the-variants as request
+use Rattle.fields.specs.declared.request.Field.{Field}
+use Rattle.fields.specs.declared.request.Field.the-variants as field
 use Rattle.install.specs.Parameters.{parametersAt}
 
 -- a value after its length, where the window has so many bytes and they are `low` to `high`
@@ -49,9 +50,9 @@ abbrev pub onGranted {ℓ} : {X : Type ℓ} → Quota → X → (ℕ → X) → 
 onGranted quota.Wrong w f = w
 onGranted (quota.Granted number) w f = f number
 
-unfoldable pub installOf : List ℕ → ℕ → ℕ → ℕ → Installation
+unfoldable pub installOf : List ℕ → ℕ → ℕ → ℕ → Field
 installOf s at end capacity =
-    onFound (namesAt s at end) installation.Wrong λ start stop.
-    onFound (rightsAt s stop end) installation.Wrong λ from to.
-    onGranted (parametersAt s from to capacity) installation.Wrong λ number.
-    installation.Create (between start stop) number
+    onFound (namesAt s at end) field.Wrong λ start stop.
+    onFound (rightsAt s stop end) field.Wrong λ from to.
+    onGranted (parametersAt s from to capacity) field.Wrong λ number.
+    field.Found (request.Create (between start stop) number)

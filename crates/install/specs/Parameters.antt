@@ -1,12 +1,12 @@
 -- Document 01, 'Reading a command', 'Create': the install parameters. Which tags must or may stand is Table 10 of 000:
 -- C9 with 81 of two bytes, n times; then EF with one 83 of 2 or 4 bytes, which must be present.
-use Prim.Native.Nat.{ℕ, zero, suc, _+_, _-_, _*_, _≤_}
-use mathlib.Core.Path.{_≡_}
+use Prim.Native.Nat.{ℕ, zero, suc, _+_, _-_, _*_}
 use mathlib.Core.List.{List}
-use lib.ListN.{length}
 use Rattle.choice.specs.Choice.{pick, atMost, isBelow, isSame}
 use Rattle.byte_string.specs.Bytes.{pairAt}
 use Rattle.tlv.specs.Tlv.{expectAt, onFound}
+use Rattle.tlv.specs.Lists.{listWrong}
+use Rattle.reader.specs.Reader.{aloneAt}
 use Rattle.install.specs.declared.Protocols.{Protocols}
 use Rattle.install.specs.declared.Protocols.the-variants as protocols
 use Rattle.install.specs.declared.Quota.{Quota}
@@ -37,15 +37,14 @@ grantOf number capacity = pick (isSame number 0) quota.Wrong (pick (isBelow capa
 -- the cumulative granted non-volatile memory, alone in its window
 unfoldable pub memoryAt : List ℕ → ℕ → ℕ → ℕ → Quota
 memoryAt s at end capacity =
-    onFound (expectAt s at end 0x83 2 4) quota.Wrong λ start stop.
-    pick (isSame stop end)
-    (pick (isSame (stop - start) 3) quota.Wrong (grantOf (numberAt s start (stop - start)) capacity))
-    quota.Wrong
+    onFound (aloneAt s at end 0x83 2 4) quota.Wrong λ start stop.
+    pick (isSame (stop - start) 3) quota.Wrong (grantOf (numberAt s start (stop - start)) capacity)
 
--- C9, then EF, and nothing after
+-- a list of elements: C9, then EF, and nothing after
 unfoldable pub parametersAt : List ℕ → ℕ → ℕ → ℕ → Quota
 parametersAt s at end capacity =
-    onFound (expectAt s at end 0xC9 1 255) quota.Wrong λ start stop.
+    pick (listWrong s at end) quota.Wrong
+    (onFound (expectAt s at end 0xC9 1 255) quota.Wrong λ start stop.
     onListed (protocolsAt s start stop)
-    (onFound (expectAt s stop end 0xEF 0 255) quota.Wrong λ from to.
-    pick (isSame to end) (memoryAt s from to capacity) quota.Wrong)
+    (onFound (aloneAt s stop end 0xEF 0 255) quota.Wrong λ from to.
+    memoryAt s from to capacity))

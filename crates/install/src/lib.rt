@@ -2,9 +2,13 @@
 // Every function reads a window of the whole command, from `at` up to `end`; one that does not lie in it is wrong.
 use byte_string::Part;
 use byte_string::read_pair;
+use fields::Field;
+use fields::Request;
+use reader::last_element;
+use reader::next_element;
 use tlv::Element;
 use tlv::LengthRead;
-use tlv::expect;
+use tlv::list_wrong;
 use tlv::read_length;
 ghost use mathlib.Core.Path.{_≡_};
 ghost use Prim.Native.Nat.{_+_, _≤_};
@@ -23,7 +27,7 @@ fn read_protocols(s: &[u8], at: usize, end: usize) -> Protocols
 {
     let mut from = at;
     while from < end {
-        let Element::Found { start: _, stop } = expect(s, from, end, 0x81, 2, 2) else {
+        let Element::Found { start: _, stop } = next_element(s, from, end, 0x81, 2, 2) else {
             return Protocols::Wrong;
         };
         from = stop;
@@ -66,12 +70,9 @@ fn grant(number: u32, capacity: u32) -> Quota
 fn read_memory(s: &[u8], at: usize, end: usize, capacity: u32) -> Quota
     ensures { λ r. ⌜ r ≡ memoryAt (now (s .entry)) at end capacity ⌝ }
 {
-    let Element::Found { start, stop } = expect(s, at, end, 0x83, 2, 4) else {
+    let Element::Found { start, stop } = last_element(s, at, end, 0x83, 2, 4) else {
         return Quota::Wrong;
     };
-    if stop != end {
-        return Quota::Wrong;
-    }
     let count = stop - start;
     if count == 3 {
         return Quota::Wrong;
@@ -80,10 +81,14 @@ fn read_memory(s: &[u8], at: usize, end: usize, capacity: u32) -> Quota
     grant(number, capacity)
 }
 
+// A list of elements: C9, then EF, and nothing after.
 fn read_parameters(s: &[u8], at: usize, end: usize, capacity: u32) -> Quota
     ensures { λ r. ⌜ r ≡ parametersAt (now (s .entry)) at end capacity ⌝ }
 {
-    let Element::Found { start, stop } = expect(s, at, end, 0xC9, 1, 255) else {
+    if list_wrong(s, at, end) {
+        return Quota::Wrong;
+    }
+    let Element::Found { start, stop } = next_element(s, at, end, 0xC9, 1, 255) else {
         return Quota::Wrong;
     };
     let Protocols::Listed = read_protocols(s, start, stop) else {
@@ -92,13 +97,10 @@ fn read_parameters(s: &[u8], at: usize, end: usize, capacity: u32) -> Quota
     let Element::Found {
         start: from,
         stop: to,
-    } = expect(s, stop, end, 0xEF, 0, 255)
+    } = last_element(s, stop, end, 0xEF, 0, 255)
     else {
         return Quota::Wrong;
     };
-    if to != end {
-        return Quota::Wrong;
-    }
     read_memory(s, from, to, capacity)
 }
 
@@ -178,28 +180,23 @@ fn read_rights(s: &[u8], at: usize, end: usize) -> Element
     }
 }
 
-pub enum Installation {
-    Create { aid: Part, quota: u32 },
-    Wrong,
-}
-
-pub fn read_install(s: &[u8], at: usize, end: usize, capacity: u32) -> Installation
+pub fn read_install(s: &[u8], at: usize, end: usize, capacity: u32) -> Field
     ensures { λ r. ⌜ r ≡ installOf (now (s .entry)) at end capacity ⌝ }
 {
     let Element::Found { start, stop } = read_names(s, at, end) else {
-        return Installation::Wrong;
+        return Field::Wrong;
     };
     let Element::Found {
         start: from,
         stop: to,
     } = read_rights(s, stop, end)
     else {
-        return Installation::Wrong;
+        return Field::Wrong;
     };
     let Quota::Granted(quota) = read_parameters(s, from, to, capacity) else {
-        return Installation::Wrong;
+        return Field::Wrong;
     };
     let len = stop - start;
     let aid = Part { start, len };
-    Installation::Create { aid, quota }
+    Field::Found(Request::Create { aid, quota })
 }

@@ -12,7 +12,7 @@ use lib.Seq.{take-take, take-append-seam}
 use Rattle.text.specs.Words.{before, part}
 use Rattle.byte_string.specs.Put.{put, after}
 use Rattle.byte_string.proofs.PutLaws.{put-put, put-front, length-put, after-fits}
-use Rattle.lines.specs.Lines.{Line, Whole, linesOf}
+use Rattle.lines.specs.Lines.{Line, Whole}
 use Rattle.lines.specs.Window.{nextOf, heldOf, freshWindow}
 use Rattle.lines.specs.Cuts.{handed, drained, drainedTo, readBuffer, readWindow, steps, linesBy, AtMost, one, AnyCut, AnswersAtOnce, Settled, Session, over, step, read, AnySession}
 use Rattle.lines.specs.declared.Window.{Window}
@@ -162,16 +162,6 @@ sessions (read {w} {v} {buf} {after} {input} bytes h k p) =
 
 pub any-session : AnySession
 any-session buf input lines p = sessions p
-
--- so one read of two parts is as good as a read of each
-pub cut-in-two : (n : ℕ) (buf a b : List ℕ) (reads : List (List ℕ)) → AtMost n ((a ++ b) ∷ reads) → n + 4096 ≤ length buf
-    → linesBy freshWindow buf (a ∷ b ∷ reads) ≡ linesBy freshWindow buf ((a ++ b) ∷ reads)
-unfolding flatten
-cut-in-two n buf a b reads (one k m) h =
-    let l = length-append a b in
-    any-cut n buf (a ∷ b ∷ reads) (one (omega arith) (one (omega arith) m)) h
-    ∙ ap linesOf (sym (append-assoc a b (flatten reads)))
-    ∙ sym (any-cut n buf ((a ++ b) ∷ reads) (one k m) h)
 
 -- a line lies inside the buffer
 pub next-inside : (w : Window) (buf : List ℕ) (last : Bool) → Inside (length buf) (nextOf w buf last .found)

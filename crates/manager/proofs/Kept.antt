@@ -22,12 +22,12 @@ use Rattle.byte_string.specs.Bytes.{partOf}
 use Rattle.byte_string.specs.declared.Part.{Part}
 use Rattle.command.specs.Framing.{lengthWrong, classWrong, instructionWrong, parametersWrong, shapeWrong}
 use Rattle.command.specs.Requests.{fieldOf}
-use Rattle.command.specs.Places.{Placed, RequestIn}
-use Rattle.command.specs.declared.request.Request.{Request}
-use Rattle.command.specs.declared.request.Request.the-variants as request
-use Rattle.command.specs.declared.request.Field.{Field}
-use Rattle.command.specs.declared.request.Field.the-variants as field
-use Rattle.command.proofs.Within.{FieldIn, field-in}
+use Rattle.fields.specs.Places.{Placed, RequestIn, FieldIn}
+use Rattle.fields.specs.declared.request.Request.{Request}
+use Rattle.fields.specs.declared.request.Request.the-variants as request
+use Rattle.fields.specs.declared.request.Field.{Field}
+use Rattle.fields.specs.declared.request.Field.the-variants as field
+use Rattle.command.proofs.Within.{field-in}
 use Rattle.steps.specs.Steps.{stepOf, responseOf}
 use Rattle.steps.proofs.Rows.{Passed, named}
 use Rattle.steps.proofs.Kept.{Legal, step-kept}

@@ -12,8 +12,8 @@ use Rattle.card.specs.Ticks.{ticksByPhase}
 use Rattle.card.specs.Answers.{refusedAt, known}
 use Rattle.card.specs.declared.Card.{Card}
 use Rattle.command.specs.Reading.{readingRows, readOf}
-use Rattle.command.specs.declared.request.Request.{Request}
-use Rattle.command.specs.declared.request.Field.the-variants as field
+use Rattle.fields.specs.declared.request.Request.{Request}
+use Rattle.fields.specs.declared.request.Field.the-variants as field
 use Rattle.command.specs.declared.Reading.the-variants as reading
 use Rattle.command.proofs.Answers.{refused-word, read-done, read-passes, rows-stop, rows-pass}
 use Rattle.steps.specs.Conditions.{cardRows}

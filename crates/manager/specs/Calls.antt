@@ -3,10 +3,10 @@ use Prim.Native.Nat.{ℕ}
 use mathlib.Core.List.{List}
 use Rattle.byte_string.specs.Bytes.{partOf}
 use Rattle.command.specs.Requests.{fieldOf}
-use Rattle.command.specs.declared.request.Request.{Request}
-use Rattle.command.specs.declared.request.Request.the-variants as request
-use Rattle.command.specs.declared.request.Field.{Field}
-use Rattle.command.specs.declared.request.Field.the-variants as field
+use Rattle.fields.specs.declared.request.Request.{Request}
+use Rattle.fields.specs.declared.request.Request.the-variants as request
+use Rattle.fields.specs.declared.request.Field.{Field}
+use Rattle.fields.specs.declared.request.Field.the-variants as field
 use Rattle.steps.specs.Asked.{Act.enable, Act.disable, Act.delete, Act.masterDelete, Act.setFallBack, Act.status, Act.keyed, Act.stored, Act.finished, Asked, Asked.unread, Asked.create, Asked.on, Asked.confirm, Asked.statusOfAll, Asked.getData, Asked.tick, Asked.lost}
 use Rattle.card.specs.declared.Card.{Card}
 use Rattle.manager.specs.declared.Call as declared

@@ -8,7 +8,7 @@ use Rattle.choice.specs.Choice.{pick, isSame}
 use Rattle.tlv.specs.Tlv.{onFound}
 use Rattle.tlv.specs.declared.Element.{Element}
 use Rattle.tlv.specs.declared.Element.the-variants as element
-use Rattle.reader.specs.Reader.{nextAt, endAt, pastOf, filledOf, onlyAt}
+use Rattle.reader.specs.Reader.{nextAt, endAt, pastOf, filledOf, aloneAt}
 
 none : (b : Bool) → filledOf element.Wrong b ≡ element.Wrong
 unfolding pick
@@ -34,8 +34,8 @@ pub record Answers (s : List ℕ) (at tag low high : ℕ) : Type 0 where
   pub moved : (rest ≡ held) × (next ≡ pastOf place found)
   pub told : ended ≡ endAt rest next
 
-pub only-element : (s : List ℕ) (at tag low high : ℕ) (a : Answers s at tag low high) → filledOf (a .found) (a .ended) ≡ onlyAt s at tag low high
-unfolding onlyAt
+pub only-element : (s : List ℕ) (at tag low high : ℕ) (a : Answers s at tag low high) → filledOf (a .found) (a .ended) ≡ aloneAt s at (length s) tag low high
+unfolding aloneAt
 only-element s at tag low high a =
     let read : a .found ≡ nextAt s at tag low high = a .read ∙ ap (λ (l : List ℕ). nextAt l (a .place) tag low high) (a .made .0) ∙ ap (λ (n : ℕ). nextAt s n tag low high) (a .made .1) in
     let next : a .next ≡ pastOf at (a .found) = a .moved .1 ∙ ap (λ (n : ℕ). pastOf n (a .found)) (a .made .1) in

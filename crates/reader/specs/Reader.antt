@@ -1,5 +1,5 @@
 -- Document 01, 'Reading a command', TLV: "Elements fill their list exactly and come in the order of the table", of a data field and a
--- position in it: the next element, the position past it, whether that is the end, and the only element that is left.
+-- position in it: the next element, the position past it, whether that is the end, and the element that ends it.
 use Prim.Native.Nat.{ℕ}
 use mathlib.Core.List.{List}
 use mathlib.Core.Bool.{Bool}
@@ -24,7 +24,8 @@ pastOf at found = onFound found at λ start stop. stop
 abbrev pub filledOf : Element → Bool → Element
 filledOf found ended = pick ended found element.Wrong
 
-unfoldable pub onlyAt : List ℕ → ℕ → ℕ → ℕ → ℕ → Element
-onlyAt s at tag low high =
-    onFound (nextAt s at tag low high) element.Wrong λ start stop.
-    pick (isSame stop (length s)) (element.Found start stop) element.Wrong
+-- the element, where it stops at the end: "Elements fill their list exactly"
+unfoldable pub aloneAt : List ℕ → ℕ → ℕ → ℕ → ℕ → ℕ → Element
+aloneAt s at end tag low high =
+    onFound (expectAt s at end tag low high) element.Wrong λ start stop.
+    pick (isSame stop end) (element.Found start stop) element.Wrong

@@ -1,10 +1,12 @@
 // Document 01, 'Reading a command': "Elements fill their list exactly and come in the order of the table".
 // A reader holds the data field and a position in it. Each function over it takes it apart and leaves the work to a function on the
-// slice and the number; `only_element` has plain parameters, so that its callers know no reader.
+// slice and the number; `next_element` and `last_element` have plain parameters, so that their callers know no reader.
 use tlv::Element;
 use tlv::expect;
 ghost use mathlib.Core.Path.{_≡_};
-ghost use Rattle.reader.specs.Reader.{nextAt, endAt, pastOf, filledOf, onlyAt};
+ghost use lib.ListN.{length};
+ghost use Rattle.tlv.specs.Tlv.{expectAt};
+ghost use Rattle.reader.specs.Reader.{nextAt, endAt, pastOf, filledOf, aloneAt};
 
 pub struct Reader<'a> {
     data: &'a [u8],
@@ -70,13 +72,42 @@ pub fn at_end<'a>(r: Reader<'a>) -> bool
     end_at(r.data, r.at)
 }
 
-// The element that the table has there, where nothing comes after it.
-pub fn only_element(s: &[u8], at: usize, tag: u16, low: usize, high: usize) -> Element
-    ensures { λ r. ⌜ r ≡ onlyAt (now (s .entry)) at tag low high ⌝ }
+// The element that the table has there, of a data field that ends with the slice.
+fn next_of(s: &[u8], at: usize, tag: u16, low: usize, high: usize) -> Element
+    ensures { λ r. ⌜ r ≡ nextAt (now (s .entry)) at tag low high ⌝ }
+{
+    next(new(s, at), tag, low, high)
+}
+
+// The same, where nothing comes after it.
+fn only_of(s: &[u8], at: usize, tag: u16, low: usize, high: usize) -> Element
+    ensures { λ r. ⌜ r ≡ aloneAt (now (s .entry)) at (length (now (s .entry))) tag low high ⌝ }
 {
     let reader = new(s, at);
     let found = next(reader, tag, low, high);
     let rest = moved(reader, found);
     let ended = at_end(rest);
     filled(found, ended)
+}
+
+// The element that the table has at a place of a data field that ends at `end`; another may follow.
+pub fn next_element(s: &[u8], at: usize, end: usize, tag: u16, low: usize, high: usize) -> Element
+    ensures { λ r. ⌜ r ≡ expectAt (now (s .entry)) at end tag low high ⌝ }
+{
+    if s.len() < end {
+        return Element::Wrong;
+    }
+    let field = &s[..end];
+    next_of(field, at, tag, low, high)
+}
+
+// The element that the table has there, where it ends the data field.
+pub fn last_element(s: &[u8], at: usize, end: usize, tag: u16, low: usize, high: usize) -> Element
+    ensures { λ r. ⌜ r ≡ aloneAt (now (s .entry)) at end tag low high ⌝ }
+{
+    if s.len() < end {
+        return Element::Wrong;
+    }
+    let field = &s[..end];
+    only_of(field, at, tag, low, high)
 }

@@ -1,6 +1,7 @@
 // Reads lines of one hex word, each a command (`-` is the empty one), and writes how it is read with a capacity of 1000: the request, or
 // the word of its refusal. Empty lines and lines that begin with `#` are passed over.
 use byte_string::Part;
+use byte_string::part_of;
 use byte_string::put_byte;
 use byte_string::put_bytes;
 use command::Reading;
@@ -13,23 +14,12 @@ use text::put_hex;
 use text::put_hex_16;
 use text::read_hex;
 use text::until;
-ghost use Rattle.command.specs.Places.{Placed, RequestIn};
 
 const CAPACITY: u32 = 1000;
 
-fn put_part(out: &mut [u8], at: usize, bytes: &[u8], part: Part) -> usize
-    requires { ⌜ Placed (now bytes) part ⌝ }
-{
-    let start = part.start;
-    let stop = start + part.len;
-    put_hex(out, at, &bytes[start..stop])
-}
-
-fn put_named(out: &mut [u8], name: &[u8], bytes: &[u8], aid: Part) -> usize
-    requires { ⌜ Placed (now bytes) aid ⌝ }
-{
+fn put_named(out: &mut [u8], name: &[u8], bytes: &[u8], aid: Part) -> usize {
     let at = put_bytes(out, 0, name);
-    put_part(out, at, bytes, aid)
+    put_hex(out, at, part_of(bytes, aid))
 }
 
 fn put_tags(out: &mut [u8], at: usize, life: bool, fall_back: bool) -> usize {
@@ -45,9 +35,7 @@ fn put_tags(out: &mut [u8], at: usize, life: bool, fall_back: bool) -> usize {
     put_bytes(out, at, b" 4F")
 }
 
-fn put_request(out: &mut [u8], bytes: &[u8], request: Request) -> usize
-    requires { ⌜ RequestIn (now bytes) 1000 request ⌝ }
-{
+fn put_request(out: &mut [u8], bytes: &[u8], request: Request) -> usize {
     match request {
         Request::Create { aid, quota } => {
             let at = put_named(out, b"create ", bytes, aid);

@@ -10,10 +10,9 @@ use Rattle.choice.specs.Choice.{pick, isBelow}
 use Rattle.byte_string.specs.Bytes.{sameBytes}
 use Rattle.text.specs.Hex.{nibbleOf, pairsOf, isHex, byteOf, spelled, spelledIn, hexByteOf, hexReadOf, hexLeft, hexText, hexWord}
 use Rattle.text.specs.declared.hex.Byte.the-variants as byte
-use Rattle.text.specs.declared.hex.HexRead.{HexRead}
 use Rattle.text.specs.declared.hex.HexRead.the-variants.{Bytes, NoRoom, Wrong}
 use Rattle.byte_string.specs.Put.{put}
-use Rattle.choice.proofs.Branches.{each, by-lt, yes!, no!, lt!, nlt! }
+use Rattle.choice.proofs.Branches.{each, yes!, no!, lt!, nlt! }
 use Rattle.byte_string.proofs.PutLaws.{put-none, put-cons}
 use Rattle.byte_string.proofs.Rest.{rest, rest-one, rest-two, rest-end}
 
@@ -124,15 +123,3 @@ pub word-some : (s : List ℕ) → (length s ≡ 0 → ⊥) → hexText s ≡ he
 unfolding hexWord
 word-some [] h = absurd (h refl)
 word-some (b ∷ bs) h = refl
-
--- what was read fits
-pub hex-within : (s : List ℕ) (room n : ℕ) → Bytes n ≡ hexReadOf s room → n ≤ room
-unfolding hexReadOf
-hex-within s room n h =
-    each (λ (x : HexRead). Bytes n ≡ x → n ≤ room) (isHex s)
-    (λ e.
-    by-lt (λ (x : HexRead). Bytes n ≡ x → n ≤ room) room (length (spelled s))
-    (λ k q. let z : _≡_ {A = ℕ} 0 1 = cc in absurd (omega arith))
-    (λ k q. let z : n ≡ length (spelled s) = cc in omega arith))
-    (λ e q. let z : _≡_ {A = ℕ} 0 1 = cc in absurd (omega arith))
-    h

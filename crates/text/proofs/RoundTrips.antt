@@ -10,16 +10,11 @@ use lib.ListN.{length, length-append}
 use lib.Dec.{eqb}
 use Rattle.byte_string.specs.Bytes.{sameBytes}
 use Rattle.text.specs.Hex.{nibbleOf, pairsOf, isHex, byteOf, spelled, hexReadOf, hexLeft, glyphOf, hexText, hexWord}
-use Rattle.text.specs.Numbers.{digitsOn, decimalOf, digitsText, decimalText}
+use Rattle.text.specs.Numbers.{digitsOn, digitsText, decimalText}
 use Rattle.text.specs.declared.hex.HexRead.the-variants.{Bytes}
-use Rattle.text.specs.declared.numbers.Number.the-variants.{Value}
+use Rattle.text.specs.RoundTrips.{Octets, none, one, HexAgain, DecimalAgain}
 use Rattle.choice.proofs.Branches.{by-lt, yes!, no!, le!, nle!, nlt! }
 use Rattle.text.proofs.NumberLaws.{decimal-some}
-
--- every element is a byte
-pub data Octets : List ℕ → Type 0 where
-  none : Octets []
-  one : {b : ℕ} {bs : List ℕ} → b < 256 → Octets bs → Octets (b ∷ bs)
 
 nibble-glyph : (n : ℕ) → nibbleOf (glyphOf n) ≡ n % 16
 unfolding glyphOf nibbleOf
@@ -60,8 +55,7 @@ unfolding hexWord
 word-spelled none = spelled-dash
 word-spelled (one h o) = spelled-text (one h o)
 
--- a byte string that fits is read back as it was written
-pub hex-again : (bs : List ℕ) (room : ℕ) → Octets bs → length bs ≤ room → (hexReadOf (hexWord bs) room ≡ Bytes (length bs)) × (hexLeft (hexWord bs) room ≡ bs)
+pub hex-again : HexAgain
 unfolding hexReadOf hexLeft
 hex-again bs room o h =
     let e = word-spelled o in
@@ -104,8 +98,7 @@ some-digits (suc k) n h =
     (λ l q. let e = length-append (digitsText k (n / 10)) ((48 + n % 10) ∷ []) in absurd (omega arith))
     h
 
--- a number of at most 20 digits is read back as it was written
-pub decimal-again : (most n : ℕ) → n ≤ most → n < 10 ^ 20 → decimalOf most (decimalText n) ≡ Value n
+pub decimal-again : DecimalAgain
 unfolding digitsOn
 decimal-again most n p h =
     decimal-some most (decimalText n) (some-digits 19 n)

@@ -1,13 +1,10 @@
 -- Laws of words: for each search what it finds at a place, for a turn and for the end of its loop.
-use mathlib.Core.Path.{_≡_, refl, ap, sym}
+use mathlib.Core.Path.{_≡_, refl, sym}
 use Prim.Native.Nat.{ℕ, suc, _+_, _≤_, _<_}
 use native.Mathlib.Numerals.{add-one}
-use mathlib.Core.List.{List, [], _∷_}
-use mathlib.Core.Bool.{true, false, and-false}
+use mathlib.Core.List.{List}
 use lib.ListN.{length, getD, drop, drop-of-length-le}
 use lib.Seq.{drop-cons}
-use lib.Dec.{eqb}
-use borrow.Author.Tests.{eq-eqb, ne-eqb}
 use Rattle.text.specs.Words.{before, leading}
 use Rattle.choice.proofs.Branches.{eq!, ne! }
 

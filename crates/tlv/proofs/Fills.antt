@@ -1,9 +1,9 @@
 -- A list is read well exactly where its elements fill it, at most four levels deep. Read well, then filled: by induction on the count,
 -- element by element. Filled, then read well: by induction on the elements, with the equation that has no count.
 use Prim.Native.Nat.{ℕ, zero, suc, _+_, _-_, _≤_}
-use mathlib.Core.Path.{_≡_, refl}
+use mathlib.Core.Path.{_≡_, refl, sym}
 use mathlib.Core.List.{List}
-use mathlib.Core.Bool.{true, false}
+use mathlib.Core.Bool.{true, false, false≢true}
 use native.Mathlib.Omega.{arith}
 use lib.ListN.{length}
 use Rattle.tlv.specs.declared.HeadRead.{HeadRead}
@@ -13,8 +13,9 @@ use Rattle.tlv.specs.declared.ListRead.{ListRead}
 use Rattle.tlv.specs.declared.ListRead.the-variants as list
 use Rattle.choice.specs.Choice.{pick}
 use Rattle.tlv.specs.Tlv.{headAt}
-use Rattle.tlv.specs.Lists.{closed, elementOf, restOf, listOf, listWithin, listAt, elementAt}
+use Rattle.tlv.specs.Lists.{closed, elementOf, restOf, listOf, listWithin, listAt, elementAt, isWrong, listWrong}
 use Rattle.tlv.specs.Filled.{Level, Filled, ended, primitive, constructed}
+use Rattle.tlv.specs.Grammar.{ListFilled, FilledList, RightFilled}
 use Rattle.choice.proofs.Branches.{each-lt, each-eq, nlt!, eq!, ne! }
 use Rattle.tlv.proofs.Inside.{head-inside}
 use Rattle.tlv.proofs.Counts.{list-onward}
@@ -50,7 +51,7 @@ within-fills zero s at end level = list-of-fills s at end level list.Wrong (λ l
 within-fills (suc f) s at end level = list-of-fills s at end level _ (λ l. element-fills s at end level l _ _
     (λ next. within-fills f s next end level) (λ start stop. within-fills f s start stop (level + 1)) (headAt s at end) refl)
 
-pub list-filled : (s : List ℕ) (at end level : ℕ) → list.Filled ≡ listAt s at end level → Filled s level at end
+pub list-filled : ListFilled
 unfolding listAt
 list-filled s at end level = within-fills (end - at) s at end level
 
@@ -59,15 +60,37 @@ filled-held (ended l h) = (omega arith, h)
 filled-held {s} {level} {at} {end} (primitive {t} {start} {stop} l g r) = let i = head-inside s at end t false start stop g in (omega arith, omega arith)
 filled-held {s} {level} {at} {end} (constructed {t} {start} {stop} l g n r) = let i = head-inside s at end t true start stop g in (omega arith, omega arith)
 
-pub filled-list : {s : List ℕ} {level at end : ℕ} → Filled s level at end → list.Filled ≡ listAt s at end level
+fills : {s : List ℕ} {level at end : ℕ} → Filled s level at end → list.Filled ≡ listAt s at end level
 unfolding listOf restOf elementAt elementOf closed pick
-filled-list {s} {level} {at} {end} (ended l h) = list-onward s at at level _
+fills {s} {level} {at} {end} (ended l h) = list-onward s at at level _
     (nlt! _ (omega arith) (nlt! _ (omega arith) (nlt! _ (omega arith) (nlt! _ (omega arith) (eq! _ refl refl)))))
-filled-list {s} {level} {at} {end} (primitive {t} {start} {stop} l g r) =
+fills {s} {level} {at} {end} (primitive {t} {start} {stop} l g r) =
     let i = head-inside s at end t false start stop g in
     list-onward s at end level _ (nlt! _ (omega arith) (nlt! _ (omega arith) (nlt! _ (omega arith) (nlt! _ (omega arith) (ne! _ (omega arith)
-    (rw (← g) (filled-list r)))))))
-filled-list {s} {level} {at} {end} (constructed {t} {start} {stop} l g n r) =
+    (rw (← g) (fills r)))))))
+fills {s} {level} {at} {end} (constructed {t} {start} {stop} l g n r) =
     let i = head-inside s at end t true start stop g in
     list-onward s at end level _ (nlt! _ (omega arith) (nlt! _ (omega arith) (nlt! _ (omega arith) (nlt! _ (omega arith) (ne! _ (omega arith)
-    (rw (← g) (rw (← filled-list n) (filled-list r))))))))
+    (rw (← g) (rw (← fills n) (fills r))))))))
+
+pub filled-list : FilledList
+filled-list s at end level f = fills f
+
+right-read : (r : ListRead) → isWrong r ≡ false → list.Filled ≡ r
+right-read list.Filled e = refl
+right-read list.Wrong e = absurd (false≢true (sym e))
+
+pub right-filled : RightFilled
+unfolding listWrong
+right-filled s at end e = list-filled s at end 1 (right-read (listAt s at end 1) e)
+
+pub filled-right : {s : List ℕ} {at end : ℕ} → Filled s 1 at end → listWrong s at end ≡ false
+unfolding listWrong
+filled-right f = rw (← fills f) refl
+
+-- the two levels that a data field has
+pub first-level : Level 1
+first-level = record { outermost = omega arith; deepest = omega arith }
+
+pub second-level : Level 2
+second-level = record { outermost = omega arith; deepest = omega arith }

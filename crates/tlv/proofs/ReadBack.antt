@@ -3,29 +3,23 @@
 use Prim.Native.Nat.{ℕ, _+_, _*_, _/_, _%_, _≤_, _<_}
 use mathlib.Core.Path.{_≡_, refl, sym, ap, _∙_}
 use mathlib.Core.List.{List, [], _∷_, _++_, append-assoc}
-use mathlib.Core.Bool.{Bool}
 use native.Mathlib.Omega.{arith}
 use lib.ListN.{length}
+use borrow.Author.Tests.{lt-ltb, le-ltb}
 use Rattle.tlv.specs.declared.TagRead.the-variants as tag
 use Rattle.tlv.specs.declared.LengthRead.the-variants as len
 use Rattle.tlv.specs.declared.HeadRead.the-variants as head
-use Rattle.tlv.specs.declared.Element.the-variants as element
 use Rattle.byte_string.specs.Bytes.{byte}
 use Rattle.tlv.specs.Tlv.{isConstructed, tagAt, lengthAt, headAt, afterTag, afterLength, expectAt, expectOf}
 use Rattle.tlv.specs.Encoding.{window, encodeNumber, encodeTag, encodeLength, encodeElement}
+use Rattle.tlv.specs.Grammar.{LegalTag, one, two, marksList, ElementReadBack}
 use Rattle.choice.proofs.Branches.{each-lt, le!, nle!, lt!, nlt!, eq!, ne! }
 use Rattle.tlv.proofs.Windows.{window-starts, window-begins}
 
--- the numbers that are tags: of one byte, or of two with the low five bits of the first all ones and the second below 80
-pub data LegalTag : ℕ → Type 0 where
-  one : {t : ℕ} → t < 256 → (t % 32 ≡ 31 → ⊥) → LegalTag t
-  two : {t : ℕ} → 256 ≤ t → t / 256 % 32 ≡ 31 → t % 256 < 0x80 → LegalTag t
-
 module _ (s : List ℕ) (at end : ℕ) (ordered : at ≤ end) (held : end ≤ length s) where
   pub record TagBack (t : ℕ) (rest : List ℕ) : Type 0 where
-    pub constructed : Bool
     pub next : ℕ
-    pub read : tag.Tag t constructed next ≡ tagAt s at end
+    pub read : tag.Tag t (marksList t) next ≡ tagAt s at end
     pub past : at < next
     pub within : next ≤ end
     pub after : window s next end ≡ rest
@@ -38,10 +32,10 @@ module _ (s : List ℕ) (at end : ℕ) (ordered : at ≤ end) (held : end ≤ le
       let f = w .first in
       let g : byte s at % 32 ≡ 31 → ⊥ = λ x. i (sym (ap (λ (n : ℕ). n % 32) f) ∙ x) in
       let r = w .room in
+      let c : marksList t ≡ isConstructed (byte s at) = rw (lt-ltb t 256 h) (ap isConstructed (sym f)) in
       record {
-        constructed = isConstructed (byte s at);
         next = at + 1;
-        read = nlt! _ held (nle! _ r (ne! _ g (ap (λ (n : ℕ). tag.Tag n (isConstructed (byte s at)) (at + 1)) (sym f))));
+        read = nlt! _ held (nle! _ r (ne! _ g (rw c (ap (λ (n : ℕ). tag.Tag n (isConstructed (byte s at)) (at + 1)) (sym f)))));
         past = omega arith;
         within = omega arith;
         after = w .after;
@@ -52,11 +46,11 @@ module _ (s : List ℕ) (at end : ℕ) (ordered : at ≤ end) (held : end ≤ le
       let v = window-starts s (at + 1) end (omega arith) held (t % 256) rest (w .after) in
       let f = w .first in let g = v .first in
       let n : t ≡ byte s at * 256 + byte s (at + 1) = omega arith in
+      let c : marksList t ≡ isConstructed (byte s at) = rw (le-ltb t 256 h) (ap isConstructed (sym f)) in
       record {
-        constructed = isConstructed (byte s at);
         next = at + 1 + 1;
         read = nlt! _ held (nle! _ (omega arith) (eq! _ (ap (λ (n : ℕ). n % 32) f ∙ i) (nle! _ (v .room) (nle! _ (omega arith)
-            (ap (λ (n : ℕ). tag.Tag n (isConstructed (byte s at)) (at + 1 + 1)) n)))));
+            (rw c (ap (λ (n : ℕ). tag.Tag n (isConstructed (byte s at)) (at + 1 + 1)) n))))));
         past = omega arith;
         within = omega arith;
         after = v .after;
@@ -97,29 +91,19 @@ module _ (s : List ℕ) (at end : ℕ) (ordered : at ≤ end) (held : end ≤ le
         after = v .after;
       })
 
-  -- an element of tag t with the value v stands first, and `rest` follows
-  pub record ElementBack (t low high : ℕ) (v rest : List ℕ) : Type 0 where
-    pub start : ℕ
-    pub stop : ℕ
-    pub found : element.Found start stop ≡ expectAt s at end t low high
-    pub long : stop ≡ start + length v
-    pub within : stop ≤ end
-    pub value : window s start stop ≡ v
-    pub after : window s stop end ≡ rest
-
-pub element-back : (s : List ℕ) (at end : ℕ) (ordered : at ≤ end) (held : end ≤ length s) (t low high : ℕ) (v rest : List ℕ)
-    → LegalTag t → low ≤ length v → length v ≤ high → window s at end ≡ encodeElement t v ++ rest → ElementBack s at end ordered held t low high v rest
+pub element-back : ElementReadBack
 unfolding encodeElement headAt afterTag afterLength expectAt expectOf
 element-back s at end ordered held t low high v rest l least most q =
     let a = tag-back s at end ordered held t (encodeLength (length v) ++ (v ++ rest)) l (simp append-assoc at q) in
     let b = length-back s (a .next) end (a .within) held (length v) (v ++ rest) (a .after) in
     let w = window-begins s (b .next) end (b .within) held v rest (b .after) in
     let r = w .room in
-    let h : head.Head t (a .constructed) (b .next) (b .next + length v) ≡ headAt s at end =
+    let h : head.Head t (marksList t) (b .next) (b .next + length v) ≡ headAt s at end =
     rw (← a .read) (rw (← b .read) (le! _ r refl)) in
     record {
       start = b .next;
       stop = b .next + length v;
+      head = h;
       found = rw (← h) (eq! _ refl (nlt! _ (omega arith) (nlt! _ (omega arith) refl)));
       long = refl;
       within = r;

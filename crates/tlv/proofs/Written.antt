@@ -12,6 +12,7 @@ use Rattle.tlv.specs.declared.LengthRead.the-variants as len
 use Rattle.tlv.specs.declared.Element.the-variants as element
 use Rattle.byte_string.specs.Bytes.{byte}
 use Rattle.tlv.specs.Tlv.{tagAt, lengthAt, expectAt}
+use Rattle.tlv.specs.Grammar.{ElementWritten}
 use Rattle.tlv.specs.Encoding.{window, Bytes, encodeTag, encodeLength, encodeElement}
 use Rattle.choice.proofs.Branches.{each-le, each-lt, each-eq, lt!, nlt! }
 use Rattle.tlv.proofs.Inside.{expect-parts, expect-inside, head-parts, tag-inside, length-inside}
@@ -59,8 +60,7 @@ module _ (s : List ℕ) (at : ℕ) where
       let g : next ≡ at + 1 + 1 = cc in
       nlt! _ (omega arith) (rw g (window-two (omega arith) ∙ cc))))) (λ _. none))))
 
-pub element-written : (s : List ℕ) (at end t low high start stop : ℕ) → Bytes s → element.Found start stop ≡ expectAt s at end t low high
-    → window s at stop ≡ encodeElement t (window s start stop)
+pub element-written : ElementWritten
 unfolding encodeElement
 element-written s at end t low high start stop b q =
     let p = expect-parts s at end t low high start stop q in

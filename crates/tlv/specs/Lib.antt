@@ -3,3 +3,4 @@ pub mod Tlv
 pub mod Lists
 pub mod Filled
 pub mod Encoding
+pub mod Grammar

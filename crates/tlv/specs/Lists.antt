@@ -3,7 +3,7 @@
 -- (proofs/Counts.antt).
 use Prim.Native.Nat.{ℕ, zero, suc, _+_, _-_}
 use mathlib.Core.List.{List}
-use mathlib.Core.Bool.{Bool}
+use mathlib.Core.Bool.{Bool, true, false}
 use lib.ListN.{length}
 use Rattle.tlv.specs.declared.HeadRead.{HeadRead}
 use Rattle.tlv.specs.declared.HeadRead.the-variants as head
@@ -57,3 +57,11 @@ listAt s at end level = listWithin (end - at) s at end level
 unfoldable pub elementAt : List ℕ → ℕ → ℕ → ℕ → ElementRead
 unfolding elementOf listAt
 elementAt s at end level = elementOf (λ start stop. listAt s start stop (level + 1)) (headAt s at end)
+
+abbrev pub isWrong : ListRead → Bool
+isWrong list.Filled = false
+isWrong list.Wrong = true
+
+-- the window is no list of elements, at the outermost level
+unfoldable pub listWrong : List ℕ → ℕ → ℕ → Bool
+listWrong s at end = isWrong (listAt s at end 1)

@@ -3,7 +3,7 @@
 ghost use mathlib.Core.Path.{_≡_};
 ghost use Prim.Native.Nat.{ℕ, _≤_};
 ghost use Rattle.tlv.specs.Tlv.{tagAt, lengthAt, headAt, expectAt};
-ghost use Rattle.tlv.specs.Lists.{listAt, elementAt};
+ghost use Rattle.tlv.specs.Lists.{listAt, elementAt, listWrong};
 
 // The tag's number is its one byte, or its two bytes, high byte first; `next` is the place after it.
 pub enum TagRead {
@@ -216,4 +216,14 @@ fn read_element(s: &[u8], at: usize, end: usize, level: usize) -> ElementRead
         };
     }
     ElementRead::Next(stop)
+}
+
+// Is the window no list of elements? They have to fill it exactly, at most four levels deep.
+pub fn list_wrong(s: &[u8], at: usize, end: usize) -> bool
+    ensures { λ r. ⌜ r ≡ listWrong (now (s .entry)) at end ⌝ }
+{
+    match read_list(s, at, end, 1) {
+        ListRead::Wrong => true,
+        ListRead::Filled => false,
+    }
 }

@@ -1,3 +1,4 @@
+-- `read` meets its contract: each exit is the first row that holds.
 use Rattle.command.specs.Reading.{readOf}
 use Rattle.command.specs.Requests.{dataWrong}
 use Rattle.status.specs.Rows.{wordOf}

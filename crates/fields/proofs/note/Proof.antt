@@ -1,3 +1,4 @@
+-- `note` meets its contract: each exit names the branches that lead there.
 use Rattle.fields.specs.GetStatus.{noted}
 use Rattle.choice.proofs.Branches.{eq!, ne! }
 use mathlib.Core.Path.{refl}

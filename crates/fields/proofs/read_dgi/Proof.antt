@@ -1,3 +1,4 @@
+-- `read_dgi` meets its contract: each exit names the branches that lead there.
 use Rattle.fields.specs.StoreData.{dgiAt}
 use mir.Facts.{fits-8-64}
 use Rattle.choice.proofs.Branches.{lt!, nlt!, eq!, ne! }

@@ -1,3 +1,4 @@
+-- `read_listed` meets its contract. The loop keeps: the tags left, with those seen so far, give what the whole list gives.
 use Rattle.fields.proofs.Left.{Left, left-start, left-end, left-no-tag, left-unknown, left-next}
 use Rattle.fields.specs.GetStatus.{listedAt}
 use Rattle.tlv.proofs.Inside.{tag-inside}

@@ -1,14 +1,22 @@
+-- `read_listing` meets its contract: a list, 4F, the tags after it, and the AID's length.
 use Rattle.tlv.proofs.Inside.{expect-inside}
 use Rattle.fields.specs.GetStatus.{listingAt}
-use Rattle.choice.proofs.Branches.{lt!, nlt!, eq!, ne! }
+use Rattle.choice.proofs.Branches.{yes!, no!, lt!, nlt!, eq!, ne! }
 use mathlib.Core.Path.{refl, sym, _∙_}
 use native.Mathlib.Omega.{arith}
 use borrow.Author.Needs.{needs}
 use Rattle.fields.proofs.read_listing.Statement.{statement}
 use Rattle.fields.proofs.read_listing.Tie as tie
 
-expect-requires : tie.Need-expect-requires
-expect-requires c κs = search needs
+list-wrong-requires : tie.Need-list-wrong-requires
+list-wrong-requires c κs = search needs
+
+returns : tie.Need-returns
+unfolding listingAt
+returns c = yes! _ (sym (c .before .list-wrong .ensures) ∙ c .if1 .taken) refl
+
+next-element-requires : tie.Need-next-element-requires
+next-element-requires c κs = search needs
 
 enum-known-start : tie.Need-enum-known-start
 enum-known-start c = search needs
@@ -16,9 +24,9 @@ enum-known-start c = search needs
 enum-told : tie.Need-enum-told
 enum-told c = search needs
 
-returns : tie.Need-returns
+returns-2 : tie.Need-returns-2
 unfolding listingAt
-returns c = rw (← c .before .before .expect .ensures) (rw (c .enum-told .given .1) refl)
+returns-2 c = no! _ (sym (c .before .before .before .before .list-wrong .ensures) ∙ c .before .before .before .if1 .left) (rw (← c .before .before .next-element .ensures) (rw (c .enum-told .given .1) refl))
 
 read-tags-requires : tie.Need-read-tags-requires
 read-tags-requires c κs = search needs
@@ -29,41 +37,43 @@ enum-known-life c = search needs
 enum-told-2 : tie.Need-enum-told-2
 enum-told-2 c = search needs
 
-returns-2 : tie.Need-returns-2
+returns-3 : tie.Need-returns-3
 unfolding listingAt
-returns-2 c = rw (← c .before .before .before .before .before .before .expect .ensures) (rw (c .before .before .before .before .start .given .1) (rw (← c .before .before .read-tags .ensures) (rw (c .enum-told2 .given .1) refl)))
+returns-3 c = no! _ (sym (c .before .before .before .before .before .before .before .before .list-wrong .ensures) ∙ c .before .before .before .before .before .before .before .if1 .left) (rw (← c .before .before .before .before .before .before .next-element .ensures) (rw (c .before .before .before .before .start .given .1) (rw (← c .before .before .read-tags .ensures) (rw (c .enum-told2 .given .1) refl))))
 
 sub-len : tie.Need-sub-len
 sub-len c =
     let g = c .before .before .before .before .before .start .given in
-    let i = expect-inside _ _ _ _ _ _ (g .0 .0) (g .0 .1 .0) (sym (g .1) ∙ c .before .before .before .before .before .before .before .expect .ensures) in
+    let i = expect-inside _ _ _ _ _ _ (g .0 .0) (g .0 .1 .0) (sym (g .1) ∙ c .before .before .before .before .before .before .before .next-element .ensures) in
     omega arith
-
-returns-3 : tie.Need-returns-3
-unfolding listingAt
-returns-3 c = rw (← c .before .before .before .before .before .before .before .before .expect .ensures) (rw (c .before .before .before .before .before .before .start .given .1) (rw (← c .before .before .before .before .read-tags .ensures) (rw (c .before .before .life .given .1) (eq! _ (omega arith) refl))))
 
 returns-4 : tie.Need-returns-4
 unfolding listingAt
-returns-4 c = rw (← c .before .before .before .before .before .before .before .before .before .expect .ensures) (rw (c .before .before .before .before .before .before .before .start .given .1) (rw (← c .before .before .before .before .before .read-tags .ensures) (rw (c .before .before .before .life .given .1) (ne! _ (omega arith) (lt! _ (omega arith) refl)))))
+returns-4 c = no! _ (sym (c .before .before .before .before .before .before .before .before .before .before .list-wrong .ensures) ∙ c .before .before .before .before .before .before .before .before .before .if1 .left) (rw (← c .before .before .before .before .before .before .before .before .next-element .ensures) (rw (c .before .before .before .before .before .before .start .given .1) (rw (← c .before .before .before .before .read-tags .ensures) (rw (c .before .before .life .given .1) (eq! _ (omega arith) refl)))))
 
 returns-5 : tie.Need-returns-5
 unfolding listingAt
-returns-5 c = rw (← c .before .before .before .before .before .before .before .before .before .expect .ensures) (rw (c .before .before .before .before .before .before .before .start .given .1) (rw (← c .before .before .before .before .before .read-tags .ensures) (rw (c .before .before .before .life .given .1) (ne! _ (omega arith) (nlt! _ (omega arith) refl)))))
+returns-5 c = no! _ (sym (c .before .before .before .before .before .before .before .before .before .before .before .list-wrong .ensures) ∙ c .before .before .before .before .before .before .before .before .before .before .if1 .left) (rw (← c .before .before .before .before .before .before .before .before .before .next-element .ensures) (rw (c .before .before .before .before .before .before .before .start .given .1) (rw (← c .before .before .before .before .before .read-tags .ensures) (rw (c .before .before .before .life .given .1) (ne! _ (omega arith) (lt! _ (omega arith) refl))))))
+
+returns-6 : tie.Need-returns-6
+unfolding listingAt
+returns-6 c = no! _ (sym (c .before .before .before .before .before .before .before .before .before .before .before .list-wrong .ensures) ∙ c .before .before .before .before .before .before .before .before .before .before .if1 .left) (rw (← c .before .before .before .before .before .before .before .before .before .next-element .ensures) (rw (c .before .before .before .before .before .before .before .start .given .1) (rw (← c .before .before .before .before .before .read-tags .ensures) (rw (c .before .before .before .life .given .1) (ne! _ (omega arith) (nlt! _ (omega arith) refl))))))
 
 pub read-listing-spec : {M : Type 1} → statement M
 read-listing-spec =
     tie.close
     (tie.spec
-    expect-requires
+    list-wrong-requires
+    returns
+    next-element-requires
     enum-known-start
     enum-told
-    returns
+    returns-2
     read-tags-requires
     enum-known-life
     enum-told-2
-    returns-2
-    sub-len
     returns-3
+    sub-len
     returns-4
-    returns-5)
+    returns-5
+    returns-6)

@@ -1,6 +1,7 @@
-use Rattle.fields.proofs.Only.{alone-expected}
+-- `read_store_data` meets its contract: a DGI, its contents a list, then the element that its number asks for.
+use Rattle.reader.proofs.Alone.{alone-expected}
 use Rattle.fields.specs.StoreData.{namedBy, storeDataAt}
-use Rattle.choice.proofs.Branches.{eq!, ne! }
+use Rattle.choice.proofs.Branches.{yes!, no!, eq!, ne! }
 use mathlib.Core.Path.{refl, sym, _∙_}
 use native.Mathlib.Omega.{arith}
 use borrow.Author.Needs.{needs}
@@ -20,15 +21,22 @@ returns : tie.Need-returns
 unfolding storeDataAt namedBy
 returns c = rw (← c .before .before .read-dgi .ensures) (rw (c .enum-told .given .1) refl)
 
-read-confirmation-requires : tie.Need-read-confirmation-requires
-read-confirmation-requires c κs = search needs
+list-wrong-requires : tie.Need-list-wrong-requires
+list-wrong-requires c κs = search needs
 
 returns-2 : tie.Need-returns-2
 unfolding storeDataAt namedBy
-returns-2 c = rw (← c .before .before .before .before .before .read-dgi .ensures) (rw (c .before .before .before .dgi .given .1) (eq! _ (omega arith) (c .read-confirmation .ensures)))
+returns-2 c = rw (← c .before .before .before .before .before .read-dgi .ensures) (rw (c .before .before .before .dgi .given .1) (yes! _ (sym (c .before .list-wrong .ensures) ∙ c .if1 .taken) refl))
 
-read-alone-requires : tie.Need-read-alone-requires
-read-alone-requires c κs = search needs
+read-confirmation-requires : tie.Need-read-confirmation-requires
+read-confirmation-requires c κs = search needs
+
+returns-3 : tie.Need-returns-3
+unfolding storeDataAt namedBy
+returns-3 c = rw (← c .before .before .before .before .before .before .before .read-dgi .ensures) (rw (c .before .before .before .before .before .dgi .given .1) (no! _ (sym (c .before .before .before .list-wrong .ensures) ∙ c .before .before .if1 .left) (eq! _ (omega arith) (c .read-confirmation .ensures))))
+
+last-element-requires : tie.Need-last-element-requires
+last-element-requires c κs = search needs
 
 enum-known-start : tie.Need-enum-known-start
 enum-known-start c = search needs
@@ -36,31 +44,31 @@ enum-known-start c = search needs
 enum-told-2 : tie.Need-enum-told-2
 enum-told-2 c = search needs
 
-returns-3 : tie.Need-returns-3
+returns-4 : tie.Need-returns-4
 unfolding storeDataAt namedBy
-returns-3 c = rw (← c .before .before .before .before .before .before .before .read-dgi .ensures) (rw (c .before .before .before .before .before .dgi .given .1) (ne! _ (omega arith) (rw (← c .before .before .read-alone .ensures) (rw (c .enum-told2 .given .1) refl))))
+returns-4 c = rw (← c .before .before .before .before .before .before .before .before .before .read-dgi .ensures) (rw (c .before .before .before .before .before .before .before .dgi .given .1) (no! _ (sym (c .before .before .before .before .before .list-wrong .ensures) ∙ c .before .before .before .before .if1 .left) (ne! _ (omega arith) (rw (← c .before .before .last-element .ensures) (rw (c .enum-told2 .given .1) refl)))))
 
 sub-len : tie.Need-sub-len
 sub-len c =
     let g = c .before .start .given in
-    let e = alone-expected _ _ _ _ _ _ (g .0 .0) (g .0 .1 .0) (sym (g .1) ∙ c .before .before .before .read-alone .ensures) in
+    let e = alone-expected _ _ _ _ _ _ (g .0 .0) (g .0 .1 .0) (sym (g .1) ∙ c .before .before .before .last-element .ensures) in
     omega arith
-
-returns-4 : tie.Need-returns-4
-unfolding storeDataAt namedBy
-returns-4 c = rw (← c .before .before .before .before .before .before .before .before .before .read-dgi .ensures) (rw (c .before .before .before .before .before .before .before .dgi .given .1) (ne! _ (omega arith) (rw (← c .before .before .before .before .read-alone .ensures) (rw (c .before .before .start .given .1) (eq! _ (omega arith) refl)))))
 
 returns-5 : tie.Need-returns-5
 unfolding storeDataAt namedBy
-returns-5 c = rw (← c .before .before .before .before .before .before .before .before .before .before .read-dgi .ensures) (rw (c .before .before .before .before .before .before .before .before .dgi .given .1) (ne! _ (omega arith) (rw (← c .before .before .before .before .before .read-alone .ensures) (rw (c .before .before .before .start .given .1) (ne! _ (omega arith) (eq! _ (omega arith) refl))))))
+returns-5 c = rw (← c .before .before .before .before .before .before .before .before .before .before .before .read-dgi .ensures) (rw (c .before .before .before .before .before .before .before .before .before .dgi .given .1) (no! _ (sym (c .before .before .before .before .before .before .before .list-wrong .ensures) ∙ c .before .before .before .before .before .before .if1 .left) (ne! _ (omega arith) (rw (← c .before .before .before .before .last-element .ensures) (rw (c .before .before .start .given .1) (eq! _ (omega arith) refl))))))
 
 returns-6 : tie.Need-returns-6
 unfolding storeDataAt namedBy
-returns-6 c = rw (← c .before .before .before .before .before .before .before .before .before .before .before .read-dgi .ensures) (rw (c .before .before .before .before .before .before .before .before .before .dgi .given .1) (ne! _ (omega arith) (rw (← c .before .before .before .before .before .before .read-alone .ensures) (rw (c .before .before .before .before .start .given .1) (ne! _ (omega arith) (ne! _ (omega arith) (eq! _ (omega arith) refl)))))))
+returns-6 c = rw (← c .before .before .before .before .before .before .before .before .before .before .before .before .read-dgi .ensures) (rw (c .before .before .before .before .before .before .before .before .before .before .dgi .given .1) (no! _ (sym (c .before .before .before .before .before .before .before .before .list-wrong .ensures) ∙ c .before .before .before .before .before .before .before .if1 .left) (ne! _ (omega arith) (rw (← c .before .before .before .before .before .last-element .ensures) (rw (c .before .before .before .start .given .1) (ne! _ (omega arith) (eq! _ (omega arith) refl)))))))
 
 returns-7 : tie.Need-returns-7
 unfolding storeDataAt namedBy
-returns-7 c = rw (← c .before .before .before .before .before .before .before .before .before .before .before .read-dgi .ensures) (rw (c .before .before .before .before .before .before .before .before .before .dgi .given .1) (ne! _ (omega arith) (rw (← c .before .before .before .before .before .before .read-alone .ensures) (rw (c .before .before .before .before .start .given .1) (ne! _ (omega arith) (ne! _ (omega arith) (ne! _ (omega arith) refl)))))))
+returns-7 c = rw (← c .before .before .before .before .before .before .before .before .before .before .before .before .before .read-dgi .ensures) (rw (c .before .before .before .before .before .before .before .before .before .before .before .dgi .given .1) (no! _ (sym (c .before .before .before .before .before .before .before .before .before .list-wrong .ensures) ∙ c .before .before .before .before .before .before .before .before .if1 .left) (ne! _ (omega arith) (rw (← c .before .before .before .before .before .before .last-element .ensures) (rw (c .before .before .before .before .start .given .1) (ne! _ (omega arith) (ne! _ (omega arith) (eq! _ (omega arith) refl))))))))
+
+returns-8 : tie.Need-returns-8
+unfolding storeDataAt namedBy
+returns-8 c = rw (← c .before .before .before .before .before .before .before .before .before .before .before .before .before .read-dgi .ensures) (rw (c .before .before .before .before .before .before .before .before .before .before .before .dgi .given .1) (no! _ (sym (c .before .before .before .before .before .before .before .before .before .list-wrong .ensures) ∙ c .before .before .before .before .before .before .before .before .if1 .left) (ne! _ (omega arith) (rw (← c .before .before .before .before .before .before .last-element .ensures) (rw (c .before .before .before .before .start .given .1) (ne! _ (omega arith) (ne! _ (omega arith) (ne! _ (omega arith) refl))))))))
 
 pub read-store-data-spec : {M : Type 1} → statement M
 read-store-data-spec =
@@ -70,14 +78,16 @@ read-store-data-spec =
     enum-known-dgi
     enum-told
     returns
-    read-confirmation-requires
+    list-wrong-requires
     returns-2
-    read-alone-requires
+    read-confirmation-requires
+    returns-3
+    last-element-requires
     enum-known-start
     enum-told-2
-    returns-3
-    sub-len
     returns-4
+    sub-len
     returns-5
     returns-6
-    returns-7)
+    returns-7
+    returns-8)

@@ -1,3 +1,4 @@
+-- `read_tags` meets its contract: nothing, or 5C alone.
 use Rattle.fields.specs.GetStatus.{tagsAt}
 use Rattle.choice.proofs.Branches.{eq!, ne! }
 use mathlib.Core.Path.{refl}
@@ -10,8 +11,8 @@ returns : tie.Need-returns
 unfolding tagsAt
 returns c = eq! _ (omega arith) refl
 
-read-alone-requires : tie.Need-read-alone-requires
-read-alone-requires c κs = search needs
+last-element-requires : tie.Need-last-element-requires
+last-element-requires c κs = search needs
 
 enum-known-start : tie.Need-enum-known-start
 enum-known-start c = search needs
@@ -21,21 +22,21 @@ enum-told c = search needs
 
 returns-2 : tie.Need-returns-2
 unfolding tagsAt
-returns-2 c = ne! _ (omega arith) (rw (← c .before .before .read-alone .ensures) (rw (c .enum-told .given .1) refl))
+returns-2 c = ne! _ (omega arith) (rw (← c .before .before .last-element .ensures) (rw (c .enum-told .given .1) refl))
 
 read-listed-requires : tie.Need-read-listed-requires
 read-listed-requires c κs = search needs
 
 returns-3 : tie.Need-returns-3
 unfolding tagsAt
-returns-3 c = ne! _ (omega arith) (rw (← c .before .before .before .before .read-alone .ensures) (rw (c .before .before .start .given .1) (c .read-listed .ensures)))
+returns-3 c = ne! _ (omega arith) (rw (← c .before .before .before .before .last-element .ensures) (rw (c .before .before .start .given .1) (c .read-listed .ensures)))
 
 pub read-tags-spec : {M : Type 1} → statement M
 read-tags-spec =
     tie.close
     (tie.spec
     returns
-    read-alone-requires
+    last-element-requires
     enum-known-start
     enum-told
     returns-2

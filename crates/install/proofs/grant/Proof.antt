@@ -1,3 +1,4 @@
+-- `grant` meets its contract: each exit names the branches that lead there.
 use Rattle.install.specs.Parameters.{grantOf}
 use native.Mathlib.Omega.{arith}
 use mathlib.Core.Path.{refl}

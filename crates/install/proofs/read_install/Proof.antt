@@ -1,3 +1,4 @@
+-- `read_install` meets its contract: the names, the rights, then the quota.
 use Rattle.install.proofs.Inside.{names-inside}
 use Rattle.install.specs.Install.{installOf}
 use native.Mathlib.Omega.{arith}

@@ -1,4 +1,5 @@
-use Rattle.tlv.proofs.Inside.{expect-inside, expect-parts}
+-- `read_memory` meets its contract: by whether 83 stands alone, and its number of bytes.
+use Rattle.reader.proofs.Alone.{alone-expected}
 use Rattle.install.specs.Parameters.{memoryAt}
 use native.Mathlib.Omega.{arith}
 use mathlib.Core.Path.{refl, sym, _∙_}
@@ -7,8 +8,8 @@ use borrow.Author.Needs.{needs}
 use Rattle.install.proofs.read_memory.Statement.{statement}
 use Rattle.install.proofs.read_memory.Tie as tie
 
-expect-requires : tie.Need-expect-requires
-expect-requires c κs = search needs
+last-element-requires : tie.Need-last-element-requires
+last-element-requires c κs = search needs
 
 enum-known-start : tie.Need-enum-known-start
 enum-known-start c = search needs
@@ -18,40 +19,35 @@ enum-told c = search needs
 
 returns : tie.Need-returns
 unfolding memoryAt
-returns c = rw (← c .before .before .expect .ensures) (rw (c .enum-told .given .1) refl)
+returns c = rw (← c .before .before .last-element .ensures) (rw (c .enum-told .given .1) refl)
+
+sub-count : tie.Need-sub-count
+sub-count c = let g = c .before .start .given in let i = alone-expected _ _ _ _ _ _ (g .0 .0) (g .0 .1 .0) (sym (g .1) ∙ c .before .before .before .last-element .ensures) in omega arith
 
 returns-2 : tie.Need-returns-2
 unfolding memoryAt
-returns-2 c = rw (← c .before .before .before .before .expect .ensures) (rw (c .before .before .start .given .1) (ne! _ (omega arith) refl))
-
-sub-count : tie.Need-sub-count
-sub-count c = let g = c .before .before .start .given in let i = expect-inside _ _ _ _ _ _ (g .0 .0) (g .0 .1 .0) (sym (g .1) ∙ c .before .before .before .before .expect .ensures) in omega arith
-
-returns-3 : tie.Need-returns-3
-unfolding memoryAt
-returns-3 c = rw (← c .before .before .before .before .before .expect .ensures) (rw (c .before .before .before .start .given .1) (eq! _ (omega arith) (eq! _ (omega arith) refl)))
+returns-2 c = rw (← c .before .before .before .before .last-element .ensures) (rw (c .before .before .start .given .1) (eq! _ (omega arith) refl))
 
 read-number-requires : tie.Need-read-number-requires
-read-number-requires c κs = let g = c .before .before .before .start .given in let i = expect-parts _ _ _ _ _ _ (g .0 .0) (g .0 .1 .0) (sym (g .1) ∙ c .before .before .before .before .before .expect .ensures) in let j = i .inside in let k = i .least in omega arith
+read-number-requires c κs = let g = c .before .before .start .given in let i = alone-expected _ _ _ _ _ _ (g .0 .0) (g .0 .1 .0) (sym (g .1) ∙ c .before .before .before .before .last-element .ensures) in let j = i .inside in let k = i .least in omega arith
 
 grant-requires : tie.Need-grant-requires
 grant-requires c κs = search needs
 
-returns-4 : tie.Need-returns-4
+returns-3 : tie.Need-returns-3
 unfolding memoryAt
-returns-4 c = rw (← c .before .before .before .before .before .before .before .expect .ensures) (rw (c .before .before .before .before .before .start .given .1) (eq! _ (omega arith) (ne! _ (omega arith) (rw (c .grant .ensures) (rw (c .before .read-number .ensures) refl)))))
+returns-3 c = rw (← c .before .before .before .before .before .before .last-element .ensures) (rw (c .before .before .before .before .start .given .1) (ne! _ (omega arith) (rw (c .grant .ensures) (rw (c .before .read-number .ensures) refl))))
 
 pub read-memory-spec : {M : Type 1} → statement M
 read-memory-spec =
     tie.close
     (tie.spec
-    expect-requires
+    last-element-requires
     enum-known-start
     enum-told
     returns
-    returns-2
     sub-count
-    returns-3
+    returns-2
     read-number-requires
     grant-requires
-    returns-4)
+    returns-3)

@@ -1,3 +1,4 @@
+-- `read_names` meets its contract: field by field.
 use Rattle.install.specs.Install.{namesAt}
 use mathlib.Core.Path.{refl}
 use borrow.Author.Needs.{needs}

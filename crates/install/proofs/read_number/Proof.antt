@@ -1,3 +1,4 @@
+-- `read_number` meets its contract: by the number of bytes.
 use Rattle.install.specs.Parameters.{numberAt}
 use native.Mathlib.Omega.{arith}
 use mathlib.Core.Path.{refl}

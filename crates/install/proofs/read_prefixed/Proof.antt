@@ -1,3 +1,4 @@
+-- `read_prefixed` meets its contract: by the length, the room for it and its bounds.
 use Rattle.tlv.proofs.Inside.{length-inside}
 use Rattle.install.specs.Install.{prefixedAt}
 use native.Mathlib.Omega.{arith}

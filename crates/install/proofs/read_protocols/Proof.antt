@@ -1,3 +1,4 @@
+-- `read_protocols` meets its contract. The loop keeps: what is left gives what the whole window gives.
 use Rattle.install.proofs.Listing.{Left, left-start, left-end, left-wrong, left-next}
 use Rattle.install.specs.Parameters.{protocolsAt}
 use Rattle.tlv.proofs.Inside.{expect-inside}
@@ -17,8 +18,8 @@ abbrev μ-loop : tie.MeasureT-loop
 loop-holds : tie.Need-loop-holds Inv-loop μ-loop
 loop-holds c = left-start _ _ _
 
-expect-requires : tie.Need-expect-requires Inv-loop μ-loop
-expect-requires c κs = search needs
+next-element-requires : tie.Need-next-element-requires Inv-loop μ-loop
+next-element-requires c κs = search needs
 
 enum-known-stop : tie.Need-enum-known-stop Inv-loop μ-loop
 enum-known-stop c = search needs
@@ -27,13 +28,13 @@ enum-told : tie.Need-enum-told Inv-loop μ-loop
 enum-told c = search needs
 
 returns : tie.Need-returns Inv-loop μ-loop
-returns c = left-wrong _ _ _ _ (omega arith) (sym (c .enum-told .given .1) ∙ c .before .before .expect .ensures) (c .before .before .before .before .loop .inv)
+returns c = left-wrong _ _ _ _ (omega arith) (sym (c .enum-told .given .1) ∙ c .before .before .next-element .ensures) (c .before .before .before .before .loop .inv)
 
 loop-less : tie.Need-loop-less Inv-loop μ-loop
-loop-less c = let g = c .before .stop .given in let e = sym (g .1) ∙ c .before .before .before .expect .ensures in let i = expect-inside _ _ _ _ _ _ (g .0 .0) (g .0 .1 .0) e in omega arith
+loop-less c = let g = c .before .stop .given in let e = sym (g .1) ∙ c .before .before .before .next-element .ensures in let i = expect-inside _ _ _ _ _ _ (g .0 .0) (g .0 .1 .0) e in omega arith
 
 loop-again : tie.Need-loop-again Inv-loop μ-loop
-loop-again c = let g = c .before .stop .given in let e = sym (g .1) ∙ c .before .before .before .expect .ensures in let i = expect-inside _ _ _ _ _ _ (g .0 .0) (g .0 .1 .0) e in left-next _ _ _ _ (g .0 .0) (g .0 .1 .0) (omega arith) e (omega arith) (c .before .before .before .before .before .loop .inv)
+loop-again c = let g = c .before .stop .given in let e = sym (g .1) ∙ c .before .before .before .next-element .ensures in let i = expect-inside _ _ _ _ _ _ (g .0 .0) (g .0 .1 .0) e in left-next _ _ _ _ (g .0 .0) (g .0 .1 .0) (omega arith) e (omega arith) (c .before .before .before .before .before .loop .inv)
 
 returns-2 : tie.Need-returns-2 Inv-loop μ-loop
 returns-2 c = left-end _ _ _ _ (omega arith) (c .before .loop .inv)
@@ -45,7 +46,7 @@ read-protocols-spec =
     Inv-loop
     μ-loop
     loop-holds
-    expect-requires
+    next-element-requires
     enum-known-stop
     enum-told
     returns

@@ -1,3 +1,4 @@
+-- `read_rights` meets its contract: field by field.
 use Rattle.install.proofs.Inside.{prefixed-inside}
 use Rattle.install.specs.Install.{rightsAt}
 use native.Mathlib.Omega.{arith}

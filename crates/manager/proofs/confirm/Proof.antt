@@ -11,18 +11,24 @@ use Rattle.manager.proofs.confirm.Tie as tie
 
 returns : tie.Need-returns
 unfolding wordOf
-returns c = let e = sym (c .before .before .is-quiet .ensures) ∙ c .before .if1 .taken in
+returns c =
+    let e = sym (c .before .before .is-quiet .ensures) ∙ c .before .if1 .taken in
     (record { answer = rw e (c .refused .ensures); content = rw e (sym (put-none _ 0)) }, rw (c .refused .ensures) (omega arith))
 
 returns-2 : tie.Need-returns-2
 unfolding wordOf
-returns-2 c = let e = sym (c .before .before .before .before .is-quiet .ensures) ∙ c .before .before .before .if1 .left in
+returns-2 c =
+    let e = sym (c .before .before .before .before .is-quiet .ensures) ∙ c .before .before .before .if1 .left in
     let f = sym (c .before .before .is-outstanding .ensures) ∙ not-true _ (c .before .if2 .taken) in
     (record { answer = rw (e, f) (c .refused2 .ensures); content = rw (e, f) (sym (put-none _ 0)) }, rw (c .refused2 .ensures) (omega arith))
 
+abbrev closing : tie.After-answer → tie.After-confirmed
+closing c = c .before .before .before .before .before .before
+
 returns-3 : tie.Need-returns-3
 unfolding wordOf
-returns-3 c = let t = c .before .before .before .before .before .before in
+returns-3 c =
+    let t = closing c in
     let q = t .before in
     let e = sym (q .before .before .before .is-quiet .ensures) ∙ q .before .before .if1 .left in
     let f = sym (q .before .is-outstanding .ensures) ∙ not-false _ (q .if2 .left) in

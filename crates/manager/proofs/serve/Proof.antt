@@ -57,7 +57,9 @@ returns-8 : tie.Need-returns-8
 returns-8 c = rw (c .before .before .before .before .before .request8 .given .1) (c .before .before .status-of-all .ensures)
 
 returns-9 : tie.Need-returns-9
-returns-9 c = rw (c .before .before .before .before .before .before .request9 .given .1, ← (c .before .before .before .before .part-of7 .ensures)) (c .before .before .status-of-one .ensures)
+returns-9 c =
+    let x = c .before .before .before .before in
+    rw (x .before .before .request9 .given .1, ← (x .part-of7 .ensures)) (c .before .before .status-of-one .ensures)
 
 returns-10 : tie.Need-returns-10
 returns-10 c = rw (c .before .before .before .before .enum-told .given .1) (c .before .before .get-data .ensures)

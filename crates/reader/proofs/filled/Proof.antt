@@ -1,3 +1,4 @@
+-- `filled` meets its contract: by whether the list has ended.
 use Rattle.choice.proofs.Branches.{yes!, no! }
 use mathlib.Core.Path.{refl}
 use Rattle.reader.proofs.filled.Statement.{statement}

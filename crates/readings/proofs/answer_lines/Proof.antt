@@ -1,3 +1,4 @@
+-- `answer_lines` is safe and ends: each turn goes past a line.
 use mathlib.Core.Path.{_≡_}
 use Prim.Native.Nat.{_-_}
 use lib.ListN.{length}

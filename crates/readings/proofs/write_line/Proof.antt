@@ -1,3 +1,4 @@
+-- `write_line` is safe: what is cut out lies in its buffer.
 use mathlib.Core.Path.{sym}
 use lib.Seq.{length-take-le}
 use borrow.Author.Needs.{needs}

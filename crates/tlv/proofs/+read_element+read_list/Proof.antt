@@ -1,3 +1,4 @@
+-- `read_list` and `read_element` meet their contracts together: by induction on the bytes left, which fall with each element and each inner list.
 use Rattle.tlv.proofs.Counts.{list-onward}
 use Rattle.tlv.proofs.Inside.{head-inside, element-inside}
 use Rattle.tlv.specs.Lists.{listOf, restOf, elementAt}

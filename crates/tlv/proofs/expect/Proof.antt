@@ -1,3 +1,4 @@
+-- `expect` meets its contract: by what the head is, and the three tests in order.
 use Rattle.tlv.proofs.Inside.{head-inside}
 use Rattle.tlv.specs.Tlv.{expectAt}
 use Rattle.choice.proofs.Branches.{lt!, nlt!, eq!, ne! }

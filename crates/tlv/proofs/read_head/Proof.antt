@@ -1,3 +1,4 @@
+-- `read_head` meets its contract: by the tag, then the length, then the room for the value.
 use Rattle.tlv.proofs.Inside.{length-inside}
 use Rattle.tlv.specs.Tlv.{headAt}
 use Rattle.choice.proofs.Branches.{le!, nle! }

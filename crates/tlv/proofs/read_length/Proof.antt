@@ -1,3 +1,4 @@
+-- `read_length` meets its contract: each exit names the branches that lead there.
 use Rattle.tlv.specs.Tlv.{lengthAt}
 use mir.Facts.{fits-8-64}
 use Rattle.choice.proofs.Branches.{le!, nle!, lt!, nlt!, eq!, ne! }

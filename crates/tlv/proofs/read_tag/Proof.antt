@@ -1,3 +1,4 @@
+-- `read_tag` meets its contract: each exit names the branches that lead there.
 use Rattle.tlv.specs.Tlv.{tagAt}
 use mir.Facts.{fits-8-16}
 use Rattle.choice.proofs.Branches.{le!, nle!, lt!, nlt!, eq!, ne! }

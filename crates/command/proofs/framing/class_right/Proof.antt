@@ -1,3 +1,4 @@
+-- `class_right` meets its contract by its definition.
 use mathlib.Core.Path.{refl}
 use Rattle.command.specs.Framing.{classRight}
 use Rattle.command.proofs.framing.class_right.Statement.{statement}

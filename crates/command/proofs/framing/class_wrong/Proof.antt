@@ -1,3 +1,4 @@
+-- `class_wrong` meets its contract, by what the class test ensures.
 use borrow.Author.Needs.{needs}
 use mathlib.Core.Path.{refl}
 use Rattle.command.specs.Framing.{classWrong}

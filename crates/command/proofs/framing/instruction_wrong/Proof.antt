@@ -1,3 +1,4 @@
+-- `instruction_wrong` meets its contract, by what its byte is.
 use borrow.Author.Needs.{needs}
 use mathlib.Core.Path.{refl}
 use Rattle.command.specs.Framing.{instructionWrong}

@@ -1,3 +1,4 @@
+-- `length_wrong` meets its contract by its definition.
 use mathlib.Core.Path.{refl}
 use Rattle.command.specs.Framing.{lengthWrong}
 use Rattle.command.proofs.framing.length_wrong.Statement.{statement}

@@ -1,3 +1,4 @@
+-- `parameters_right` meets its contract by its definition.
 use mathlib.Core.Path.{refl}
 use Rattle.command.specs.Framing.{parametersRight}
 use Rattle.command.proofs.framing.parameters_right.Statement.{statement}

@@ -1,3 +1,4 @@
+-- `shape_wrong` meets its contract, by what its bytes are.
 use borrow.Author.Needs.{needs}
 use mathlib.Core.Path.{refl}
 use Rattle.command.specs.Framing.{shapeWrong, shapeRight}

@@ -1,7 +1,7 @@
 use borrow.Author.Tests.{eq-eqb, ne-eqb}
 use borrow.Author.Needs.{needs}
-use Rattle.card.proofs.next.Statement.{statement}
-use Rattle.card.proofs.next.Tie as tie
+use Rattle.card.proofs.clock.next.Statement.{statement}
+use Rattle.card.proofs.clock.next.Tie as tie
 
 add-result : tie.Need-add-result
 add-result c = search needs

@@ -4,8 +4,10 @@ use Prim.Native.Nat.{ℕ, _+_, _≤_}
 use mathlib.Core.List.{List}
 use lib.ListN.{length}
 use Rattle.byte_string.specs.declared.Part.{Part}
-use Rattle.command.specs.declared.request.Request.{Request}
-use Rattle.command.specs.declared.request.Request.the-variants as request
+use Rattle.fields.specs.declared.request.Request.{Request}
+use Rattle.fields.specs.declared.request.Request.the-variants as request
+use Rattle.fields.specs.declared.request.Field.{Field}
+use Rattle.fields.specs.declared.request.Field.the-variants as field
 
 pub record Placed (s : List ℕ) (aid : Part) : Type 0 where
   pub held : aid .start + aid .len ≤ length s
@@ -27,3 +29,7 @@ RequestIn s capacity (request.Confirm number) = Unit
 RequestIn s capacity (request.GetStatusOfAll life fallBack) = Unit
 RequestIn s capacity (request.GetStatusOfOne aid life fallBack) = Placed s aid
 RequestIn s capacity request.GetData = Unit
+
+abbrev pub FieldIn : List ℕ → ℕ → Field → Type 0
+FieldIn s capacity field.Wrong = Unit
+FieldIn s capacity (field.Found r) = RequestIn s capacity r

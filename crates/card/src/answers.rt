@@ -1,0 +1,61 @@
+// Document 01, 'Status words': what every call answers, refused or accepted.
+// The ticks are figured by the phase, so all but the refusal 6F 00 are for a card known to be sound.
+use crate::Answer;
+use crate::Card;
+use crate::Notification;
+use crate::Step;
+use status::Status;
+ghost use mathlib.Core.Path.{_≡_};
+ghost use lib.ListN.{length};
+ghost use Rattle.card.specs.Ticks.{ticksByPhase};
+ghost use Rattle.card.specs.Answers.{handed, refusedAt, answerAt};
+ghost use Rattle.status.specs.declared.Status.the-variants.{Unsound};
+
+impl Card {
+    // A refusal of a card known to be sound: the card as it was, and its ticks.
+    pub fn refused(self, status: Status) -> Answer
+        ensures { λ r. ⌜ r ≡ handed (refusedAt (ticksByPhase self) self status) ⌝ }
+    {
+        let notification = Notification::silent();
+        let ticks = self.ticks_to_come();
+        Answer {
+            status,
+            card: self,
+            length: 0,
+            notification,
+            ticks,
+        }
+    }
+
+    // The refusal of a card that is not sound.
+    pub fn unsound(self) -> Answer
+        ensures { λ r. ⌜ r ≡ handed (refusedAt 0 self Unsound) ⌝ }
+    {
+        let notification = Notification::silent();
+        Answer {
+            status: Status::Unsound,
+            card: self,
+            length: 0,
+            notification,
+            ticks: 0,
+        }
+    }
+}
+
+impl Step {
+    // The answer of an accepted call with its word of success and so many response bytes.
+    pub fn answer(self, word: Status, length: usize) -> Answer
+        ensures { λ r. ⌜ r ≡ answerAt (ticksByPhase (self .card)) word self length ⌝ }
+    {
+        let card = self.card;
+        let notification = self.notification;
+        let ticks = card.ticks_to_come();
+        Answer {
+            status: word,
+            card,
+            length,
+            notification,
+            ticks,
+        }
+    }
+}

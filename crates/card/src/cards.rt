@@ -1,0 +1,162 @@
+// Document 01, 'The card': what is asked of a card, the whole record spelled once, and its writes by name.
+// A place's number past the last place reads as a place that is not held, and nothing is written there.
+use crate::Card;
+use crate::Phase;
+use isdp::Isdp;
+use places::Found;
+ghost use mathlib.Core.Path.{_≡_};
+ghost use lib.ListN.{set};
+ghost use Rattle.card.specs.Cards.{isQuiet, placeOf, enabledPlace, freePlace, freeIn, mayBeDeleted, cardWith, withPhase, withPlaces, filled, cleared, rewritten, withFallback};
+ghost use Rattle.places.specs.Places.{at, foundOf};
+
+impl Phase {
+    // Is no change open?
+    pub fn is_quiet(self) -> bool
+        ensures { λ r. ⌜ r ≡ isQuiet self ⌝ }
+    {
+        match self {
+            Phase::Quiet => true,
+            Phase::Trial { .. } => false,
+            Phase::Back { .. } => false,
+            Phase::Fallen { .. } => false,
+        }
+    }
+}
+
+impl Card {
+    // The place that bears an AID.
+    pub fn place_of(self, aid: &[u8]) -> Found
+        ensures { λ r. ⌜ r ≡ foundOf (placeOf self (now (aid .entry))) ⌝ }
+    {
+        let places = self.places;
+        places::find(places, aid)
+    }
+
+    // The enabled place.
+    pub fn enabled(self) -> Found
+        ensures { λ r. ⌜ r ≡ foundOf (enabledPlace self) ⌝ }
+    {
+        let places = self.places;
+        places::enabled(places)
+    }
+
+    // The number of the enabled place, of places if there is none.
+    pub fn enabled_place(self) -> u8
+        ensures { λ r. ⌜ r ≡ enabledPlace self ⌝ }
+    {
+        let Found::At(e) = self.enabled() else {
+            return Card::PLACES as u8;
+        };
+        e
+    }
+
+    // The lowest free place.
+    pub fn free_place(self) -> Found
+        ensures { λ r. ⌜ r ≡ foundOf (freePlace self) ⌝ }
+    {
+        let places = self.places;
+        places::free_place(places)
+    }
+
+    // The memory that no quota holds.
+    pub fn free(self) -> u32
+        ensures { λ r. ⌜ r ≡ freeIn self ⌝ }
+    {
+        let places = self.places;
+        places::free(places, self.capacity)
+    }
+
+    // The profile at a place; one that is not held past the last.
+    pub fn profile(self, i: u8) -> Isdp
+        ensures { λ r. ⌜ r ≡ at (self .places) i ⌝ }
+    {
+        let places = self.places;
+        places::at(places, i)
+    }
+
+    // May the profile at a place be deleted, its policy apart?
+    pub fn may_be_deleted(self, i: u8) -> bool
+        ensures { λ r. ⌜ r ≡ mayBeDeleted self i ⌝ }
+    {
+        let p = self.profile(i);
+        (p.life == Isdp::DISABLED) & (i != self.fallback)
+    }
+
+    // The whole record, spelled once.
+    pub fn with(
+        eid: [u8; 16],
+        capacity: u32,
+        volatile: u32,
+        last: u16,
+        fallback: u8,
+        phase: Phase,
+        places: [Isdp; Card::PLACES],
+    ) -> Card
+        ensures { λ r. ⌜ r ≡ cardWith eid capacity volatile last fallback phase places ⌝ }
+    {
+        Card {
+            capacity,
+            volatile,
+            places,
+            phase,
+            last,
+            fallback,
+            eid,
+        }
+    }
+
+    pub(crate) fn with_phase(self, phase: Phase) -> Card
+        ensures { λ r. ⌜ r ≡ withPhase self phase ⌝ }
+    {
+        let eid = self.eid;
+        let places = self.places;
+        Card::with(
+            eid,
+            self.capacity,
+            self.volatile,
+            self.last,
+            self.fallback,
+            phase,
+            places,
+        )
+    }
+
+    fn with_place(self, i: u8, p: Isdp) -> Card
+        ensures { λ r. ⌜ r ≡ withPlaces self (set (self .places) i p) ⌝ }
+    {
+        let before = self.places;
+        let places = places::put(before, i, p);
+        let mut after = self;
+        after.places = places;
+        after
+    }
+
+    // A free place filled with a new profile.
+    pub fn filled(self, i: u8, p: Isdp) -> Card
+        ensures { λ r. ⌜ r ≡ filled self i p ⌝ }
+    {
+        self.with_place(i, p)
+    }
+
+    // A place cleared: the deletion.
+    pub fn cleared(self, i: u8) -> Card
+        ensures { λ r. ⌜ r ≡ cleared self i ⌝ }
+    {
+        self.with_place(i, Isdp::none())
+    }
+
+    // A profile rewritten where it stands, with its AID and its quota.
+    pub fn rewritten(self, i: u8, p: Isdp) -> Card
+        ensures { λ r. ⌜ r ≡ rewritten self i p ⌝ }
+    {
+        self.with_place(i, p)
+    }
+
+    pub fn with_fallback(self, i: u8) -> Card
+        ensures { λ r. ⌜ r ≡ withFallback self i ⌝ }
+    {
+        let mut after = self;
+        after.fallback = i;
+        after
+    }
+}

@@ -1,0 +1,67 @@
+// Document 01, 'The card': is a card sound?
+// Four groups of clauses, as in the definition; a new clause goes into one of them.
+use crate::Card;
+use crate::Phase;
+use isdp::Isdp;
+ghost use mathlib.Core.Path.{_≡_};
+ghost use Rattle.card.specs.Sound.{sizesOk, placesOk, rolesOk, openOk, phaseOk, sound};
+
+fn open_ok(left: u8, number: u16, last: u16) -> bool
+    ensures { λ r. ⌜ r ≡ openOk left number last ⌝ }
+{
+    (1 <= left) & ((left <= Card::WAIT) & (number == last))
+}
+
+impl Card {
+    // The other sizes hold of every record by its types.
+    fn sizes_ok(self) -> bool
+        ensures { λ r. ⌜ r ≡ sizesOk self ⌝ }
+    {
+        (1 <= self.capacity) & (self.capacity <= Card::CAPACITY)
+    }
+
+    fn places_ok(self) -> bool
+        ensures { λ r. ⌜ r ≡ placesOk self ⌝ }
+    {
+        let places = self.places;
+        places::all_ok(places, self.capacity)
+            & (places::all_distinct(places) & places::within(places, self.capacity))
+    }
+
+    fn roles_ok(self) -> bool
+        ensures { λ r. ⌜ r ≡ rolesOk self ⌝ }
+    {
+        let places = self.places;
+        let p = self.profile(self.fallback);
+        (places::count_enabled(places) == 1)
+            & ((p.life == Isdp::DISABLED) | (p.life == Isdp::ENABLED))
+    }
+
+    fn phase_ok(self) -> bool
+        ensures { λ r. ⌜ r ≡ phaseOk self ⌝ }
+    {
+        let phase = self.phase;
+        match phase {
+            Phase::Quiet => true,
+            Phase::Trial {
+                previous,
+                left,
+                number,
+            } => {
+                let p = self.profile(previous);
+                open_ok(left, number, self.last) & (p.life == Isdp::DISABLED)
+            }
+            Phase::Back { left, number } => open_ok(left, number, self.last),
+            Phase::Fallen { left, number } => {
+                let p = self.profile(self.fallback);
+                open_ok(left, number, self.last) & (p.life == Isdp::ENABLED)
+            }
+        }
+    }
+
+    pub fn is_sound(self) -> bool
+        ensures { λ r. ⌜ r ≡ sound self ⌝ }
+    {
+        self.sizes_ok() & (self.places_ok() & (self.roles_ok() & self.phase_ok()))
+    }
+}
