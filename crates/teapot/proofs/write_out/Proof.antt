@@ -1,3 +1,4 @@
+-- `teapot::write_out`: the part written lies in the buffer.
 use mathlib.Core.Path.{sym}
 use Prim.Native.Nat.{_≤_}
 use denote.Ref.{now}

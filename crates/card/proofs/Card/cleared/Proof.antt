@@ -1,3 +1,4 @@
+-- `Card::cleared`: the place set is the vacant one.
 use borrow.Author.Needs.{needs}
 use Rattle.card.proofs.Card.cleared.Statement.{statement}
 use Rattle.card.proofs.Card.cleared.Tie as tie

@@ -1,3 +1,4 @@
+-- `Card::confirmed`: the phase names the arm of the confirmation.
 use Rattle.card.specs.Clock.{confirmOf}
 use Rattle.card.specs.Steps.{confirmStep}
 use borrow.Author.Needs.{needs}

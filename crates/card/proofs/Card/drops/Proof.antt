@@ -1,3 +1,4 @@
+-- `Card::drops`: the promises of the profile and of its policy's rule, put together.
 use borrow.Author.Needs.{needs}
 use Rattle.card.proofs.Card.drops.Statement.{statement}
 use Rattle.card.proofs.Card.drops.Tie as tie

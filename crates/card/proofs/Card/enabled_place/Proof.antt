@@ -1,3 +1,4 @@
+-- `Card::enabled_place`: what the search found is its number; where it found nothing, that is the number of places.
 use mathlib.Core.Path.{sym, _∙_}
 use native.Mathlib.Omega.{arith}
 use Rattle.isdp.specs.LifeCycle.{isEnabled}

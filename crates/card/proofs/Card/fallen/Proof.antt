@@ -1,3 +1,4 @@
+-- `Card::fallen`: the promises of the next number and of the move, put together.
 use borrow.Author.Needs.{needs}
 use Rattle.card.proofs.Card.fallen.Statement.{statement}
 use Rattle.card.proofs.Card.fallen.Tie as tie

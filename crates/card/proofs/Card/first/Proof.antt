@@ -1,3 +1,4 @@
+-- `Card::first`: the promises of its parts, put together; an EID of sixteen bytes is padded by nothing.
 use Rattle.isdp.proofs.Bytes.{pad-whole}
 use borrow.Author.Needs.{needs}
 use Rattle.card.proofs.Card.first.Statement.{statement}

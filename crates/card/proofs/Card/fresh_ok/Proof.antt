@@ -1,3 +1,4 @@
+-- `Card::fresh_ok`: the AID's test is the one promise used; the rest are the definition's own tests.
 use borrow.Author.Needs.{needs}
 use Rattle.card.proofs.Card.fresh_ok.Statement.{statement}
 use Rattle.card.proofs.Card.fresh_ok.Tie as tie

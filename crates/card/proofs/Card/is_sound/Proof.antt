@@ -1,3 +1,4 @@
+-- `Card::is_sound`: the four groups by their promises, in the definition's order.
 use Rattle.card.specs.Sound.{sound}
 use borrow.Author.Needs.{needs}
 use Rattle.card.proofs.Card.is_sound.Statement.{statement}

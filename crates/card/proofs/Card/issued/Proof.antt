@@ -1,3 +1,4 @@
+-- `Card::issued`: the promises of its parts, put together.
 use borrow.Author.Needs.{needs}
 use Rattle.card.proofs.Card.issued.Statement.{statement}
 use Rattle.card.proofs.Card.issued.Tie as tie

@@ -1,3 +1,4 @@
+-- `Card::lost`: the card after the network was lost, made a step.
 use Rattle.card.specs.Steps.{lostStep}
 use borrow.Author.Needs.{needs}
 use Rattle.card.proofs.Card.lost.Statement.{statement}

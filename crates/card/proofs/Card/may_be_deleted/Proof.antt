@@ -1,3 +1,4 @@
+-- `Card::may_be_deleted`: the profile's promise; the tests are the definition's own.
 use borrow.Author.Needs.{needs}
 use Rattle.card.proofs.Card.may_be_deleted.Statement.{statement}
 use Rattle.card.proofs.Card.may_be_deleted.Tie as tie

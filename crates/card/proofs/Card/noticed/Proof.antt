@@ -1,3 +1,4 @@
+-- `Card::noticed`: the one test decides, in code and definition alike.
 use Rattle.card.specs.Notifications.{noticeSince}
 use borrow.Author.Tests.{eq-eqb, ne-eqb}
 use borrow.Author.Needs.{needs}

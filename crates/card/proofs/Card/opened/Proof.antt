@@ -1,3 +1,4 @@
+-- `Card::opened`: the promises of its parts, put together.
 use borrow.Author.Needs.{needs}
 use Rattle.card.proofs.Card.opened.Statement.{statement}
 use Rattle.card.proofs.Card.opened.Tie as tie

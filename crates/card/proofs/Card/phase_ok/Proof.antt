@@ -1,3 +1,4 @@
+-- `Card::phase_ok`: the phase names the arm of the definition.
 use Rattle.card.specs.Sound.{phaseOk}
 use borrow.Author.Needs.{needs}
 use Rattle.card.proofs.Card.phase_ok.Statement.{statement}

@@ -1,3 +1,4 @@
+-- `Card::places_ok`: the three clauses by their promises.
 use borrow.Author.Needs.{needs}
 use Rattle.card.proofs.Card.places_ok.Statement.{statement}
 use Rattle.card.proofs.Card.places_ok.Tie as tie

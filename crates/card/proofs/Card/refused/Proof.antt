@@ -1,3 +1,4 @@
+-- `Card::refused`: the promises of its parts, put together.
 use borrow.Author.Needs.{needs}
 use Rattle.card.proofs.Card.refused.Statement.{statement}
 use Rattle.card.proofs.Card.refused.Tie as tie

@@ -1,3 +1,4 @@
+-- `Card::roles_ok`: the two clauses by their promises.
 use borrow.Author.Needs.{needs}
 use Rattle.card.proofs.Card.roles_ok.Statement.{statement}
 use Rattle.card.proofs.Card.roles_ok.Tie as tie

@@ -1,3 +1,4 @@
+-- `Card::step_since`: the notification's promise is the only one used.
 use borrow.Author.Needs.{needs}
 use Rattle.card.proofs.Card.step_since.Statement.{statement}
 use Rattle.card.proofs.Card.step_since.Tie as tie

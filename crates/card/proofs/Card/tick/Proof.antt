@@ -1,3 +1,4 @@
+-- `Card::tick`: the card after a tick, made a step.
 use Rattle.card.specs.Steps.{tickStep}
 use borrow.Author.Needs.{needs}
 use Rattle.card.proofs.Card.tick.Statement.{statement}

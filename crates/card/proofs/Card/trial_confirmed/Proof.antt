@@ -1,3 +1,4 @@
+-- `Card::trial_confirmed`: whether the previous profile goes is the definition's test; each exit names its side.
 use mathlib.Core.Path.{sym, _∙_}
 use borrow.Author.Needs.{needs}
 use Rattle.card.proofs.Card.trial_confirmed.Statement.{statement}

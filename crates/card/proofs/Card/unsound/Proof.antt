@@ -1,3 +1,4 @@
+-- `Card::unsound`: the promise of no notification is the only one used.
 use borrow.Author.Needs.{needs}
 use Rattle.card.proofs.Card.unsound.Statement.{statement}
 use Rattle.card.proofs.Card.unsound.Tie as tie

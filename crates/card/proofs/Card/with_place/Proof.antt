@@ -1,3 +1,4 @@
+-- `Card::with_place`: the places written by their own promise.
 use borrow.Author.Needs.{needs}
 use Rattle.card.proofs.Card.with_place.Statement.{statement}
 use Rattle.card.proofs.Card.with_place.Tie as tie

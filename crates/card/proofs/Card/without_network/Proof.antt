@@ -1,3 +1,4 @@
+-- `Card::without_network`: each exit names the tests of the lost rule that lead there.
 use mathlib.Core.Path.{ap, sym, _∙_}
 use Rattle.isdp.specs.declared.Isdp.{Isdp}
 use borrow.Author.Tests.{eq-eqb, ne-eqb, not-true, not-false}

@@ -1,3 +1,4 @@
+-- `Card::zero`: the promises of its parts, put together.
 use borrow.Author.Needs.{needs}
 use Rattle.card.proofs.Card.zero.Statement.{statement}
 use Rattle.card.proofs.Card.zero.Tie as tie

@@ -1,3 +1,4 @@
+-- `Notification::silent`: the promise of no AID is the only one used.
 use borrow.Author.Needs.{needs}
 use Rattle.card.proofs.Notification.silent.Statement.{statement}
 use Rattle.card.proofs.Notification.silent.Tie as tie

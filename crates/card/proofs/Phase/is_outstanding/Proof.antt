@@ -1,3 +1,4 @@
+-- `Phase::is_outstanding`: each phase compares with its own number.
 use borrow.Author.Needs.{needs}
 use Rattle.card.proofs.Phase.is_outstanding.Statement.{statement}
 use Rattle.card.proofs.Phase.is_outstanding.Tie as tie

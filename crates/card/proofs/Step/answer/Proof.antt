@@ -1,3 +1,4 @@
+-- `Step::answer`: the ticks' promise is the only one used.
 use borrow.Author.Needs.{needs}
 use Rattle.card.proofs.Step.answer.Statement.{statement}
 use Rattle.card.proofs.Step.answer.Tie as tie

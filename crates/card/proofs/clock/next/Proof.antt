@@ -1,3 +1,4 @@
+-- `next`: the one test decides, in code and definition alike.
 use borrow.Author.Tests.{eq-eqb, ne-eqb}
 use borrow.Author.Needs.{needs}
 use Rattle.card.proofs.clock.next.Statement.{statement}

@@ -1,3 +1,4 @@
+-- `Turn::first`: the record of zeros by its promise.
 use borrow.Author.Needs.{needs}
 use Rattle.session.proofs.Turn.first.Statement.{statement}
 use Rattle.session.proofs.Turn.first.Tie as tie
