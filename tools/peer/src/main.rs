@@ -43,31 +43,41 @@ fn input(file: &str) -> io::Result<Box<dyn Read>> {
     })
 }
 
-/// Hands back whether every line could be read; at the first that could not the run stops.
+/// A line that cannot be read stops its own script and no other; a file that cannot be opened is told and passed over.
+/// Hands back whether every line could be read; where all could, a file that could not be opened is the error.
 fn play(arguments: &[&str]) -> io::Result<bool> {
     let mut options = Options::default();
     let mut named = false;
+    let mut all_read = true;
+    let mut unopened = false;
     for argument in arguments {
         match *argument {
             "explain" => options.explained = true,
             "ask" => options.asks = true,
             file => {
                 named = true;
-                if !play_one(file, options)? {
-                    return Ok(false);
+                match input(file) {
+                    Ok(input) => all_read &= play_one(input, options)?,
+                    Err(error) => {
+                        eprintln!("{file}: {error}");
+                        unopened = true;
+                    }
                 }
             }
         }
     }
-    if named {
-        return Ok(true);
+    if !named {
+        return play_one(input("-")?, options);
     }
-    play_one("-", options)
+    if unopened && all_read {
+        return Err(io::Error::new(ErrorKind::NotFound, "not every script could be opened"));
+    }
+    Ok(all_read)
 }
 
-fn play_one(file: &str, options: Options) -> io::Result<bool> {
+fn play_one(input: impl Read, options: Options) -> io::Result<bool> {
     let mut script = Script::new(options);
-    each_line(input(file)?, |line, out| script.line(line, out))
+    each_line(input, |line, out| script.line(line, out))
 }
 
 fn readings(capacity: &str, file: &str) -> io::Result<bool> {
