@@ -1,6 +1,7 @@
 -- Document 01, 'Status words', computed: for each row of the table calls that meet it and, where the rows before allow it, a neighbour
 -- that does not. The calls that meet a row and a later one too pin the order: each pair of adjacent rows that one call can meet is here.
--- 6D 00 is never met without 6A 86, and no call meets both of 6A 88 and "create with an AID already held", of 69 E1 and 69 82, or of 69 82 and 6A 84.
+-- 6D 00 is never met without 6A 86. "Create with an AID already held" meets neither 6A 88 nor a wrong state, 69 82 neither 69 E1 nor 6A 84;
+-- a command that cannot be read asks nothing of the card, so that 6A 80 in an open change is one row's answer alone.
 use Prim.Native.Nat.{ℕ, suc, _+_, _-_}
 use mathlib.Core.Path.{_≡_}
 use mathlib.Core.List.{List, [], _∷_, _++_}
