@@ -1,0 +1,2 @@
+-- Laws of the month's loop: the AIDs noted, and one turn.
+pub mod Noted
