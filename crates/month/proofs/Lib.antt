@@ -1,2 +1,3 @@
 -- Laws of the month's loop: the AIDs noted, and one turn.
-pub mod Noted
+pub mod NamesKept
+pub mod Turns

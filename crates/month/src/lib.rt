@@ -1,1 +1,116 @@
 // A month counted: the events of a file run through the manager, a tick for the profile that was enabled before it (docs/EVENTS.md).
+// Soundness is made by fresh and kept by every call, so it is not asked at any event.
+mod stubs;
+
+use byte_string::part_of;
+use card::Card;
+use event_file::Verdict;
+use events::Next;
+use isdp::Aid;
+use manager::Call;
+use manager::answer_on_sound;
+use status::Status;
+use stubs::line;
+use stubs::next_event;
+use stubs::none;
+use stubs::noted;
+use tally::Names;
+use tally::Tally;
+ghost use mathlib.Core.Path.{_≡_};
+ghost use mathlib.Core.List.{[]};
+ghost use mathlib.Core.Bool.{cond};
+ghost use Prim.Native.Nat.{_≤_};
+ghost use lib.ListN.{length};
+ghost use Rattle.status.specs.StatusWords.{isDone};
+ghost use Rattle.demands.specs.Change.{isTick};
+ghost use Rattle.manager.specs.Calls.{callOf};
+ghost use Rattle.events.specs.Events.{nextOf, eventsOf, callsOf};
+ghost use Rattle.tally.specs.Lines.{lineOf, noNames, noted, noMinutes, minuteOn};
+ghost use Rattle.event_file.specs.File.{openedOf};
+ghost use Rattle.month.specs.Month.{atFirst, counting, fileMonth, fileCounted};
+ghost use Rattle.month.specs.Loop.{Countable, Line};
+
+// The verdict on a file and its tally; the minutes stand in lent memory.
+pub struct Month {
+    pub verdict: Verdict,
+    pub tally: Tally,
+}
+
+// A command's response buffer.
+const BUFFER: usize = 256;
+
+fn is_tick(call: Call) -> bool
+    ensures { λ r. ⌜ r ≡ isTick (callOf [] 0 call) ⌝ }
+{
+    match call {
+        Call::Command { .. } => false,
+        Call::Keyed(_) => false,
+        Call::Stored { .. } => false,
+        Call::Finished { .. } => false,
+        Call::Tick => true,
+        Call::Lost => false,
+    }
+}
+
+// The minute of a tick, on the line of the profile that is enabled before it; how many ticks the call is.
+fn time(call: Call, line: usize, minutes: &mut [u32; 65]) -> u32
+    requires { ⌜ Line line (now minutes) ⌝ }
+    ensures { λ r. ⌜ (r ≡ cond (isTick (callOf [] 0 call)) 1 0) × (now (minutes .exit) ≡ cond (isTick (callOf [] 0 call)) (minuteOn line (now (minutes .entry))) (now (minutes .entry))) ⌝ }
+{
+    if !is_tick(call) {
+        return 0;
+    }
+    minutes[line] += 1;
+    1
+}
+
+// How many refusals an answer is.
+fn refusals(status: Status) -> u32
+    ensures { λ r. ⌜ r ≡ cond (isDone status) 0 1 ⌝ }
+{
+    if status.is_done() {
+        return 0;
+    }
+    1
+}
+
+// The events of a body on a card, counted. The enabled profile changes only where an answer has a notification, which names it.
+fn count(card: Card, body: &[u8], minutes: &mut [u32; 65]) -> Tally
+    requires { ⌜ Countable card (now body) (now minutes) ⌝ }
+    ensures { λ r. ⌜ (r ≡ counting card (callsOf (eventsOf (now (body .entry)))) (atFirst card) .tally) × (now (minutes .exit) ≡ counting card (callsOf (eventsOf (now (body .entry)))) (atFirst card) .minutes) ⌝ }
+{
+    let mut buf = [0u8; BUFFER];
+    let first = card.profile(card.enabled_place());
+    let mut names = noted(none(), first.aid);
+    let mut own = line(names, first.aid);
+    let mut card = card;
+    let mut ticks: u32 = 0;
+    let mut events: u32 = 0;
+    let mut refused: u32 = 0;
+    let mut at: usize = 0;
+    loop {
+        let Next::Event { call, stop } = next_event(body, at) else {
+            break Tally {
+                names,
+                ticks,
+                events,
+                refused,
+            };
+        };
+        ticks += time(call, own, minutes);
+        let answer = answer_on_sound(card, call, body, &mut buf);
+        let status = answer.status;
+        let notification = answer.notification;
+        let kind = notification.kind;
+        events += 1;
+        refused += refusals(status);
+        if kind.code() != 0 {
+            let aid = notification.aid;
+            names = noted(names, aid);
+            own = line(names, aid);
+        }
+        let after = answer.card;
+        card = after;
+        at = stop;
+    }
+}

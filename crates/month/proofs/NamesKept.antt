@@ -4,7 +4,7 @@ use Prim.Native.Nat.{ℕ, suc, _+_, _≤_, _<_}
 use mathlib.Core.Path.{_≡_, refl, ap, sym, _∙_}
 use mathlib.Core.List.{List, [], _∷_, _++_}
 use mathlib.Core.Bool.{Bool, true, false, cond}
-use lib.ListN.{length, take, set, replicate, length-set, length-replicate}
+use lib.ListN.{length, take, set, replicate, length-append, length-take, length-set, length-replicate}
 use lib.Seq.{length-take-le, take-suc-set}
 use lib.Dec.{ltb}
 use native.Mathlib.Omega.{arith}
@@ -44,7 +44,7 @@ pub none-roomy : Roomy noNames
 none-roomy = record { few = omega arith; full = length-replicate mostLines noAid }
 
 line-case : (t : Bool) (n : Names) (a : Aid) → hasLine n a ≡ t → n .count ≤ mostLines → cond t (seekAid a (aidsIn n)) restLine ≤ restLine
-line-case true n a e h = omega (arith, ltb-true (seekAid a (aidsIn n)) (n .count) e)
+line-case true n a e h = omega (arith, ltb-true (seekAid a (aidsIn n)) (length (aidsIn n)) e, length-take (n .count) (n .aids))
 line-case false n a e h = omega arith
 
 -- a line is one of those that there are minutes for
@@ -71,10 +71,11 @@ module _ (n : Names) (a : Aid) (r : Roomy n) where
   new-line : hasLine n a ≡ false → n .count < mostLines → hasLine (record { aids = set (n .aids) (n .count) a; count = n .count + 1; more = n .more }) a ≡ true
   new-line e h =
       let size : length (aidsIn n) ≡ n .count = length-take-le (n .count) (n .aids) (omega (arith, r .full)) in
-      let none : seekAid a (aidsIn n) ≡ length (aidsIn n) = omega (arith, ltb-false (seekAid a (aidsIn n)) (n .count) e, seek-most a (aidsIn n)) in
+      let none : seekAid a (aidsIn n) ≡ length (aidsIn n) = omega (arith, ltb-false (seekAid a (aidsIn n)) (length (aidsIn n)) e, seek-most a (aidsIn n)) in
       let same : take (n .count + 1) (set (n .aids) (n .count) a) ≡ aidsIn n ++ (a ∷ []) = rw add-one (take-suc-set (n .aids) (n .count) a (omega (arith, r .full))) in
       let found : seekAid a (take (n .count + 1) (set (n .aids) (n .count) a)) ≡ n .count = ap (seekAid a) same ∙ seek-added a (aidsIn n) none ∙ size in
-      lt-ltb (seekAid a (take (n .count + 1) (set (n .aids) (n .count) a))) (n .count + 1) (omega arith)
+      let wide : length (take (n .count + 1) (set (n .aids) (n .count) a)) ≡ n .count + 1 = ap length same ∙ length-append (aidsIn n) (a ∷ []) ∙ ap (λ (k : ℕ). k + 1) size in
+      lt-ltb (seekAid a (take (n .count + 1) (set (n .aids) (n .count) a))) (length (take (n .count + 1) (set (n .aids) (n .count) a))) (omega arith)
 
   again-case : (t u : Bool) → hasLine n a ≡ t → ltb (n .count) mostLines ≡ u → noted (noted-as t u) a ≡ noted-as t u
   again-case true u e f = rw e
