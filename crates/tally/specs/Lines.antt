@@ -3,7 +3,7 @@
 use Prim.Native.Nat.{ℕ, suc, _+_}
 use mathlib.Core.List.{List, [], _∷_}
 use mathlib.Core.Bool.{Bool, true, false, cond}
-use lib.ListN.{getD, set, take, replicate}
+use lib.ListN.{length, getD, set, take, replicate}
 use lib.Dec.{ltb}
 use Rattle.byte_string.specs.Bytes.{sameBytes}
 use Rattle.isdp.specs.Aids.{noAid, bytesOf}
@@ -30,7 +30,7 @@ abbrev pub aidsIn : Names → List Aid
 aidsIn n = take (n .count) (n .aids)
 
 abbrev pub hasLine : Names → Aid → Bool
-hasLine n a = ltb (seekAid a (aidsIn n)) (n .count)
+hasLine n a = ltb (seekAid a (aidsIn n)) (length (aidsIn n))
 
 -- the line of an AID, or that of the rest
 abbrev pub lineOf : Names → Aid → ℕ

@@ -1,0 +1,4 @@
+-- Laws that several proofs cite.
+pub mod Records
+pub mod Seeking
+pub mod Noting
