@@ -2,3 +2,4 @@
 pub mod Records
 pub mod Seeking
 pub mod Noting
+pub mod Minutes

@@ -53,3 +53,8 @@ noMinutes = replicate (mostLines + 1) 0
 
 abbrev pub minuteOn : ℕ → List ℕ → List ℕ
 minuteOn line minutes = set minutes line (getD minutes line 0 + 1)
+
+-- the minutes of all lines together
+unfoldable pub minutesIn : List ℕ → ℕ
+minutesIn [] = 0
+minutesIn (m ∷ ms) = m + minutesIn ms

@@ -1,7 +1,7 @@
 // The lines of a report: which AIDs have one, and the minutes on each (docs/EVENTS.md, 'The report').
 // Every function answers for every record; no card and no event is known here.
-use isdp::Aid;
 use byte_string::same;
+use isdp::Aid;
 ghost use mathlib.Core.Path.{_≡_};
 ghost use Prim.Native.Nat.{_≤_};
 ghost use lib.ListN.{length};
