@@ -1,3 +1,2 @@
--- Laws of the month's loop: the AIDs noted, and one turn.
-pub mod NamesKept
+-- Laws of the month's loop.
 pub mod Turns

@@ -1,14 +1,14 @@
 -- One turn of the loop over the events, its begin and its end. What was counted so far, with the events still to come, is what is counted of
 -- all; the card stays sound, and the enabled profile is noted and its line known. It is looked up again only where the answer has a
 -- notification: without one the enabled profile is as it was, and with one it is the one that is named (demands: `calls-notify`).
-use Prim.Native.Nat.{ℕ, zero, suc, _+_, _≤_, _<_}
+use Prim.Native.Nat.{ℕ, _+_, _≤_, _<_}
 use mathlib.Core.Path.{_≡_, refl, ap, sym, _∙_, subst}
 use mathlib.Core.List.{List, [], _∷_}
 use mathlib.Core.Bool.{Bool, true, false, cond}
-use lib.ListN.{length, getD, set, drop, replicate}
+use lib.ListN.{length, drop, length-replicate}
 use native.Mathlib.Omega.{arith}
 use Rattle.status.specs.StatusWords.{isDone}
-use Rattle.isdp.specs.declared.Aid.{Aid}
+use Rattle.isdp.specs.Aids.{noAid}
 use Rattle.card.specs.Cards.{enabledAid}
 use Rattle.card.specs.Sound.{sound}
 use Rattle.card.specs.Noticed.{JustOpened, Noticed, silently, told}
@@ -31,11 +31,12 @@ use Rattle.demands.proofs.Notified.{calls-notify}
 use Rattle.events.specs.Events.{eventsOf, callsOf, callOfEvent}
 use Rattle.events.proofs.Turns.{RightFrom, Turn}
 use Rattle.contents.specs.Contents.{mostFile}
-use Rattle.tally.specs.Lines.{mostLines, restLine, lineOf, noNames, noted, noMinutes, minuteOn}
+use Rattle.tally.specs.Lines.{mostLines, restLine, lineOf, noNames, noted, noMinutes, minuteOn, minutesIn}
+use Rattle.tally.proofs.Noting.{line-most, noted-full, noted-twice}
+use Rattle.tally.proofs.Minutes.{minute-more, minute-most, minute-length, no-minutes}
 use Rattle.tally.specs.declared.Names.{Names}
 use Rattle.month.specs.Month.{Counted, atFirst, counted, counting}
 use Rattle.month.specs.Loop.{Line}
-use Rattle.month.proofs.NamesKept.{Roomy, none-roomy, line-most, noted-roomy, noted-again}
 
 -- the enabled profile after a call
 opened-code : (p : Phase) (n : Notification) → JustOpened p n → codeOf (n .kind) ≡ 0 → ⊥
@@ -59,7 +60,7 @@ soFar names ticks events refused minutes =
 
 -- the names and the line are those of the card's enabled profile
 pub record Known (c : Card) (names : Names) (line : ℕ) : Type 0 where
-  pub roomy : Roomy names
+  pub full : length (names .aids) ≡ mostLines
   pub own : line ≡ lineOf names (enabledAid c)
   pub noted-already : noted names (enabledAid c) ≡ names
 
@@ -68,7 +69,8 @@ pub record Low (at ticks events refused : ℕ) (minutes : List ℕ) : Type 0 whe
   pub events-low : events ≤ at
   pub ticks-low : ticks ≤ events
   pub refused-low : refused ≤ events
-  pub minutes-low : (i : ℕ) → getD minutes i 0 ≤ ticks
+  pub minutes-low : minutesIn minutes ≤ ticks
+  pub lines : length minutes ≡ mostLines + 1
 
 pub record Stands (first : Card) (b : List ℕ) (minutes : List ℕ) (names : Names) (line : ℕ) (c : Card) (ticks events refused at : ℕ) : Type 0 where
   pub whole : counting c (callsOf (eventsOf (drop at b))) (soFar names ticks events refused minutes) ≡ counting first (callsOf (eventsOf b)) (atFirst first)
@@ -78,10 +80,8 @@ pub record Stands (first : Card) (b : List ℕ) (minutes : List ℕ) (names : Na
   pub known : Known c names line
   pub low : Low at ticks events refused minutes
 
-zeros-low : (n i : ℕ) → getD (replicate n 0) i 0 ≤ 0
-zeros-low zero i = omega arith
-zeros-low (suc n) zero = omega arith
-zeros-low (suc n) (suc i) = zeros-low n i
+none-full : length (noNames .aids) ≡ mostLines
+none-full = length-replicate mostLines noAid
 
 pub stands-first : (c : Card) (b : List ℕ) (line : ℕ) → sound c ≡ true → RightFrom b 0 → line ≡ lineOf (noted noNames (enabledAid c)) (enabledAid c) → Stands c b noMinutes (noted noNames (enabledAid c)) line c 0 0 0 0
 stands-first c b line s r e =
@@ -90,21 +90,18 @@ stands-first c b line s r e =
       sound-card = s;
       right = r;
       within = omega arith;
-      known = record { roomy = noted-roomy noNames (enabledAid c) none-roomy; own = e; noted-already = noted-again noNames (enabledAid c) none-roomy };
-      low = record { events-low = omega arith; ticks-low = omega arith; refused-low = omega arith; minutes-low = zeros-low (mostLines + 1) };
+      known = record { full = noted-full noNames (enabledAid c) none-full; own = e; noted-already = noted-twice noNames none-full (enabledAid c) };
+      low = record { events-low = omega arith; ticks-low = omega arith; refused-low = omega arith; minutes-low = omega (arith, no-minutes); lines = length-replicate {A = ℕ} (mostLines + 1) 0 };
     }
 
 -- one minute more is one tick more
-minute-low : (l : List ℕ) (line i k : ℕ) → ((j : ℕ) → getD l j 0 ≤ k) → getD (minuteOn line l) i 0 ≤ k + 1
-minute-low [] line i k h = omega arith
-minute-low (x ∷ xs) zero zero k h = omega (arith, h 0)
-minute-low (x ∷ xs) zero (suc i) k h = omega (arith, h (suc i))
-minute-low (x ∷ xs) (suc line) zero k h = omega (arith, h 0)
-minute-low (x ∷ xs) (suc line) (suc i) k h = minute-low xs line i k (λ j. h (suc j))
+timed-more : (t : Bool) (l : List ℕ) (line : ℕ) → line < length l → minutesIn (cond t (minuteOn line l) l) ≡ minutesIn l + cond t 1 0
+timed-more true l line h = minute-more l line h
+timed-more false l line h = omega arith
 
-timed-low : (t : Bool) (l : List ℕ) (line i k : ℕ) → ((j : ℕ) → getD l j 0 ≤ k) → getD (cond t (minuteOn line l) l) i 0 ≤ k + cond t 1 0
-timed-low true l line i k h = minute-low l line i k h
-timed-low false l line i k h = omega (arith, h i)
+timed-length : (t : Bool) (l : List ℕ) (line : ℕ) → length (cond t (minuteOn line l) l) ≡ length l
+timed-length true l line = minute-length l line
+timed-length false l line = refl
 
 at-most-one : (t : Bool) → cond t 1 0 ≤ 1
 at-most-one true = omega arith
@@ -124,12 +121,15 @@ tick-alike b s m n code.Tick = refl
 tick-alike b s m n code.Lost = refl
 
 module _ {first : Card} {b minutes : List ℕ} {names : Names} {line : ℕ} {c : Card} {ticks events refused at : ℕ} (st : Stands first b minutes names line c ticks events refused at) where
+  line-within : line ≤ restLine
+  line-within = rw (st .known .own) (line-most names (st .known .full) (enabledAid c))
+
   -- a minute has room
   pub line-room : length b ≤ mostFile → Line line minutes
   line-room h =
       record {
-        within = rw (st .known .own) (line-most names (enabledAid c) (st .known .roomy));
-        low = omega (arith, st .low .minutes-low line, st .low .ticks-low, st .low .events-low, st .within);
+        within = line-within;
+        low = omega (arith, minute-most minutes line, st .low .minutes-low, st .low .ticks-low, st .low .events-low, st .within);
       }
 
   -- the end
@@ -171,7 +171,8 @@ module _ {first : Card} {b minutes : List ℕ} {names : Names} {line : ℕ} {c :
             events-low = omega (arith, t .goes, st .low .events-low);
             ticks-low = omega (arith, tick-is, at-most-one (isTick this), st .low .ticks-low);
             refused-low = omega (arith, refusal-is, none-or-one (isDone (step c this .status)), st .low .refused-low);
-            minutes-low = λ i. rw (minutes-are, tick-is) (timed-low (isTick this) minutes line i ticks (st .low .minutes-low));
+            minutes-low = omega (arith, ap minutesIn minutes-are ∙ timed-more (isTick this) minutes line (omega (arith, line-within, st .low .lines)), tick-is, st .low .minutes-low);
+            lines = ap length minutes-are ∙ timed-length (isTick this) minutes line ∙ st .low .lines;
           }
 
       -- with the names and the line of the card reached
@@ -195,7 +196,7 @@ module _ {first : Card} {b minutes : List ℕ} {names : Names} {line : ℕ} {c :
       stands-unnamed e =
           let same : enabledAid (step c this .card) ≡ enabledAid c = unnamed-case c (step c this) (calls-notify c this (st .sound-card)) (rw kind-is at e) in
           let k = st .known in
-          stands-on (sym (ap (noted names) same ∙ k .noted-already)) (record { roomy = k .roomy; own = k .own ∙ ap (lineOf names) (sym same); noted-already = ap (noted names) same ∙ k .noted-already })
+          stands-on (sym (ap (noted names) same ∙ k .noted-already)) (record { full = k .full; own = k .own ∙ ap (lineOf names) (sym same); noted-already = ap (noted names) same ∙ k .noted-already })
 
       -- a notification: the one that it names
       pub stands-named : {names′ : Names} {line′ : ℕ} → (codeOf (r .notification .kind) ≡ 0 → ⊥) → names′ ≡ noted names (r .notification .aid) → line′ ≡ lineOf names′ (r .notification .aid)
@@ -204,4 +205,4 @@ module _ {first : Card} {b minutes : List ℕ} {names : Names} {line : ℕ} {c :
           let same : r .notification .aid ≡ enabledAid (step c this .card) = ap (λ (x : Notification). x .aid) kind-is ∙ sym (named-case c (step c this) (calls-notify c this (st .sound-card)) (λ z. n (rw kind-is z))) in
           let aid = enabledAid (step c this .card) in
           let added : names′ ≡ noted names aid = e ∙ ap (noted names) same in
-          stands-on added (record { roomy = rw added (noted-roomy names aid (st .known .roomy)); own = f ∙ ap (lineOf names′) same; noted-already = rw added (noted-again names aid (st .known .roomy)) })
+          stands-on added (record { full = rw added (noted-full names aid (st .known .full)); own = f ∙ ap (lineOf names′) same; noted-already = rw added (noted-twice names (st .known .full) aid) })

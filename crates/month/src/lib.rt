@@ -1,19 +1,15 @@
 // A month counted: the events of a file run through the manager, a tick for the profile that was enabled before it (docs/EVENTS.md).
 // Soundness is made by fresh and kept by every call, so it is not asked at any event.
-mod stubs;
 
 use byte_string::part_of;
 use card::Card;
 use event_file::Verdict;
 use events::Next;
+use events::next_event;
 use isdp::Aid;
 use manager::Call;
 use manager::answer_on_sound;
 use status::Status;
-use stubs::line;
-use stubs::next_event;
-use stubs::none;
-use stubs::noted;
 use tally::Names;
 use tally::Tally;
 ghost use mathlib.Core.Path.{_≡_};
@@ -80,9 +76,10 @@ fn count(card: Card, body: &[u8], minutes: &mut [u32; 65]) -> Tally
     ensures { λ r. ⌜ (r ≡ counting card (callsOf (eventsOf (now (body .entry)))) (atFirst card) .tally) × (now (minutes .exit) ≡ counting card (callsOf (eventsOf (now (body .entry)))) (atFirst card) .minutes) ⌝ }
 {
     let mut buf = [0u8; BUFFER];
-    let first = card.profile(card.enabled_place());
-    let mut names = noted(none(), first.aid);
-    let mut own = line(names, first.aid);
+    let profile = card.profile(card.enabled_place());
+    let aid = profile.aid;
+    let mut names = Names::none().noted(aid);
+    let mut own = names.line(aid);
     let mut card = card;
     let mut ticks: u32 = 0;
     let mut events: u32 = 0;
@@ -106,8 +103,8 @@ fn count(card: Card, body: &[u8], minutes: &mut [u32; 65]) -> Tally
         refused += refusals(status);
         if kind.code() != 0 {
             let aid = notification.aid;
-            names = noted(names, aid);
-            own = line(names, aid);
+            names = names.noted(aid);
+            own = names.line(aid);
         }
         let after = answer.card;
         card = after;
