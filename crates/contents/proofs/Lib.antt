@@ -1,0 +1,4 @@
+-- Laws that the crates above cite.
+pub mod Below
+pub mod Ends
+pub mod Refusals
