@@ -9,7 +9,9 @@ use lib.ListN.{length, drop, length-replicate}
 use native.Mathlib.Omega.{arith}
 use Rattle.status.specs.StatusWords.{isDone}
 use Rattle.isdp.specs.Aids.{noAid}
-use Rattle.card.specs.Cards.{enabledAid}
+use Rattle.isdp.specs.declared.Isdp.{Isdp}
+use Rattle.places.specs.Places.{at}
+use Rattle.card.specs.Cards.{enabledPlace, enabledAid}
 use Rattle.card.specs.Sound.{sound}
 use Rattle.card.specs.Noticed.{JustOpened, Noticed, silently, told}
 use Rattle.card.specs.Notifications.{codeOf}
@@ -29,14 +31,14 @@ use Rattle.demands.specs.Change.{isTick}
 use Rattle.demands.specs.Notified.{Notified}
 use Rattle.demands.proofs.Notified.{calls-notify}
 use Rattle.events.specs.Events.{eventsOf, callsOf, callOfEvent}
-use Rattle.events.proofs.Turns.{RightFrom, Turn}
+use Rattle.events.proofs.Turns.{RightFrom, Turn, right-first}
 use Rattle.contents.specs.Contents.{mostFile}
 use Rattle.tally.specs.Lines.{mostLines, restLine, lineOf, noNames, noted, noMinutes, minuteOn, minutesIn}
 use Rattle.tally.proofs.Noting.{line-most, noted-full, noted-twice}
 use Rattle.tally.proofs.Minutes.{minute-more, minute-most, minute-length, no-minutes}
 use Rattle.tally.specs.declared.Names.{Names}
 use Rattle.month.specs.Month.{Counted, atFirst, counted, counting}
-use Rattle.month.specs.Loop.{Line}
+use Rattle.month.specs.Loop.{Countable, Line}
 
 -- the enabled profile after a call
 opened-code : (p : Phase) (n : Notification) → JustOpened p n → codeOf (n .kind) ≡ 0 → ⊥
@@ -94,6 +96,14 @@ stands-first c b line s r e =
       low = record { events-low = omega arith; ticks-low = omega arith; refused-low = omega arith; minutes-low = omega (arith, no-minutes); lines = length-replicate {A = ℕ} (mostLines + 1) 0 };
     }
 
+-- as the code begins
+pub begins : (c : Card) (b : List ℕ) {e line : ℕ} {p : Isdp} {none names : Names} {minutes : List ℕ} → Countable c b minutes → e ≡ enabledPlace c → p ≡ at (c .places) e → none ≡ noNames → names ≡ noted none (p .aid) → line ≡ lineOf names (p .aid)
+    → Stands c b minutes names line c 0 0 0 0
+begins c b {p = profile} {names = names} {minutes = minutes} k e p n f l =
+    let aid = ap (λ (x : Isdp). x .aid) (p ∙ ap (at (c .places)) e) in
+    let named = f ∙ ap (λ (x : Names). noted x (profile .aid)) n ∙ ap (noted noNames) aid in
+    rw (k .clear, named) (stands-first c b _ (k .sound-card) (right-first b (k .right)) (l ∙ ap (lineOf names) aid ∙ ap (λ (x : Names). lineOf x (enabledAid c)) named))
+
 -- one minute more is one tick more
 timed-more : (t : Bool) (l : List ℕ) (line : ℕ) → line < length l → minutesIn (cond t (minuteOn line l) l) ≡ minutesIn l + cond t 1 0
 timed-more true l line h = minute-more l line h
@@ -131,6 +141,16 @@ module _ {first : Card} {b minutes : List ℕ} {names : Names} {line : ℕ} {c :
         within = line-within;
         low = omega (arith, minute-most minutes line, st .low .minutes-low, st .low .ticks-low, st .low .events-low, st .within);
       }
+
+  -- no count passes 32 bits
+  pub ticks-fit : {tick : ℕ} (t : Bool) → length b ≤ mostFile → tick ≡ cond t 1 0 → ticks + tick < 4294967296
+  ticks-fit t h e = omega (arith, at-most-one t, st .low .ticks-low, st .low .events-low, st .within)
+
+  pub events-fit : length b ≤ mostFile → events + 1 < 4294967296
+  events-fit h = omega (arith, st .low .events-low, st .within)
+
+  pub refused-fit : {refusal : ℕ} (t : Bool) → length b ≤ mostFile → refusal ≡ cond t 0 1 → refused + refusal < 4294967296
+  refused-fit t h e = omega (arith, none-or-one t, st .low .refused-low, st .low .events-low, st .within)
 
   -- the end
   pub stands-last : eventsOf (drop at b) ≡ [] → soFar names ticks events refused minutes ≡ counting first (callsOf (eventsOf b)) (atFirst first)

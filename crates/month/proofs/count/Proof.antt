@@ -1,118 +1,118 @@
+-- `month::count`: the loop's invariant is `Stands`; each turn is the law of a turn, with the answer's notification or without.
 use Prim.Native.Nat.{_-_}
+use denote.Ref.{now}
+use mathlib.Core.Path.{_≡_, refl, ap, sym, _∙_}
+use mathlib.Core.Logic.{⊎-elim}
+use mathlib.Core.List.{[]}
 use lib.ListN.{length}
 use native.Mathlib.Omega.{arith}
 use borrow.Author.Needs.{needs}
-use Rattle.month.proofs.Turns.{Stands, stands-first, line-room, stands-last, stands-unnamed, stands-named}
+use Rattle.byte_string.proofs.PutLaws.{length-put}
+use Rattle.events.proofs.Turns.{right-first, next-event, none-left}
+use Rattle.status.specs.StatusWords.{isDone}
+use Rattle.manager.specs.Calls.{callOf}
+use Rattle.demands.specs.Change.{isTick}
+use Rattle.tally.specs.Lines.{lineOf}
+use Rattle.tally.specs.declared.Names.{Names}
+use Rattle.month.specs.Month.{Counted}
+use Rattle.month.proofs.Turns.{Stands, begins, line-room, ticks-fit, events-fit, refused-fit, stands-last, stands-unnamed, stands-named}
 use Rattle.month.proofs.count.Statement.{statement}
 use Rattle.month.proofs.count.Tie as tie
-use Rattle.month.proofs.count.Reads as reads
-use Rattle.month.proofs.count.Lts as lts
-use Rattle.card.proofs.Card.enabled_place.Reads as enabled-place-reads
-use Rattle.card.proofs.Card.profile.Reads as profile-reads
-use Rattle.card.proofs.Kind.code.Reads as code-reads
-use Rattle.manager.proofs.answer_on_sound.Reads as answer-on-sound-reads
-use Rattle.month.proofs.refusals.Reads as refusals-reads
-use Rattle.month.proofs.stubs.next_event.Reads as next-event-reads
-use Rattle.month.proofs.time.Reads as time-reads
-use Rattle.tally.proofs.Names.line.Reads as line-reads
-use Rattle.tally.proofs.Names.none.Reads as none-reads
-use Rattle.tally.proofs.Names.noted.Reads as noted-reads
 
 abbrev Inv-loop : tie.InvT-loop
 Inv-loop body minutes₀ buf₀ names₀ own₀ card₀ ticks₀ events₀ refused₀ at₀ minutes buf names own card ticks events refused at =
-    Stands card₀ body minutes names own card ticks events refused at
+    (256 ≡ length buf) × Stands card₀ body minutes names own card ticks events refused at
 
 abbrev μ-loop : tie.MeasureT-loop
 μ-loop body minutes₀ buf₀ names₀ own₀ card₀ ticks₀ events₀ refused₀ at₀ minutes buf names own card ticks events refused at =
     length body - at
 
--- src/lib.rt:80:32
 enabled-place-requires : tie.Need-enabled-place-requires Inv-loop μ-loop
 enabled-place-requires c κs = search needs
 
--- src/lib.rt:80:9
 profile-requires : tie.Need-profile-requires Inv-loop μ-loop
 profile-requires c κs = search needs
 
--- src/lib.rt:82:21
 none-requires : tie.Need-none-requires Inv-loop μ-loop
 none-requires c κs = search needs
 
--- src/lib.rt:82:9
 noted-requires : tie.Need-noted-requires Inv-loop μ-loop
 noted-requires c κs = search needs
 
--- src/lib.rt:83:9
 line-requires : tie.Need-line-requires Inv-loop μ-loop
 line-requires c κs = search needs
 
--- src/lib.rt:89:5
 loop-holds : tie.Need-loop-holds Inv-loop μ-loop
-loop-holds c = ?
+loop-holds c =
+    let a = c .before .before .before .before .before .before .before .args in
+    (refl, begins (a .card) (now (a .body)) (c .before .before .before .before .before .before .before .pre) (c .before .before .before .before .before .enabled-place .ensures) (c .before .before .before .before .profile .ensures) (c .before .before .none .ensures) (c .before .noted .ensures) (c .line .ensures))
 
--- src/lib.rt:90:42
 next-event-requires : tie.Need-next-event-requires Inv-loop μ-loop
 next-event-requires c κs = search needs
 
--- src/lib.rt:90:27
 enum-known-call : tie.Need-enum-known-call Inv-loop μ-loop
-enum-known-call c = ?
+enum-known-call c = search needs
 
--- src/lib.rt:91:19
 enum-told : tie.Need-enum-told Inv-loop μ-loop
-enum-told c = ?
+enum-told c = search needs
 
--- src/lib.rt:98:18
 time-requires : tie.Need-time-requires Inv-loop μ-loop
-time-requires c κs = search needs
+time-requires c κs = line-room (c .before .before .before .before .before .loop .inv .1) (c .before .before .before .before .before .before .before .before .before .before .before .before .before .pre .short)
 
--- src/lib.rt:98:9
 add-ticks : tie.Need-add-ticks Inv-loop μ-loop
-add-ticks c = ?
+add-ticks c = omega (arith, ticks-fit (c .before .before .before .before .before .before .loop .inv .1) (isTick (callOf [] 0 (c .before .before .before .call .given .0 .0))) (c .before .before .before .before .before .before .before .before .before .before .before .before .before .before .pre .short) (c .time .ensures .0))
 
--- src/lib.rt:99:56
 slice-aggregate-answer-on-sound : tie.Need-slice-aggregate-answer-on-sound Inv-loop μ-loop
-slice-aggregate-answer-on-sound c = ?
+slice-aggregate-answer-on-sound c = c .before .before .before .before .before .before .before .loop .inv .0
 
--- src/lib.rt:99:13
 answer-on-sound-requires : tie.Need-answer-on-sound-requires Inv-loop μ-loop
 answer-on-sound-requires c κs = search needs
 
--- src/lib.rt:103:9
 add-events : tie.Need-add-events Inv-loop μ-loop
-add-events c = ?
+add-events c = omega (arith, events-fit (c .before .before .before .before .before .before .before .before .before .before .loop .inv .1) (c .before .before .before .before .before .before .before .before .before .before .before .before .before .before .before .before .before .before .pre .short))
 
--- src/lib.rt:104:20
 refusals-requires : tie.Need-refusals-requires Inv-loop μ-loop
 refusals-requires c κs = search needs
 
--- src/lib.rt:104:9
 add-refused : tie.Need-add-refused Inv-loop μ-loop
-add-refused c = ?
+add-refused c = omega (arith, refused-fit (c .before .before .before .before .before .before .before .before .before .before .before .loop .inv .1) (isDone (c .before .before .before .answer-on-sound .result .status)) (c .before .before .before .before .before .before .before .before .before .before .before .before .before .before .before .before .before .before .before .pre .short) (c .refusals .ensures))
 
--- src/lib.rt:105:12
 code-requires : tie.Need-code-requires Inv-loop μ-loop
 code-requires c κs = search needs
 
--- src/lib.rt:107:13
 noted-requires-2 : tie.Need-noted-requires-2 Inv-loop μ-loop
 noted-requires-2 c κs = search needs
 
--- src/lib.rt:108:13
 line-requires-2 : tie.Need-line-requires-2 Inv-loop μ-loop
 line-requires-2 c κs = search needs
 
--- src/lib.rt:89:5
 loop-less : tie.Need-loop-less Inv-loop μ-loop
-loop-less c = ?
+loop-less c =
+    let l = c .before .before .before .before .before .before .before .before .before .before .before .before .before .before .loop in
+    let t = next-event (now (c .before .before .before .before .before .before .before .before .before .before .before .before .before .before .before .before .before .before .before .before .before .before .args .body)) (l .at) _ _ (l .inv .1 .right) (sym (c .before .before .before .before .before .before .before .before .before .before .before .before .before .next-event .ensures) ∙ c .before .before .before .before .before .before .before .before .before .before .before .call .given .1) in
+    omega (arith, t .goes, t .inside)
 
--- src/lib.rt:89:5
 loop-again : tie.Need-loop-again Inv-loop μ-loop
-loop-again c = ?
+loop-again c =
+    let l = c .before .before .before .before .before .before .before .before .before .before .before .before .before .before .loop in
+    let t = next-event (now (c .before .before .before .before .before .before .before .before .before .before .before .before .before .before .before .before .before .before .before .before .before .before .args .body)) (l .at) _ _ (l .inv .1 .right) (sym (c .before .before .before .before .before .before .before .before .before .before .before .before .before .next-event .ensures) ∙ c .before .before .before .before .before .before .before .before .before .before .before .call .given .1) in
+    let size = sym (l .inv .0) in
+    let served = c .before .before .before .before .before .before .answer-on-sound .ensures in
+    let p = c .before .before .before .before .before .before .before .before .time .ensures in
+    let q = c .before .before .before .refusals .ensures in
+    let code = c .before .before .code .ensures in (
+      l .inv .0 ∙ sym (ap length (served .0 .content) ∙ length-put _ 0 _),
+      ⊎-elim
+          (λ w. stands-named (l .inv .1) t size served p q (λ e. w .0 .taken (code ∙ e)) (w .4 ∙ w .2 .ensures) (w .5 ∙ w .3 .ensures ∙ ap (λ (n : Names). lineOf n _) (sym (w .4))))
+          (λ w. rw (w .1, w .2) (stands-unnamed (l .inv .1) t size served p q (sym code ∙ w .0 .left)))
+          (c .before .if1 .came),
+    )
 
--- src/lib.rt:75:1
 returns : tie.Need-returns Inv-loop μ-loop
-returns c = ?
+returns c =
+    let l = c .before .before .before .loop in
+    let e = stands-last (l .inv .1) (none-left (now (c .before .before .before .before .before .before .before .before .before .before .before .args .body)) (l .at) (l .inv .1 .right) (sym (c .before .before .next-event .ensures) ∙ c .enum-told .given .1)) in
+    (ap (λ (k : Counted). k .tally) e, ap (λ (k : Counted). k .minutes) e)
 
 pub count-spec : {M : Type 1} → statement M
 count-spec =
