@@ -2,3 +2,5 @@
 pub mod Below
 pub mod Ends
 pub mod Refusals
+pub mod Entries
+pub mod Laid

@@ -1,3 +1,4 @@
 -- docs/EVENTS.md, 'The file': its table of contents.
 pub mod Below
 pub mod Contents
+pub mod Statements
