@@ -4,3 +4,4 @@ pub mod Ends
 pub mod Refusals
 pub mod Entries
 pub mod Laid
+pub mod Examples

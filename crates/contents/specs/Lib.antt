@@ -2,3 +2,4 @@
 pub mod Below
 pub mod Contents
 pub mod Statements
+pub mod Examples
