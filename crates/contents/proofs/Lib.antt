@@ -2,3 +2,7 @@
 pub mod Below
 pub mod Ends
 pub mod Refusals
+pub mod Entries
+pub mod Laid
+pub mod Examples
+pub mod TwoSections
