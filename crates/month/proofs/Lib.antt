@@ -1,0 +1,3 @@
+-- The proofs of the statements in specs/.
+pub mod Splits
+pub mod Events

@@ -1,0 +1,98 @@
+-- What a month counted says, whatever the card and the calls: the figures add up, every call is counted, and each figure without the
+-- program's table, as a count over the cards reached (docs/EVENTS.md, 'The report').
+use Prim.Native.Nat.{ℕ, _+_, _<_}
+use mathlib.Core.Path.{_≡_}
+use mathlib.Core.List.{List, [], _∷_, _++_, map}
+use mathlib.Core.Bool.{Bool, true, false, not, cond, _&&_, _||_}
+use lib.ListN.{length, getD, take}
+use Rattle.status.specs.StatusWords.{isDone}
+use Rattle.isdp.specs.declared.Aid.{Aid}
+use Rattle.card.specs.Cards.{enabledAid}
+use Rattle.card.specs.Answers.{Outcome}
+use Rattle.card.specs.declared.Card.{Card}
+use Rattle.manager.specs.Calls.{Call}
+use Rattle.manager.specs.Manager.{step, run, answers}
+use Rattle.demands.specs.Change.{isTick, ticksAmong}
+use Rattle.tally.specs.Lines.{aidsIn}
+use Rattle.tally.specs.declared.Names.{Names}
+use Rattle.tally.specs.declared.Tally.{Tally}
+use Rattle.month.specs.Month.{Counted, atFirst, counting}
+
+-- how many of a list meet a test
+unfoldable pub howMany : {A : Type 0} → (A → Bool) → List A → ℕ
+howMany t [] = 0
+howMany t (x ∷ xs) = cond (t x) 1 0 + howMany t xs
+
+unfoldable pub total : List ℕ → ℕ
+total [] = 0
+total (n ∷ ns) = n + total ns
+
+-- the calls counted from a card on
+abbrev pub monthFrom : Card → List Call → Counted
+monthFrom c calls = counting c calls (atFirst c)
+
+-- the AIDs that have a line, the minutes of each, and those of the rest
+abbrev pub linesOf : Counted → List Aid
+linesOf k = aidsIn (k .tally .names)
+
+abbrev pub minutesOf : Counted → List ℕ
+minutesOf k = take (length (linesOf k)) (k .minutes)
+
+abbrev pub restOf : Counted → ℕ
+restOf k = getD (k .minutes) 64 0
+
+-- the figure of the rest is told only where there is a 65th AID
+abbrev pub restTold : Counted → ℕ
+restTold k = cond (k .tally .names .more) (restOf k) 0
+
+-- "all ticks": the lines and the rest add up to the ticks among the calls, and so many are told
+pub record AddsUp (calls : List Call) (k : Counted) : Type 0 where
+  pub lines : total (minutesOf k) + restTold k ≡ ticksAmong calls
+  pub ticks : k .tally .ticks ≡ ticksAmong calls
+
+abbrev pub TicksAddUp : Type 0
+TicksAddUp = (c : Card) (calls : List Call) → AddsUp calls (monthFrom c calls)
+
+-- "all events": every call is one, and is answered once, in order, on the card then reached
+abbrev pub isRefusal : Outcome → Bool
+isRefusal o = not (isDone (o .status))
+
+pub record EveryEvent (c : Card) (calls : List Call) (k : Counted) : Type 0 where
+  pub events : k .tally .events ≡ length calls
+  pub answered : length (answers c calls) ≡ length calls
+  pub refused : k .tally .refused ≡ howMany isRefusal (answers c calls)
+
+abbrev pub EventsReported : Type 0
+EventsReported = (c : Card) (calls : List Call) → EveryEvent c calls (monthFrom c calls)
+
+-- every way to write the calls as before, this, after
+pub record Split : Type 0 where
+  pub before : List Call
+  pub this : Call
+  pub after : List Call
+
+abbrev pub joined : Split → List Call
+joined s = s .before ++ s .this ∷ s .after
+
+-- the same with one call more in front
+abbrev pub behind : Call → Split → Split
+behind call s = record { before = call ∷ s .before; this = s .this; after = s .after }
+
+unfoldable pub splits : List Call → List Split
+splits [] = []
+splits (call ∷ calls) = record { before = []; this = call; after = calls } ∷ map (behind call) (splits calls)
+
+-- each joins to the calls, and the one at place i has i calls before; every way to write the calls so stands there
+pub record EverySplit : Type 0 where
+  pub as-many : (calls : List Call) → length (splits calls) ≡ length calls
+  pub joins : (calls : List Call) (i : ℕ) (none : Split) → i < length calls → joined (getD (splits calls) i none) ≡ calls
+  pub once : (calls : List Call) (i : ℕ) (none : Split) → i < length calls → length (getD (splits calls) i none .before) ≡ i
+  pub all : (s none : Split) → getD (splits (joined s)) (length (s .before)) none ≡ s
+
+-- the figure of the AIDs that meet a test: the ways to write the calls as before, a tick, after, in which the profile enabled on the card that
+-- `before` leads to bears such an AID
+abbrev pub countsFor : Card → (Aid → Bool) → Split → Bool
+countsFor c test s = isTick (s .this) && test (enabledAid (run c (s .before)))
+
+abbrev pub figure : Card → List Call → (Aid → Bool) → ℕ
+figure c calls test = howMany (countsFor c test) (splits calls)
