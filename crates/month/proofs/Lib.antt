@@ -1,3 +1,4 @@
 -- The proofs of the statements in specs/.
 pub mod Splits
 pub mod Events
+pub mod Noting

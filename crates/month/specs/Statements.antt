@@ -13,7 +13,7 @@ use Rattle.card.specs.declared.Card.{Card}
 use Rattle.manager.specs.Calls.{Call}
 use Rattle.manager.specs.Manager.{step, run, answers}
 use Rattle.demands.specs.Change.{isTick, ticksAmong}
-use Rattle.tally.specs.Lines.{aidsIn}
+use Rattle.tally.specs.Lines.{sameAid, aidsIn}
 use Rattle.tally.specs.declared.Names.{Names}
 use Rattle.tally.specs.declared.Tally.{Tally}
 use Rattle.month.specs.Month.{Counted, atFirst, counting}
@@ -88,6 +88,11 @@ pub record EverySplit : Type 0 where
   pub joins : (calls : List Call) (i : ℕ) (none : Split) → i < length calls → joined (getD (splits calls) i none) ≡ calls
   pub once : (calls : List Call) (i : ℕ) (none : Split) → i < length calls → length (getD (splits calls) i none .before) ≡ i
   pub all : (s none : Split) → getD (splits (joined s)) (length (s .before)) none ≡ s
+
+-- an AID is the same as one of a list
+unfoldable pub isAmong : Aid → List Aid → Bool
+isAmong a [] = false
+isAmong a (x ∷ xs) = sameAid x a || isAmong a xs
 
 -- the figure of the AIDs that meet a test: the ways to write the calls as before, a tick, after, in which the profile enabled on the card that
 -- `before` leads to bears such an AID
