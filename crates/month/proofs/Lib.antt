@@ -2,3 +2,4 @@
 pub mod Splits
 pub mod Events
 pub mod Noting
+pub mod Lines

@@ -120,6 +120,12 @@ pub line-stays : (n m : Names) (a : Aid) → Later n m → Settled n a → lineO
 line-stays n m a p (on-line h) = ap (λ (xs : List Aid). lineIn xs a) (p .grown) ∙ kept-line (aidsIn n) (p .new) a h
 line-stays n m a p (in-rest h e) = ap (λ (xs : List Aid). lineIn xs a) (p .taken h)
 
+-- what holds of the names m once an AID is noted in n
+pub record After (n : Names) (a : Aid) (m : Names) : Type 0 where
+  pub fits : Fit m
+  pub settled : Settled m a
+  pub later : Later n m
+
 pub none-fit : Fit noNames
 none-fit = record { few = omega arith; size = length-replicate 64 noAid; own = λ i h. absurd (omega arith) }
 
@@ -182,13 +188,7 @@ module _ (n : Names) (a : Aid) (fit : Fit n) where
     left-later : Later n left-out
     left-later = record { new = []; grown = sym (append-nil xs); taken = λ h. refl; more = λ e. refl }
 
-  -- what holds of the names once the AID is noted
-  pub record After (m : Names) : Type 0 where
-    pub fits : Fit m
-    pub settled : Settled m a
-    pub later : Later n m
-
-  after-case : (t u : Bool) → hasLine n a ≡ t → ltb (n .count) 64 ≡ u → After (cond t n (cond u added left-out))
+  after-case : (t u : Bool) → hasLine n a ≡ t → ltb (n .count) 64 ≡ u → After n a (cond t n (cond u added left-out))
   after-case true u e f =
       record { fits = fit; settled = on-line (ltb-true (seekAid a xs) (length xs) e); later = later-self n }
   after-case false true e f =
@@ -198,7 +198,7 @@ module _ (n : Names) (a : Aid) (fit : Fit n) where
       let none = ltb-false (n .count) 64 f in
       record { fits = left-fit e; settled = in-rest (omega (arith, lines-count)) refl; later = left-later e }
 
-  pub after : After (noted n a)
+  pub after : After n a (noted n a)
   after = after-case (hasLine n a) (ltb (n .count) 64) refl refl
 
 -- which AIDs are on a line, and which are on none
@@ -219,6 +219,15 @@ line-is n i a fit h =
 rest-is-case : (xs : List Aid) (a : Aid) (b : Bool) → length xs ≤ 64 → ltb (seekAid a xs) (length xs) ≡ b → eqb (cond b (seekAid a xs) 64) 64 ≡ not b
 rest-is-case xs a true m e = let k = ltb-true (seekAid a xs) (length xs) e in ne-eqb (seekAid a xs) 64 (λ q. absurd (omega arith))
 rest-is-case xs a false m e = refl
+
+line-most-case : (xs : List Aid) (a : Aid) (b : Bool) → length xs ≤ 64 → ltb (seekAid a xs) (length xs) ≡ b → cond b (seekAid a xs) 64 ≤ 64
+line-most-case xs a true m e = let k = ltb-true (seekAid a xs) (length xs) e in omega arith
+line-most-case xs a false m e = omega arith
+
+pub line-most : (n : Names) (a : Aid) → Fit n → lineOf n a ≤ 64
+line-most n a fit =
+    let l = lines-count n a fit in
+    line-most-case (aidsIn n) a (ltb (seekAid a (aidsIn n)) (length (aidsIn n))) (omega (arith, fit .few)) refl
 
 pub rest-is : (n : Names) (a : Aid) → Fit n → eqb (lineOf n a) 64 ≡ not (isAmong a (aidsIn n))
 rest-is n a fit =
