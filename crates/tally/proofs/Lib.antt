@@ -1,0 +1,5 @@
+-- Laws that several proofs cite.
+pub mod Records
+pub mod Seeking
+pub mod Noting
+pub mod Minutes
