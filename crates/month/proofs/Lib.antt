@@ -1,5 +1,5 @@
 -- The proofs of the statements in specs/.
 pub mod Splits
 pub mod Events
-pub mod Noting
-pub mod Lines
+pub mod Settled
+pub mod Figures

@@ -13,7 +13,7 @@ use Rattle.card.specs.declared.Card.{Card}
 use Rattle.manager.specs.Calls.{Call}
 use Rattle.manager.specs.Manager.{step, run, answers}
 use Rattle.demands.specs.Change.{isTick, ticksAmong}
-use Rattle.tally.specs.Lines.{sameAid, aidsIn}
+use Rattle.tally.specs.Lines.{sameAid, aidsIn, minutesIn}
 use Rattle.tally.specs.declared.Names.{Names}
 use Rattle.tally.specs.declared.Tally.{Tally}
 use Rattle.month.specs.Month.{Counted, atFirst, counting}
@@ -22,10 +22,6 @@ use Rattle.month.specs.Month.{Counted, atFirst, counting}
 unfoldable pub howMany : {A : Type 0} → (A → Bool) → List A → ℕ
 howMany t [] = 0
 howMany t (x ∷ xs) = cond (t x) 1 0 + howMany t xs
-
-unfoldable pub total : List ℕ → ℕ
-total [] = 0
-total (n ∷ ns) = n + total ns
 
 -- the calls counted from a card on
 abbrev pub monthFrom : Card → List Call → Counted
@@ -47,7 +43,7 @@ restTold k = cond (k .tally .names .more) (restOf k) 0
 
 -- "all ticks": the lines and the rest add up to the ticks among the calls, and so many are told
 pub record AddsUp (calls : List Call) (k : Counted) : Type 0 where
-  pub lines : total (minutesOf k) + restTold k ≡ ticksAmong calls
+  pub lines : minutesIn (minutesOf k) + restTold k ≡ ticksAmong calls
   pub ticks : k .tally .ticks ≡ ticksAmong calls
 
 abbrev pub TicksAddUp : Type 0

@@ -23,7 +23,8 @@ use Rattle.month.specs.Month.{Counted, atFirst, counted, counting, timed
 use Rattle.month.specs.Statements.{isAmong, figure, linesOf, restOf, monthFrom}
 use Rattle.month.proofs.Splits.{figure-none, figure-next, figure-same}
 use Rattle.month.proofs.Events.{tick-word}
-use Rattle.month.proofs.Noting.{Fit, Settled, Later, later-self, later-then, line-stays, line-most, none-fit, After, after, line-is, rest-is}
+use Rattle.tally.proofs.Noting.{line-most}
+use Rattle.month.proofs.Settled.{Fit, Settled, Later, later-self, later-then, line-stays, none-fit, After, after, line-is, rest-is}
 
 -- a count on a card: the enabled AID is noted, and there are minutes for each line and for the rest
 pub record Kept (c : Card) (k : Counted) : Type 0 where
@@ -75,7 +76,7 @@ module _ (c : Card) (call : Call) (k : Counted) (kept : Kept c k) where
   -- the minutes after the call
   pub minutes-next : (i : ℕ) → getD (counted c call k .minutes) i 0 ≡ getD (k .minutes) i 0 + cond (change.isTick call && eqb (lineOf (k .tally .names) (enabledAid c)) i) 1 0
   minutes-next i =
-      let m = line-most (k .tally .names) (enabledAid c) (kept .fit) in
+      let m = line-most (k .tally .names) (kept .fit .size) (enabledAid c) in
       rw (← tick-word call) (timed-case (lineOf (k .tally .names) (enabledAid c)) i (k .minutes) (isTick call) (omega (arith, kept .size)))
 
 pub kept-end : (c : Card) (calls : List Call) (k : Counted) → Kept c k → Fit (counting c calls k .tally .names)
