@@ -53,7 +53,7 @@ tick-word (Finished aid policy) = refl
 tick-word Tick = refl
 tick-word Lost = refl
 
-abbrev minute : Bool → ℕ
+abbrev pub minute : Bool → ℕ
 minute b = cond b 1 0
 
 ticks-from : (c : Card) (calls : List Call) (k : Counted) → counting c calls k .tally .ticks ≡ k .tally .ticks + change.ticksAmong calls

@@ -3,3 +3,4 @@ pub mod Splits
 pub mod Events
 pub mod Settled
 pub mod Figures
+pub mod Sums
