@@ -1,6 +1,6 @@
 -- Every call is an event, answered once, and the refusals among the answers are those counted. By induction over the calls, from any
 -- count on. Assumes nothing.
-use mathlib.Core.Path.{_≡_, refl, ap, sym, _∙_}
+use mathlib.Core.Path.{_≡_, refl, ap}
 use Prim.Native.Nat.{ℕ, suc, _+_}
 use native.Mathlib.Omega.{arith}
 use mathlib.Core.List.{List, [], _∷_}

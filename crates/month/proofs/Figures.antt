@@ -1,12 +1,12 @@
 -- What a line says. The enabled AID is already noted when a tick comes, and the line of a noted AID never moves: so a tick is counted on the
 -- line that its AID has at the end, and the minutes of a line are the ticks whose AID has that line then. By induction over the calls, from
 -- any count on. Assumes nothing.
-use mathlib.Core.Path.{_≡_, refl, ap, sym, subst, _∙_}
-use Prim.Native.Nat.{ℕ, zero, suc, _+_, _≤_, _<_}
+use mathlib.Core.Path.{_≡_, refl, ap, sym, _∙_}
+use Prim.Native.Nat.{ℕ, _+_, _<_}
 use native.Mathlib.Omega.{arith}
 use mathlib.Core.List.{List, [], _∷_}
 use mathlib.Core.Bool.{Bool, true, false, not, cond, _&&_}
-use lib.ListN.{length, getD, take, set, length-set, length-replicate, getD-replicate}
+use lib.ListN.{length, getD, length-set, length-replicate, getD-replicate}
 use lib.Seq.{getD-set-same, getD-set-other}
 use lib.Dec.{eqb}
 use borrow.Author.Tests.{eqb-true, eqb-false}
@@ -17,13 +17,15 @@ use Rattle.card.specs.declared.Card.{Card}
 use Rattle.manager.specs.Calls.{Call}
 use Rattle.manager.specs.Manager.{step}
 use Rattle.demands.specs.Change as change
-use Rattle.tally.specs.Lines.{sameAid, aidsIn, lineOf, noNames, noted, minuteOn, noMinutes}
+use Rattle.tally.specs.Lines.{sameAid, aidsIn, lineOf, noNames, noted, minuteOn}
 use Rattle.tally.specs.declared.Names.{Names}
-use Rattle.month.specs.Month.{Counted, atFirst, counted, counting, timed, isTick}
-use Rattle.month.specs.Statements.{isAmong, figure, linesOf, restOf, monthFrom}
+use Rattle.month.specs.Month.{Counted, atFirst, counted, counting, isTick}
+use Rattle.month.specs.Statements.{monthFrom, figure, reached, enabledIn, isAmong, WhatALineSays}
 use Rattle.month.proofs.Splits.{figure-none, figure-next, figure-same}
 use Rattle.month.proofs.Events.{tick-word}
-use Rattle.tally.proofs.Noting.{line-most}
+use Rattle.tally.proofs.Noting.{lines-most, line-most}
+use Rattle.tally.specs.Statements.{notedAll}
+use Rattle.tally.proofs.InOrder.{lines-in-order}
 use Rattle.month.proofs.Settled.{Fit, Settled, Later, later-self, later-then, line-stays, none-fit, After, after, line-is, rest-is}
 
 -- a count on a card: the enabled AID is noted, and there are minutes for each line and for the rest
@@ -105,3 +107,26 @@ figures c (call ∷ calls) k i kept =
     let minutes = minutes-next c call k kept i in
     let same = ap (λ (line : ℕ). cond {A = ℕ} (change.isTick call && eqb line i) 1 0) still in
     omega arith
+
+-- the lines are those of the AIDs enabled, one after the other
+names-from : (c : Card) (calls : List Call) (k : Counted) (n : Names) → k .tally .names ≡ noted n (enabledAid c) → counting c calls k .tally .names ≡ notedAll n (enabledIn c calls)
+unfolding counting notedAll reached
+names-from c [] k n e = e
+names-from c (call ∷ calls) k n e =
+    names-from (step c call .card) calls (counted c call k) (noted n (enabledAid c)) (ap (λ (m : Names). noted m (enabledAid (step c call .card))) e)
+
+pub what-a-line-says : WhatALineSays
+what-a-line-says c calls =
+    let end = monthFrom c calls .tally .names in
+    let names = names-from c calls (atFirst c) noNames refl in
+    let fit = kept-end c calls (atFirst c) (first-kept c) in
+    let told : (i : ℕ) → i < 65 → getD (monthFrom c calls .minutes) i 0 ≡ figure c calls (has end i) = λ i h.
+    let f = figures c calls (atFirst c) i (first-kept c) in
+    let z = getD-replicate {A = ℕ} 65 i 0 0 h in
+    omega arith in
+    record {
+      aids = ap aidsIn names ∙ lines-in-order .first-64 (enabledIn c calls);
+      more = ap (λ (n : Names). n .more) names ∙ lines-in-order .rest-from-65 (enabledIn c calls);
+      line = λ i h. told i (omega (arith, lines-most end (fit .size))) ∙ figure-same c calls (has end i) (sameAid (getD (aidsIn end) i noAid)) (λ a. line-is end i a fit h);
+      rest = told 64 (omega arith) ∙ figure-same c calls (has end 64) (λ a. not (isAmong a (aidsIn end))) (λ a. rest-is end a fit);
+    }

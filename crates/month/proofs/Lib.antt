@@ -4,3 +4,4 @@ pub mod Events
 pub mod Settled
 pub mod Figures
 pub mod Sums
+pub mod Files

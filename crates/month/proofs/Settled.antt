@@ -5,17 +5,17 @@ use Prim.Native.Nat.{ℕ, suc, _≤_, _<_}
 use native.Mathlib.Omega.{arith}
 use mathlib.Core.List.{List, [], _∷_, _++_, append-nil, append-assoc}
 use mathlib.Core.Bool.{Bool, true, false, not, cond, _||_, false≢true}
-use lib.ListN.{length, getD, take, length-set, length-append, length-replicate, length-take, List·getD-append}
+use lib.ListN.{length, getD, length-set, length-append, length-replicate, length-take, List·getD-append}
 use lib.Seq.{getD-append-seam}
 use lib.Dec.{ltb, eqb}
 use borrow.Author.Tests.{ltb-true, ltb-false, lt-ltb, le-ltb, eq-eqb, ne-eqb}
-use Rattle.byte_string.proofs.Alike.{same-self, same-true}
+use Rattle.byte_string.proofs.Alike.{same-true}
 use Rattle.isdp.specs.Aids.{noAid, bytesOf}
 use Rattle.isdp.specs.declared.Aid.{Aid}
 use Rattle.tally.specs.Lines.{sameAid, seekAid, aidsIn, hasLine, lineOf, noNames, noted}
 use Rattle.tally.specs.declared.Names.{Names}
 use Rattle.tally.proofs.Seeking.{seek-kept, seek-last}
-use Rattle.tally.proofs.Noting.{lines-most, withLine, withRest, by-noting, aids-new}
+use Rattle.tally.proofs.Noting.{lines-most, withLine, by-noting, aids-new}
 use Rattle.month.specs.Statements.{isAmong}
 
 -- one that is not found is found where it is put, behind the others

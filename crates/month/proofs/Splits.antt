@@ -1,10 +1,10 @@
--- The splits of a list of calls, and a figure one call at a time: the first call is counted on the card at hand, the others from the card
+-- The splits of a list of calls, the cards reached, and a figure one call at a time: the first call is counted on the card at hand, the others from the card
 -- that it leads to. By induction over the calls. Assumes nothing.
-use mathlib.Core.Path.{_≡_, refl, ap, sym, _∙_}
+use mathlib.Core.Path.{_≡_, refl, ap, _∙_}
 use Prim.Native.Nat.{ℕ, zero, suc, _+_, _<_}
 use native.Mathlib.Omega.{arith}
 use mathlib.Core.List.{List, [], _∷_, _++_, map}
-use mathlib.Core.Bool.{Bool, true, false, cond, _&&_}
+use mathlib.Core.Bool.{Bool, cond, _&&_}
 use lib.ListN.{length, getD, length-map, length-append}
 use Rattle.isdp.specs.declared.Aid.{Aid}
 use Rattle.card.specs.Cards.{enabledAid}
@@ -12,7 +12,7 @@ use Rattle.card.specs.declared.Card.{Card}
 use Rattle.manager.specs.Calls.{Call}
 use Rattle.manager.specs.Manager.{step, run}
 use Rattle.demands.specs.Change.{isTick}
-use Rattle.month.specs.Statements.{howMany, Split, joined, behind, splits, EverySplit, countsFor, figure}
+use Rattle.month.specs.Statements.{howMany, Split, joined, behind, splits, EverySplit, countsFor, figure, reached, EveryCard}
 
 as-many : (calls : List Call) → length (splits calls) ≡ length calls
 unfolding splits
@@ -62,6 +62,25 @@ every-split =
       once = once;
       all = λ s none. all-from (s .before) (s .this) (s .after) none;
     }
+
+-- the cards reached
+cards-as-many : (c : Card) (calls : List Call) → length (reached c calls) ≡ length calls + 1
+unfolding reached
+cards-as-many c [] = refl
+cards-as-many c (call ∷ calls) = let e = cards-as-many (step c call .card) calls in omega arith
+
+cards-first : (c none : Card) (calls : List Call) → getD (reached c calls) 0 none ≡ c
+unfolding reached
+cards-first c none [] = refl
+cards-first c none (call ∷ calls) = refl
+
+cards-all : (c none : Card) (before after : List Call) → getD (reached c (before ++ after)) (length before) none ≡ run c before
+unfolding reached run
+cards-all c none [] after = cards-first c none after
+cards-all c none (call ∷ before) after = cards-all (step c call .card) none before after
+
+pub every-card : EveryCard
+every-card = record { as-many = cards-as-many; all = cards-all }
 
 -- counting what is mapped, and by two tests that agree
 pub many-map : {A B : Type 0} (f : A → B) (t : B → Bool) (l : List A) → howMany t (map f l) ≡ howMany (λ x. t (f x)) l

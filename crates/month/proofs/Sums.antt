@@ -3,9 +3,9 @@
 use mathlib.Core.Path.{_≡_, refl, ap, sym, subst, _∙_}
 use Prim.Native.Nat.{ℕ, zero, suc, _+_, _≤_, _<_}
 use native.Mathlib.Omega.{arith}
-use mathlib.Core.List.{List, [], _∷_, _++_}
+use mathlib.Core.List.{List, [], _∷_}
 use mathlib.Core.Bool.{Bool, true, false, cond, false≢true}
-use lib.ListN.{length, getD, take, length-append, length-take, replicate, length-replicate, getD-replicate, length-set}
+use lib.ListN.{length, getD, take, length-append, length-take, length-replicate, getD-replicate, length-set}
 use lib.Seq.{getD-set-same, getD-set-other, take-set-le}
 use Rattle.isdp.specs.declared.Aid.{Aid}
 use Rattle.card.specs.Cards.{enabledAid}
@@ -17,7 +17,7 @@ use Rattle.tally.specs.Lines.{seekAid, aidsIn, lineOf, noNames, noted, minuteOn
 use Rattle.tally.specs.declared.Names.{Names}
 use Rattle.tally.proofs.Noting.{lines-most, withLine, withRest, by-noting, aids-new}
 use Rattle.month.specs.Month.{Counted, atFirst, counted, counting, isTick}
-use Rattle.month.specs.Statements.{AddsUp, TicksAddUp}
+use Rattle.month.specs.Statements.{TicksAddUp}
 use Rattle.month.proofs.Events.{minute, tick-word, ticks-told}
 use Rattle.month.proofs.Settled.{Fit, Settled, Settled.on-line, Settled.in-rest, line-found, line-rest, none-fit}
 use Rattle.month.proofs.Figures.{Kept, first-kept, kept-next}
