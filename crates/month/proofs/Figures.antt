@@ -69,7 +69,7 @@ module _ (c : Card) (call : Call) (k : Counted) (kept : Kept c k) where
       record {
         fit = noted-next .fits;
         settled = noted-next .settled;
-        size = timed-size-case (lineOf (k .tally .names) (enabledAid c)) (k .minutes) (isTick call) ∙ kept .size;
+        size = timed-size-case _ (k .minutes) (isTick call) ∙ kept .size;
       }
 
   pub later-next : Later (k .tally .names) (counted c call k .tally .names)
