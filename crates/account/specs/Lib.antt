@@ -1,0 +1,2 @@
+-- docs/EVENTS.md: what is written of a file.
+pub mod Refusals
