@@ -46,7 +46,7 @@ digits-length (suc k) n =
 pub decimal-length : (n : ℕ) → length (decimalText n) ≤ 20
 decimal-length n = digits-length 19 n
 
-aid-length : (a : Aid) → length (a .bytes) ≤ 16 → length (aidText a) ≤ 32
+pub aid-length : (a : Aid) → length (a .bytes) ≤ 16 → length (aidText a) ≤ 32
 aid-length a h = simp (hex-length, length-take) (omega arith)
 
 pub spaces-length : (n : ℕ) → length (spaces n) ≡ n
@@ -136,7 +136,7 @@ lead-small n =
     (λ l. by-lt (λ (k : ℕ). k ≤ 6) n 100000 (λ m. omega arith)
     (λ m. by-lt (λ (k : ℕ). k ≤ 6) n 1000000 (λ o. omega arith) (λ o. omega arith))))))
 
-column-length : (n : ℕ) → length (columnText n) ≤ 26
+pub column-length : (n : ℕ) → length (columnText n) ≤ 26
 unfolding columnText
 column-length n = simp (length-append, spaces-length) (omega (arith, lead-small n, decimal-length n))
 

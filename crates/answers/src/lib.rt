@@ -5,5 +5,8 @@ mod explained;
 mod line;
 mod table;
 
+pub use cells::put_column;
+pub use cells::put_spaces;
 pub use explained::write_explained;
+pub use line::put_aid;
 pub use line::write_answer;

@@ -98,7 +98,8 @@ module _ (n : Names) (f : length (n .aids) ≡ mostLines) where
   unfolding firsts
   lined-none =
       let e : ahead n [] ≡ aidsIn n = rw (but-none (aidsIn n)) (append-nil (aidsIn n)) in
-      let h = lines-most n f in
+      let m = lines-most n f in
+      let h : length (aidsIn n) ≤ 64 = omega arith in
       record { aids = rw (e, take-all 64 (aidsIn n) h) refl; rest = rw (e, le-ltb 64 (length (aidsIn n)) h) (sym (or-false (n .more))) }
 
   module _ (a : Aid) (l : List Aid) where

@@ -1,0 +1,59 @@
+-- docs/EVENTS.md: the two reports of the page, byte for byte, and what the share of some minutes is. By computing.
+use mathlib.Core.Path.{_≡_}
+use Prim.Native.Nat.{ℕ}
+use mathlib.Core.List.{List, [], _∷_, _++_}
+use mathlib.Core.Bool.{Bool, true, false}
+use lib.ListN.{replicate}
+use Rattle.isdp.specs.Aids.{noAid, named}
+use Rattle.isdp.specs.declared.Aid.{Aid}
+use Rattle.answers.specs.Letters.{text}
+use Rattle.tally.specs.declared.Tally.{Tally}
+use Rattle.report.specs.Report.{shareText, reportText}
+
+abbrev pub aidEnding : ℕ → Aid
+aidEnding n = named (0xA0 ∷ 0x00 ∷ 0x00 ∷ 0x00 ∷ n ∷ [])
+
+-- the tally of the page; without ticks, and with no rest, the second
+abbrev pub tallyOf : Bool → ℕ → Tally
+tallyOf more ticks =
+    record {
+      names = record { aids = aidEnding 1 ∷ aidEnding 2 ∷ replicate 62 noAid; count = 2; more = more };
+      ticks = ticks;
+      events = 41;
+      refused = 3;
+    }
+
+abbrev pub minutesOf : ℕ → ℕ → ℕ → List ℕ
+minutesOf first second rest = first ∷ second ∷ (replicate 62 0 ++ rest ∷ [])
+
+pub record Shown : Type 0 where
+  pub plain :
+      reportText false (tallyOf true 25) (minutesOf 10 10 5)
+      ≡ text "A000000001 10\n"
+      ++ text "A000000002 10\n"
+      ++ text "rest 5\n"
+      ++ text "ticks 25\n"
+      ++ text "events 41\n"
+  pub explained :
+      reportText true (tallyOf true 25) (minutesOf 10 10 5)
+      ≡ text "AID                               minutes   share\n"
+      ++ text "A000000001                             10   40.0%\n"
+      ++ text "A000000002                             10   40.0%\n"
+      ++ text "rest                                    5   20.0%\n"
+      ++ text "ticks                                  25\n"
+      ++ text "events                                 41\n"
+      ++ text "refused                                 3\n"
+  -- one with no tick has a line with 0; where the file has no ticks the share is `-`; there is no rest
+  pub no-ticks :
+      reportText true (tallyOf false 0) (minutesOf 0 0 0)
+      ≡ text "AID                               minutes   share\n"
+      ++ text "A000000001                              0       -\n"
+      ++ text "A000000002                              0       -\n"
+      ++ text "ticks                                   0\n"
+      ++ text "events                                 41\n"
+      ++ text "refused                                 3\n"
+  -- rounded to the nearest tenth, a half upwards
+  pub all-of-it : shareText 7 7 ≡ text "  100.0%"
+  pub two-thirds : shareText 2 3 ≡ text "   66.7%"
+  pub half-a-tenth : shareText 1 2000 ≡ text "    0.1%"
+  pub under-half : shareText 1 2001 ≡ text "    0.0%"
