@@ -32,7 +32,7 @@ use Rattle.responses.specs.Responses.{statusBody, statusRow, rowOf, rowsFrom, s
 use Rattle.manager.specs.Manager.{step}
 use Rattle.demands.specs.Examples.{aid}
 use Rattle.tally.specs.Lines.{seekAid}
-use Rattle.month.specs.Month.{Counted, counting}
+use Rattle.month.specs.Month.{Counted, fileCounted, counting}
 use Rattle.month.specs.Statements.{monthFrom, linesIn, minutesOf}
 use Rattle.event_file.specs.File.{fileCalls}
 use Rattle.totals.specs.Reports.{Report, onFile, MeetsLines}
@@ -67,12 +67,15 @@ computed =
 on-file : (report : Report) → onFile report file ≡ report start calls
 on-file report = ap (λ (c : Card). report c (fileCalls file)) (read .card) ∙ ap (report start) (read .calls)
 
+month-on-file : fileCounted file ≡ monthFrom start calls
+month-on-file = rw (read .accepted) (on-file monthFrom)
+
 pub beside : Beside
 beside =
     record {
       accepted = read .accepted;
-      lines = ap linesIn (on-file monthFrom) ∙ computed .lines;
-      enabled = ap minutesOf (on-file monthFrom) ∙ computed .enabled;
+      lines = ap linesIn month-on-file ∙ computed .lines;
+      enabled = ap minutesOf month-on-file ∙ computed .enabled;
       last-named = ap minutesOf (on-file namedReport) ∙ computed .last-named;
       enabled-after = ap minutesOf (on-file afterReport) ∙ computed .enabled-after;
     }
@@ -81,7 +84,7 @@ beside =
 first-line : (report : Report) → MeetsLines report → getD (report start calls .minutes) 0 0 ≡ 5
 first-line report meets =
     let same = one-report monthFrom report month-meets meets file (read .accepted) in
-    let two = ap length (beside .lines) in
+    let two = ap (λ (k : Counted). length (linesIn k)) (on-file monthFrom) ∙ ap length (computed .lines) in
     sym (ap (λ (k : Counted). getD (k .minutes) 0 0) (on-file report))
     ∙ sym (same .line 0 (omega arith))
     ∙ ap (λ (k : Counted). getD (k .minutes) 0 0) (on-file monthFrom)

@@ -17,7 +17,7 @@ use Rattle.tally.specs.Lines.{lineOf, minuteOn}
 use Rattle.demands.specs.Examples.{aid}
 use Rattle.event_file.specs.File.{verdictOf}
 use Rattle.event_file.specs.declared.Verdict.the-variants.{Accepted}
-use Rattle.month.specs.Month.{Counted, atFirst, tallied, monthOf}
+use Rattle.month.specs.Month.{Counted, atFirst, tallied, fileCounted}
 use Rattle.month.specs.Statements.{linesIn, minutesOf}
 use Rattle.totals.specs.Reports.{Report, onFile, MeetsLines}
 use Rattle.totals.specs.RollBack as rollBack
@@ -75,8 +75,8 @@ afterReport c calls = countingAfter c calls (atFirst c)
 -- of the one enabled after
 pub record Beside : Type 0 where
   pub accepted : verdictOf rollBack.file ≡ Accepted
-  pub lines : linesIn (monthOf rollBack.file) ≡ named (aid 1) ∷ named (aid 2) ∷ []
-  pub enabled : minutesOf (monthOf rollBack.file) ≡ 5 ∷ 10 ∷ []
+  pub lines : linesIn (fileCounted rollBack.file) ≡ named (aid 1) ∷ named (aid 2) ∷ []
+  pub enabled : minutesOf (fileCounted rollBack.file) ≡ 5 ∷ 10 ∷ []
   pub last-named : minutesOf (onFile namedReport rollBack.file) ≡ 0 ∷ 15 ∷ []
   pub enabled-after : minutesOf (onFile afterReport rollBack.file) ≡ 6 ∷ 9 ∷ []
 
