@@ -4,9 +4,9 @@
 use byte_string::part_of;
 use card::Card;
 use event_file::Verdict;
+use event_file::open;
 use events::Next;
 use events::next_event;
-use isdp::Aid;
 use manager::Call;
 use manager::answer_on_sound;
 use status::Status;
@@ -15,15 +15,12 @@ use tally::Tally;
 ghost use mathlib.Core.Path.{_≡_};
 ghost use mathlib.Core.List.{[]};
 ghost use mathlib.Core.Bool.{cond};
-ghost use Prim.Native.Nat.{_≤_};
-ghost use lib.ListN.{length};
 ghost use Rattle.status.specs.StatusWords.{isDone};
 ghost use Rattle.demands.specs.Change.{isTick};
 ghost use Rattle.manager.specs.Calls.{callOf};
-ghost use Rattle.events.specs.Events.{nextOf, eventsOf, callsOf};
-ghost use Rattle.tally.specs.Lines.{lineOf, noNames, noted, noMinutes, minuteOn};
-ghost use Rattle.event_file.specs.File.{openedOf};
-ghost use Rattle.month.specs.Month.{atFirst, counting, fileMonth, fileCounted};
+ghost use Rattle.events.specs.Events.{eventsOf, callsOf};
+ghost use Rattle.tally.specs.Lines.{minuteOn};
+ghost use Rattle.month.specs.Month.{atFirst, counting, nothing, fileMonth, fileCounted};
 ghost use Rattle.month.specs.Loop.{Countable, Line};
 
 // The verdict on a file and its tally; the minutes stand in lent memory.
@@ -110,4 +107,37 @@ fn count(card: Card, body: &[u8], minutes: &mut [u32; 65]) -> Tally
         card = after;
         at = stop;
     }
+}
+
+// Nothing counted.
+fn nothing() -> Tally
+    ensures { λ r. ⌜ r ≡ nothing .tally ⌝ }
+{
+    let names = Names::none();
+    Tally {
+        names,
+        ticks: 0,
+        events: 0,
+        refused: 0,
+    }
+}
+
+// A file counted: the minutes of each line and of the rest are left in the memory lent, whatever was there. Of a refused file nothing is
+// counted, and no event is run.
+pub fn count_month(s: &[u8], minutes: &mut [u32; 65]) -> Month
+    ensures { λ r. ⌜ (r ≡ fileMonth (now (s .entry))) × (now (minutes .exit) ≡ fileCounted (now (s .entry)) .minutes) ⌝ }
+{
+    *minutes = [0u32; 65];
+    let opened = open(s);
+    let verdict = opened.verdict;
+    let Verdict::Accepted = verdict else {
+        return Month {
+            verdict,
+            tally: nothing(),
+        };
+    };
+    let card = opened.card;
+    let events = opened.events;
+    let tally = count(card, part_of(s, events), minutes);
+    Month { verdict, tally }
 }
