@@ -1,8 +1,8 @@
 -- The wrong reports on the file of an enable that rolls back, by computing: the month's lines say what they should, so a report whose lines do
 -- too would tell its minutes, and neither does. Assumes nothing.
+use Prim.Native.Nat.{ℕ}
 use mathlib.Core.Path.{_≡_, refl, ap, sym, _∙_}
 use native.Mathlib.Omega.{arith}
-use mathlib.Core.List.{[], _∷_}
 use lib.ListN.{length, getD}
 use Rattle.byte_string.specs.Bytes.{sameBytes}
 use Rattle.status.specs.Rows.{wordOf}
@@ -30,38 +30,24 @@ use Rattle.command.specs.Framing.{lengthWrong, classRight, classWrong, instruct
 use Rattle.command.specs.Requests.{fieldOf, dataWrong}
 use Rattle.responses.specs.Responses.{statusBody, statusRow, rowOf, rowsFrom, statusResponse, oneStatus, dataResponse, deletedResponse}
 use Rattle.manager.specs.Manager.{step}
-use Rattle.demands.specs.Examples.{aid}
 use Rattle.tally.specs.Lines.{seekAid}
 use Rattle.month.specs.Month.{Counted, counting}
-use Rattle.month.specs.Statements.{monthFrom, linesIn, minutesOf}
+use Rattle.month.specs.Statements.{monthFrom, linesIn}
 use Rattle.event_file.specs.File.{fileCalls}
 use Rattle.totals.specs.Reports.{Report, onFile, MeetsLines}
 use Rattle.totals.specs.RollBack.{file}
-use Rattle.totals.specs.WrongReports.{countingNamed, namedReport, countingAfter, afterReport, Beside, WrongReports}
+use Rattle.totals.specs.WrongReports.{countingNamed, namedReport, countingAfter, afterReport, told, Beside, WrongReports}
 use Rattle.totals.proofs.Reports.{month-meets, one-report}
 use Rattle.totals.proofs.RollBack.{start, calls, read}
 
 record Computed : Type 0 where
-  lines : linesIn (monthFrom start calls) ≡ named (aid 1) ∷ named (aid 2) ∷ []
-  enabled : minutesOf (monthFrom start calls) ≡ 5 ∷ 10 ∷ []
-  last-named : minutesOf (namedReport start calls) ≡ 0 ∷ 15 ∷ []
-  enabled-after : minutesOf (afterReport start calls) ≡ 6 ∷ 9 ∷ []
-  first : getD (monthFrom start calls .minutes) 0 0 ≡ 5
-  first-named : getD (namedReport start calls .minutes) 0 0 ≡ 0
-  first-after : getD (afterReport start calls .minutes) 0 0 ≡ 6
+  enabled : monthFrom start calls ≡ told 5 10
+  last-named : namedReport start calls ≡ told 0 15
+  enabled-after : afterReport start calls ≡ told 6 9
 
 computed : Computed
 unfolding counting countingNamed countingAfter seekAid step wordOf sameBytes padded isFor clash zeros placeOk seek quotas allOf anyOf countOf distinct allOff enableAt phaseOk sound tickOf lostOf confirmOf tickStep lostStep confirmStep noticeSince stepsIn ticksToCome refused accepted freshOutcome pick atMost isBelow isSame tagAt lengthAt afterLength afterTag headAt expectOf expectAt aloneAt dgiAt confirmationAt namedBy storeDataAt verificationAt deletionAt noted listedWithin listedAt tagsAt listingAt protocolsWithin protocolsAt numberAt grantOf memoryAt parametersAt prefixedOf prefixedAt namesAt rightsAt installOf lengthWrong classRight classWrong instructionWrong parametersRight parametersWrong shapeRight shapeWrong fieldOf dataWrong statusBody statusRow rowOf rowsFrom statusResponse oneStatus dataResponse deletedResponse listWrong listAt listWithin listOf elementOf restOf closed
-computed =
-    record {
-      lines = refl;
-      enabled = refl;
-      last-named = refl;
-      enabled-after = refl;
-      first = refl;
-      first-named = refl;
-      first-after = refl;
-    }
+computed = record { enabled = refl; last-named = refl; enabled-after = refl }
 
 -- a report on the file is the report on its card and calls
 on-file : (report : Report) → onFile report file ≡ report start calls
@@ -71,25 +57,22 @@ pub beside : Beside
 beside =
     record {
       accepted = read .accepted;
-      lines = ap linesIn (on-file monthFrom) ∙ computed .lines;
-      enabled = ap minutesOf (on-file monthFrom) ∙ computed .enabled;
-      last-named = ap minutesOf (on-file namedReport) ∙ computed .last-named;
-      enabled-after = ap minutesOf (on-file afterReport) ∙ computed .enabled-after;
+      enabled = rw (read .accepted) (on-file monthFrom ∙ computed .enabled);
+      last-named = on-file namedReport ∙ computed .last-named;
+      enabled-after = on-file afterReport ∙ computed .enabled-after;
     }
 
--- what F has on the file, in a report whose lines say what they should
-first-line : (report : Report) → MeetsLines report → getD (report start calls .minutes) 0 0 ≡ 5
-first-line report meets =
+-- a report whose lines say what they should tells five minutes of F
+refuted : (report : Report) (first second : ℕ) → onFile report file ≡ told first second → (5 ≡ first → ⊥) → MeetsLines report → ⊥
+refuted report first second e n meets =
     let same = one-report monthFrom report month-meets meets file (read .accepted) in
-    let two = ap length (beside .lines) in
-    sym (ap (λ (k : Counted). getD (k .minutes) 0 0) (on-file report))
-    ∙ sym (same .line 0 (omega arith))
-    ∙ ap (λ (k : Counted). getD (k .minutes) 0 0) (on-file monthFrom)
-    ∙ computed .first
+    let month = on-file monthFrom ∙ computed .enabled in
+    let two = ap (λ (k : Counted). length (linesIn k)) month in
+    n (sym (ap (λ (k : Counted). getD (k .minutes) 0 0) month) ∙ same .line 0 (omega arith) ∙ ap (λ (k : Counted). getD (k .minutes) 0 0) e)
 
 pub wrong-reports : WrongReports
 wrong-reports =
     record {
-      named = λ meets. let e = first-line namedReport meets in let f = computed .first-named in absurd (omega arith);
-      after = λ meets. let e = first-line afterReport meets in let f = computed .first-after in absurd (omega arith);
+      named = refuted namedReport 0 15 (beside .last-named) (λ e. absurd (omega arith));
+      after = refuted afterReport 6 9 (beside .enabled-after) (λ e. absurd (omega arith));
     }
