@@ -95,10 +95,10 @@ ends-in (x ∷ y ∷ z ∷ r) w h k =
     ∙ ap (λ (v : ℕ). x ∷ v ∷ length (take n r) % 256 ∷ r) high
     ∙ ap (λ (v : ℕ). x ∷ y ∷ v ∷ r) low
 
-bytes-drop : (n : ℕ) (b : List ℕ) → Bytes b → Bytes (drop n b)
+pub bytes-drop : (n : ℕ) (b : List ℕ) → Bytes b → Bytes (drop n b)
 bytes-drop n b w i = let e = getD-drop n b i 0 in let h = w (n + i) in omega arith
 
-bytes-take : (n : ℕ) (b : List ℕ) → Bytes b → Bytes (take n b)
+pub bytes-take : (n : ℕ) (b : List ℕ) → Bytes b → Bytes (take n b)
 bytes-take n b w i =
     on-lt i n
     (λ h. let e = getD-take n b i 0 h in let k = w i in omega arith)
