@@ -3,3 +3,4 @@ pub mod Opening
 pub mod Accepted
 pub mod Bodies
 pub mod Grammar
+pub mod Refusals

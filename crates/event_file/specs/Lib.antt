@@ -2,3 +2,4 @@
 pub mod Inputs
 pub mod File
 pub mod Grammar
+pub mod Refusals

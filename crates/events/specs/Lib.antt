@@ -2,3 +2,4 @@
 pub mod Kinds
 pub mod Events
 pub mod Written
+pub mod Examples
