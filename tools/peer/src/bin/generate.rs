@@ -1,6 +1,7 @@
-//! `generate SEED CALLS [bad]`: writes one script of about CALLS calls, the same for the same seed.
+//! `generate SEED CALLS [bad | month]`: writes one script of about CALLS calls, the same for the same seed.
 //! It plays each line on the peer's own card as it writes it, so that most calls meet a card on
-//! which they matter; with `bad`, the script ends in a line that cannot be read.
+//! which they matter; with `bad`, the script ends in a line that cannot be read; with `month`, it is
+//! one fresh card and what an event file can hold.
 
 // The generator needs only part of each module it shares with the peer.
 #![allow(dead_code)]
@@ -75,6 +76,8 @@ struct Generator {
     aids: Vec<Vec<u8>>,
     out: String,
     calls: usize,
+    /// Commands may say how long their buffer is, as those of an event file may not.
+    has_lengths: bool,
 }
 
 impl Generator {
@@ -384,6 +387,7 @@ impl Generator {
         }
         let odd = self.random.number(0, 300);
         let length = match self.random.below(100) {
+            _ if !self.has_lengths => String::new(),
             0..=2 => format!(" {}", self.random.pick(&[0, 1, 254, 255])),
             3..=6 => format!(" {}", self.random.pick(&[256, 257, 1024])),
             7 => format!(" {odd}"),
@@ -688,6 +692,25 @@ impl Generator {
         }
     }
 
+    fn chapters(&mut self, most: usize) {
+        while self.calls < most {
+            self.chapter(most);
+        }
+    }
+
+    /// From one fresh card on, with more ticks than a chapter has. A card on which nothing can be done gets no long month.
+    fn month(&mut self, most: usize) {
+        self.has_lengths = false;
+        self.new_aids();
+        self.fresh();
+        while self.calls < most && !(self.is_stuck() && self.random.chance(10)) {
+            self.call();
+            if self.random.chance(15) {
+                self.ticks();
+            }
+        }
+    }
+
     fn bad_line(&mut self) -> String {
         let eid = "00".repeat(16);
         let rest = " -".repeat(PLACES - 1);
@@ -759,7 +782,7 @@ fn main() -> ExitCode {
     let arguments: Vec<String> = std::env::args().skip(1).collect();
     let number = |index: usize| arguments.get(index).and_then(|word| word.parse::<u64>().ok());
     let (Some(seed), Some(calls)) = (number(0), number(1)) else {
-        eprintln!("usage: generate SEED CALLS [bad]");
+        eprintln!("usage: generate SEED CALLS [bad | month]");
         return ExitCode::from(2);
     };
     let mut generator = Generator {
@@ -768,11 +791,15 @@ fn main() -> ExitCode {
         aids: Vec::new(),
         out: String::new(),
         calls: 0,
+        has_lengths: true,
     };
-    while generator.calls < calls as usize {
-        generator.chapter(calls as usize);
+    let mode = arguments.get(2).map_or("", String::as_str);
+    if mode == "month" {
+        generator.month(calls as usize);
+    } else {
+        generator.chapters(calls as usize);
     }
-    if arguments.get(2).is_some_and(|word| word == "bad") {
+    if mode == "bad" {
         let line = generator.bad_line();
         generator.out.push_str(&line);
         generator.out.push_str("\ntick\n");
