@@ -307,6 +307,8 @@ reported("deleted-at-confirmation-and-created-again", of(self_gone + profile(2) 
 reported("not-deleted-where-it-rolls-back", of(profile(2, 4) + enables(2) + confirms(1) + ticks() + enables(1) + ticks(12)), {1: 10, 2: 3}, 20)
 kept = profile(2, 2) + enables(2) + ticks(3) + confirms(1) + enables(1) + confirms(2) + deletes(2)
 reported("deleted-by-master-delete", of(kept + master(2, 0) + master(2, 2) + master(2, 1) + deletes(2) + ticks()), {1: 1, 2: 3}, 17, no=4)
+reported("master-delete-without-its-verdict", of(profile(2) + master(2, 0) + master(2, 2) + enables(2) + ticks(2)), {1: 0, 2: 2}, 9, no=2)
+reported("master-delete-with-its-verdict", of(profile(2) + master(2, 1) + enables(2) + ticks(2)), {1: 2}, 8, no=1)
 
 # ---------------------------------------------------------------- AIDs that are nearly the same
 
