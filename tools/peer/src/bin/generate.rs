@@ -698,15 +698,26 @@ impl Generator {
         }
     }
 
-    /// From one fresh card on, with more ticks than a chapter has. A card on which nothing can be done gets no long month.
+    /// From one fresh card on, with more ticks than a chapter has. Where nothing can be done any more the month
+    /// ends, or mostly another one is begun in its place.
     fn month(&mut self, most: usize) {
         self.has_lengths = false;
-        self.new_aids();
-        self.fresh();
-        while self.calls < most && !(self.is_stuck() && self.random.chance(10)) {
-            self.call();
-            if self.random.chance(15) {
-                self.ticks();
+        loop {
+            self.out.clear();
+            self.calls = 0;
+            self.new_aids();
+            self.fresh();
+            while self.calls < most {
+                self.call();
+                if self.random.chance(15) {
+                    self.ticks();
+                }
+                if self.is_stuck() {
+                    break;
+                }
+            }
+            if self.calls >= most || self.random.chance(10) {
+                return;
             }
         }
     }
