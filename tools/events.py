@@ -41,6 +41,7 @@ class Unfit(Exception):
 
     def __init__(self, line, reason):
         super().__init__(f"line {line}: {reason}")
+        self.line = line
 
 
 def hex_bytes(word):

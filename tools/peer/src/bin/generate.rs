@@ -76,8 +76,8 @@ struct Generator {
     aids: Vec<Vec<u8>>,
     out: String,
     calls: usize,
-    /// Commands may say how long their buffer is, as those of an event file may not.
-    has_lengths: bool,
+    /// The script is to be an event file: no command says how long its buffer is.
+    is_month: bool,
 }
 
 impl Generator {
@@ -387,7 +387,7 @@ impl Generator {
         }
         let odd = self.random.number(0, 300);
         let length = match self.random.below(100) {
-            _ if !self.has_lengths => String::new(),
+            _ if self.is_month => String::new(),
             0..=2 => format!(" {}", self.random.pick(&[0, 1, 254, 255])),
             3..=6 => format!(" {}", self.random.pick(&[256, 257, 1024])),
             7 => format!(" {odd}"),
@@ -465,7 +465,10 @@ impl Generator {
     }
 
     fn set_fall_back(&mut self) {
-        let aid = self.target(|_, place| matches!(place.life_cycle, DISABLED | ENABLED));
+        // A fall-back that forbids disabling is the last profile of a month.
+        let forbidden = if self.is_month { DISABLING_FORBIDDEN } else { 0 };
+        let suits = |place: &Place| matches!(place.life_cycle, DISABLED | ENABLED) && place.policy & forbidden == 0;
+        let aid = self.target(|_, place| suits(place));
         self.store_data(5, tlv(&[0x4F], &aid));
     }
 
@@ -701,7 +704,6 @@ impl Generator {
     /// From one fresh card on, with more ticks than a chapter has. Where nothing can be done any more the month
     /// ends, or mostly another one is begun in its place.
     fn month(&mut self, most: usize) {
-        self.has_lengths = false;
         loop {
             self.out.clear();
             self.calls = 0;
@@ -796,16 +798,16 @@ fn main() -> ExitCode {
         eprintln!("usage: generate SEED CALLS [bad | month]");
         return ExitCode::from(2);
     };
+    let mode = arguments.get(2).map_or("", String::as_str);
     let mut generator = Generator {
         random: Random(seed),
         model: Script::new(Options::default()),
         aids: Vec::new(),
         out: String::new(),
         calls: 0,
-        has_lengths: true,
+        is_month: mode == "month",
     };
-    let mode = arguments.get(2).map_or("", String::as_str);
-    if mode == "month" {
+    if generator.is_month {
         generator.month(calls as usize);
     } else {
         generator.chapters(calls as usize);
