@@ -139,3 +139,7 @@ def event_files(seed, script):
     yield from wrong_events(chance, inputs, events)
     yield "crowd", crowd(chance, chance.choice(CROWDS))
     yield "full", full(chance, inputs, events)
+    # Of these wholes many shares are halves of a tenth of a percent.
+    whole = chance.choice((16, 48, 80, 400, 2000))
+    here = chance.randrange(whole + 1)
+    yield "shares", shared(here, whole - here)

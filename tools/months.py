@@ -350,12 +350,6 @@ reported("200-aids", of(through(200)), line_each(64), 1393, rest=136)
 
 # ---------------------------------------------------------------- shares, and the month of the examples
 
-
-def shared(here, there):
-    """So many ticks of 01, so many of 02."""
-    return of(profile(2) + ticks(here) + enables(2) + confirms(1) + ticks(there))
-
-
 reported("shares-of-a-third", shared(2, 1), {1: 2, 2: 1}, 9)
 # 6.25 and 93.75 are halves of a tenth: both go up.
 reported("shares-of-a-sixteenth", shared(15, 1), {1: 15, 2: 1}, 22)

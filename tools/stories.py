@@ -82,3 +82,8 @@ def parade(names, count=1, stay=1):
 
 def of(events, one=inputs()):
     return event_file(one, b"".join(events))
+
+
+def shared(here, there):
+    """A file with so many ticks of 01 and so many of 02."""
+    return of(profile(2) + ticks(here) + enables(2) + confirms(1) + ticks(there))
