@@ -1,0 +1,3 @@
+-- docs/EVENTS.md, 'The file': its table of contents.
+pub mod Below
+pub mod Contents

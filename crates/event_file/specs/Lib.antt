@@ -1,0 +1,3 @@
+-- docs/EVENTS.md: the event file as a whole.
+pub mod Inputs
+pub mod File

@@ -1,0 +1,3 @@
+-- docs/EVENTS.md, 'The file': the events.
+pub mod Kinds
+pub mod Events

@@ -1,0 +1,2 @@
+-- docs/EVENTS.md, 'The report': the lines.
+pub mod Lines
