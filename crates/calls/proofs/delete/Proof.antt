@@ -1,15 +1,13 @@
--- `steps::disable`: the rows of the change, the target, its state (it is not the fall-back) and its policy, each passed or stopped at.
+-- `calls::delete`: the rows of the change, the target, whether it may be deleted and its policy, each passed or stopped at.
 use mathlib.Core.Path.{_≡_, sym, _∙_}
-use mathlib.Core.Bool.{Bool, true, false, not, _&&_}
-use lib.Dec.{eqb}
+use mathlib.Core.Bool.{true}
 use borrow.Author.Tests.{not-true, not-false}
 use Rattle.status.specs.Rows.{wordOf}
-use Rattle.isdp.specs.LifeCycle.{isEnabled}
-use Rattle.card.specs.Cards.{isQuiet, profileOf}
-use Rattle.steps.proofs.Targets.{Target, absent, found, read}
+use Rattle.card.specs.Cards.{isQuiet}
+use Rattle.steps.proofs.Targets.{Target, absent, found}
 use borrow.Author.Needs.{needs}
-use Rattle.steps.proofs.disable.Statement.{statement}
-use Rattle.steps.proofs.disable.Tie as tie
+use Rattle.calls.proofs.delete.Statement.{statement}
+use Rattle.calls.proofs.delete.Tie as tie
 
 abbrev start : tie.Else1 → tie.Start
 start c = c .before .before .before
@@ -22,12 +20,6 @@ asking c = c .before .before .before .before
 
 target : (c : tie.After-known-told) → Target (start (asking c) .args .card) (start (asking c) .args .aid .now) (c .before .t .given .0 .0)
 target c = found _ _ (start (asking c) .good .0) (c .before .before .before .place-of .ensures) (c .before .t .given .1)
-
-profile : (c : tie.After-profile) → profileOf (start (asking (c .before)) .args .card) (start (asking (c .before)) .args .aid .now) ≡ c .profile .result
-profile c = read (target (c .before)) (c .profile .ensures)
-
-abbrev leaves : tie.After-profile → Bool
-leaves c = isEnabled (c .profile .result) && not (eqb (c .before .before .t .given .0 .0) (start (asking (c .before)) .args .card .fallback))
 
 returns : tie.Need-returns
 unfolding wordOf
@@ -43,36 +35,30 @@ returns-2 c =
 returns-3 : tie.Need-returns-3
 unfolding wordOf
 returns-3 c =
-    let p = c .before .before .before .before in
-    let k = p .before in
-    let n : leaves p ≡ false = not-true _ (c .before .if2 .taken) in
-    rw (quiet (asking k), target k .there, profile p, target k .place, n) (c .refused3 .ensures)
-
-abbrev reading : tie.After-forbids-disabling → tie.After-profile
-reading c = c .before .before .before .before
-
-state : (c : tie.After-forbids-disabling) → leaves (reading c) ≡ true
-state c = not-false _ (c .before .if2 .left)
+    let m = c .before .before in
+    let k = m .before in
+    rw (quiet (asking k), target k .there, target k .place, sym (m .may-be-deleted .ensures) ∙ not-true _ (c .before .if2 .taken)) (c .refused3 .ensures)
 
 returns-4 : tie.Need-returns-4
 unfolding wordOf
 returns-4 c =
-    let f = c .before .before in
-    let p = reading f in
-    let k = p .before in
-    rw (quiet (asking k), target k .there, profile p, target k .place, state f, sym (f .forbids-disabling .ensures) ∙ c .before .if3 .taken) (c .refused4 .ensures)
+    let p = c .before .before .before in
+    let m = p .before .before in
+    let k = m .before in
+    rw (quiet (asking k), target k .there, target k .place, sym (m .may-be-deleted .ensures) ∙ not-false _ (p .before .if2 .left), sym (p .profile .ensures), sym (c .before .before .forbids-deletion .ensures) ∙ c .before .if3 .taken) (c .refused4 .ensures)
 
 returns-5 : tie.Need-returns-5
 unfolding wordOf
 returns-5 c =
     let a = c .before .before .before in
     let f = a .before .before in
-    let p = reading f in
-    let k = p .before in
-    rw (quiet (asking k), target k .there, profile p, target k .place, state f, sym (f .forbids-disabling .ensures) ∙ a .before .if3 .left, c .answer .ensures, c .before .step-since .ensures, a .opened .ensures)
+    let p = f .before in
+    let m = p .before .before in
+    let k = m .before in
+    rw (quiet (asking k), target k .there, target k .place, sym (m .may-be-deleted .ensures) ∙ not-false _ (p .before .if2 .left), sym (p .profile .ensures), sym (f .forbids-deletion .ensures) ∙ a .before .if3 .left, c .answer .ensures, c .before .step-since .ensures, a .cleared .ensures)
 
-pub disable-spec : {M : Type 1} → statement M
-disable-spec =
+pub delete-spec : {M : Type 1} → statement M
+delete-spec =
     tie.close
     (tie.spec
     (λ c κs. search needs)
@@ -86,6 +72,7 @@ disable-spec =
     (λ c κs. search needs)
     (λ c κs. search needs)
     returns-3
+    (λ c κs. search needs)
     (λ c κs. search needs)
     (λ c κs. search needs)
     returns-4

@@ -1,4 +1,4 @@
--- `steps::finished`: the rows of the values, the target and its state, each passed or stopped at.
+-- `calls::finished`: the rows of the values, the target and its state, each passed or stopped at.
 use mathlib.Core.Path.{_≡_}
 use mathlib.Core.Bool.{Bool, true, false, _&&_}
 use lib.Dec.{ltb, eqb}
@@ -9,10 +9,10 @@ use Rattle.isdp.specs.Policy.{policyOk}
 use Rattle.isdp.specs.LifeCycle.{personalized}
 use Rattle.isdp.specs.declared.Isdp.{Isdp}
 use Rattle.card.specs.Cards.{profileOf}
 use Rattle.steps.proofs.Targets.{Target, absent, found, read}
 use borrow.Author.Needs.{needs}
-use Rattle.steps.proofs.finished.Statement.{statement}
-use Rattle.steps.proofs.finished.Tie as tie
+use Rattle.calls.proofs.finished.Statement.{statement}
+use Rattle.calls.proofs.finished.Tie as tie
 
 abbrev start : tie.Else1 → tie.Start
 start c = c .before .before .before .before

@@ -1,4 +1,4 @@
--- `steps::create`: the rows of the change, of an AID already held, of a free place and of the room left, each passed or stopped at.
+-- `calls::create`: the rows of the change, of an AID already held, of a free place and of the room left, each passed or stopped at.
 use mathlib.Core.Path.{_≡_, sym, _∙_}
 use Prim.Native.Nat.{_<_}
 use mathlib.Core.Bool.{true, false}
@@ -8,10 +8,10 @@ use Rattle.isdp.specs.Sizes.{mostPlaces}
 use Rattle.isdp.specs.Place.{held}
 use Rattle.places.proofs.Seeks.{found-hit, found-miss}
 use Rattle.card.specs.Cards.{isQuiet, profileOf, freePlace}
 use Rattle.steps.proofs.Targets.{absent, found}
 use borrow.Author.Needs.{needs}
-use Rattle.steps.proofs.create.Statement.{statement}
-use Rattle.steps.proofs.create.Tie as tie
+use Rattle.calls.proofs.create.Statement.{statement}
+use Rattle.calls.proofs.create.Tie as tie
 
 abbrev start : tie.Else1 → tie.Start
 start c = c .before .before .before

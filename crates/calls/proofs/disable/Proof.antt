@@ -1,17 +1,15 @@
--- `steps::enable`: the rows of the change, the target, its state and the enabled profile's policy, each passed or stopped at.
+-- `calls::disable`: the rows of the change, the target, its state (it is not the fall-back) and its policy, each passed or stopped at.
 use mathlib.Core.Path.{_≡_, sym, _∙_}
-use mathlib.Core.Bool.{true}
+use mathlib.Core.Bool.{Bool, true, false, not, _&&_}
 use lib.Dec.{eqb}
-use borrow.Author.Tests.{eq-eqb, ne-eqb, not-true, not-false}
+use borrow.Author.Tests.{not-true, not-false}
 use Rattle.status.specs.Rows.{wordOf}
-use Rattle.isdp.specs.LifeCycle.{disabled}
-use Rattle.isdp.specs.Policy.{forbidsDisabling}
-use Rattle.places.specs.Places.{at}
-use Rattle.card.specs.Cards.{isQuiet, profileOf, enabledPlace}
+use Rattle.isdp.specs.LifeCycle.{isEnabled}
+use Rattle.card.specs.Cards.{isQuiet, profileOf}
 use Rattle.steps.proofs.Targets.{Target, absent, found, read}
 use borrow.Author.Needs.{needs}
-use Rattle.steps.proofs.enable.Statement.{statement}
-use Rattle.steps.proofs.enable.Tie as tie
+use Rattle.calls.proofs.disable.Statement.{statement}
+use Rattle.calls.proofs.disable.Tie as tie
 
 abbrev start : tie.Else1 → tie.Start
 start c = c .before .before .before
@@ -28,6 +26,9 @@ target c = found _ _ (start (asking c) .good .0) (c .before .before .before .pla
 profile : (c : tie.After-profile) → profileOf (start (asking (c .before)) .args .card) (start (asking (c .before)) .args .aid .now) ≡ c .profile .result
 profile c = read (target (c .before)) (c .profile .ensures)
 
+abbrev leaves : tie.After-profile → Bool
+leaves c = isEnabled (c .profile .result) && not (eqb (c .before .before .t .given .0 .0) (start (asking (c .before)) .args .card .fallback))
+
 returns : tie.Need-returns
 unfolding wordOf
 returns c = rw (sym (c .before .before .is-quiet .ensures) ∙ not-true _ (c .before .if1 .taken)) (c .refused .ensures)
@@ -42,38 +43,36 @@ returns-2 c =
 returns-3 : tie.Need-returns-3
 unfolding wordOf
 returns-3 c =
-    let p = c .before .before .before in
+    let p = c .before .before .before .before in
     let k = p .before in
-    rw (quiet (asking k), target k .there, profile p, ne-eqb _ disabled (c .before .if2 .taken)) (c .refused3 .ensures)
+    let n : leaves p ≡ false = not-true _ (c .before .if2 .taken) in
+    rw (quiet (asking k), target k .there, profile p, target k .place, n) (c .refused3 .ensures)
 
-state : (c : tie.Else2) → eqb (c .before .before .profile .result .life) disabled ≡ true
-state c = eq-eqb _ disabled (c .if2 .left)
+abbrev reading : tie.After-forbids-disabling → tie.After-profile
+reading c = c .before .before .before .before
 
-abbrev passing : tie.After-forbids-disabling → tie.Else2
-passing c = c .before .before .before
-
-policy : (c : tie.After-forbids-disabling) → let s = start (asking (passing c .before .before .before)) in forbidsDisabling (at (s .args .card .places) (enabledPlace (s .args .card)) .policy) ≡ c .forbids-disabling .result
-policy c = rw (← (c .before .before .enabled-place .ensures), ← (c .before .profile2 .ensures)) (sym (c .forbids-disabling .ensures))
+state : (c : tie.After-forbids-disabling) → leaves (reading c) ≡ true
+state c = not-false _ (c .before .if2 .left)
 
 returns-4 : tie.Need-returns-4
 unfolding wordOf
 returns-4 c =
     let f = c .before .before in
-    let p = passing f .before .before in
+    let p = reading f in
     let k = p .before in
-    rw (quiet (asking k), target k .there, profile p, state (passing f), policy f, c .before .if3 .taken) (c .refused4 .ensures)
+    rw (quiet (asking k), target k .there, profile p, target k .place, state f, sym (f .forbids-disabling .ensures) ∙ c .before .if3 .taken) (c .refused4 .ensures)
 
 returns-5 : tie.Need-returns-5
 unfolding wordOf
 returns-5 c =
     let a = c .before .before .before in
     let f = a .before .before in
-    let p = passing f .before .before in
+    let p = reading f in
     let k = p .before in
-    rw (quiet (asking k), target k .there, profile p, state (passing f), policy f, a .before .if3 .left, c .answer .ensures, c .before .step-since .ensures, a .opened .ensures, target k .place)
+    rw (quiet (asking k), target k .there, profile p, target k .place, state f, sym (f .forbids-disabling .ensures) ∙ a .before .if3 .left, c .answer .ensures, c .before .step-since .ensures, a .opened .ensures)
 
-pub enable-spec : {M : Type 1} → statement M
-enable-spec =
+pub disable-spec : {M : Type 1} → statement M
+disable-spec =
     tie.close
     (tie.spec
     (λ c κs. search needs)
@@ -87,8 +86,6 @@ enable-spec =
     (λ c κs. search needs)
     (λ c κs. search needs)
     returns-3
-    (λ c κs. search needs)
-    (λ c κs. search needs)
     (λ c κs. search needs)
     (λ c κs. search needs)
     returns-4

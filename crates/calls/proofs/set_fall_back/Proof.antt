@@ -1,14 +1,14 @@
--- `steps::set_fall_back`: the rows of the change, the target and its state, each passed or stopped at.
+-- `calls::set_fall_back`: the rows of the change, the target and its state, each passed or stopped at.
 use mathlib.Core.Path.{_≡_, sym, _∙_}
 use mathlib.Core.Bool.{true, false}
 use borrow.Author.Tests.{not-true, not-false}
 use Rattle.status.specs.Rows.{wordOf}
 use Rattle.isdp.specs.LifeCycle.{isFinished}
 use Rattle.card.specs.Cards.{isQuiet, profileOf}
 use Rattle.steps.proofs.Targets.{Target, absent, found, read}
 use borrow.Author.Needs.{needs}
-use Rattle.steps.proofs.set_fall_back.Statement.{statement}
-use Rattle.steps.proofs.set_fall_back.Tie as tie
+use Rattle.calls.proofs.set_fall_back.Statement.{statement}
+use Rattle.calls.proofs.set_fall_back.Tie as tie
 
 abbrev start : tie.Else1 → tie.Start
 start c = c .before .before .before

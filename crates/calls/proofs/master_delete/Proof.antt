@@ -1,13 +1,13 @@
--- `steps::master_delete`: the rows of the change, the target, whether it may be deleted and the token verdict, each passed or stopped at.
+-- `calls::master_delete`: the rows of the change, the target, whether it may be deleted and the token verdict, each passed or stopped at.
 use mathlib.Core.Path.{_≡_, sym, _∙_}
 use mathlib.Core.Bool.{true}
 use borrow.Author.Tests.{eq-eqb, ne-eqb, not-true, not-false}
 use Rattle.status.specs.Rows.{wordOf}
 use Rattle.card.specs.Cards.{isQuiet}
 use Rattle.steps.proofs.Targets.{Target, absent, found}
 use borrow.Author.Needs.{needs}
-use Rattle.steps.proofs.master_delete.Statement.{statement}
-use Rattle.steps.proofs.master_delete.Tie as tie
+use Rattle.calls.proofs.master_delete.Statement.{statement}
+use Rattle.calls.proofs.master_delete.Tie as tie
 
 abbrev start : tie.Else1 → tie.Start
 start c = c .before .before .before
