@@ -2,8 +2,8 @@
 use Prim.Native.Nat.{ℕ}
 use mathlib.Core.List.{List, _++_}
 use Rattle.text.specs.Numbers.{decimalText}
-use Rattle.script.specs.declared.arguments.Reason.{Reason}
-use Rattle.script.specs.declared.arguments.Reason.the-variants.{TooLong, UnknownWord, WordsMissing, TooManyWords, BadHex, BadNumber, BadPlace, BadPhase}
+use Rattle.records.specs.declared.arguments.Reason.{Reason}
+use Rattle.records.specs.declared.arguments.Reason.the-variants.{TooLong, UnknownWord, WordsMissing, TooManyWords, BadHex, BadNumber, BadPlace, BadPhase}
 use Rattle.answers.specs.Letters.{text}
 
 unfoldable pub reasonText : Reason → List ℕ
