@@ -7,8 +7,8 @@ use Rattle.choice.specs.Choice.{pick, isBelow}
 use Rattle.text.specs.Numbers.{digitsText}
 use Rattle.records.specs.declared.arguments.Reason.{Reason}
 use Rattle.records.specs.declared.arguments.Reason.the-variants.{TooLong, UnknownWord, WordsMissing, TooManyWords, BadHex, BadNumber, BadPlace, BadPhase}
-use Rattle.answers.specs.Letters.{text}
-use Rattle.answers.proofs.Lengths.{decimal-length}
+use Rattle.profiles.specs.Letters.{text}
+use Rattle.profiles.proofs.Lengths.{decimal-length}
 use Rattle.session.specs.Reasons.{reasonText, reasonLine, mostFault}
 
 reason-length : (r : Reason) → length (reasonText r) ≤ 14

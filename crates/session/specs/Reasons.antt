@@ -4,7 +4,7 @@ use mathlib.Core.List.{List, _++_}
 use Rattle.text.specs.Numbers.{decimalText}
 use Rattle.records.specs.declared.arguments.Reason.{Reason}
 use Rattle.records.specs.declared.arguments.Reason.the-variants.{TooLong, UnknownWord, WordsMissing, TooManyWords, BadHex, BadNumber, BadPlace, BadPhase}
-use Rattle.answers.specs.Letters.{text}
+use Rattle.profiles.specs.Letters.{text}
 
 unfoldable pub reasonText : Reason → List ℕ
 reasonText TooLong = text "too long"
