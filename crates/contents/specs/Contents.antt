@@ -47,9 +47,13 @@ stopAt s i = startAt s i + lengthAt s i
 abbrev pub contentsEnd : List ℕ → ℕ
 contentsEnd s = entryAt (sections s)
 
+-- "is listed twice"
+abbrev pub sameKind : List ℕ → ℕ → ℕ → Bool
+sameKind s i j = eqb (kindAt s j) (kindAt s i)
+
 -- "a section's kind is not known, or is listed twice"
 abbrev pub kindWrong : List ℕ → ℕ → Bool
-kindWrong s i = not (isKnown (kindAt s i)) || someBelow i (λ j. eqb (kindAt s j) (kindAt s i))
+kindWrong s i = not (isKnown (kindAt s i)) || someBelow i (sameKind s i)
 
 -- "two sections overlap": neither ends where the other begins, or before
 abbrev pub overlap : List ℕ → ℕ → ℕ → Bool
@@ -76,8 +80,11 @@ contentsWrong s =
     || notFilled s))))
 
 -- the number of the first entry of a kind, and its body
+abbrev pub ofKind : List ℕ → ℕ → ℕ → Bool
+ofKind s kind i = eqb (kindAt s i) kind
+
 abbrev pub placeOf : List ℕ → ℕ → ℕ
-placeOf s kind = firstBelow (sections s) (λ i. eqb (kindAt s i) kind)
+placeOf s kind = firstBelow (sections s) (ofKind s kind)
 
 unfoldable pub sectionOf : List ℕ → ℕ → Section
 sectionOf s kind =

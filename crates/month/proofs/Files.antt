@@ -1,0 +1,26 @@
+-- The month of a file: what holds of any card and calls, at the file's. Assumes nothing.
+use mathlib.Core.Path.{_≡_, refl, ap}
+use Prim.Native.Nat.{suc}
+use mathlib.Core.List.{List, [], _∷_}
+use lib.ListN.{length}
+use Rattle.events.specs.Events.{Event, callsOf}
+use Rattle.event_file.specs.File.{fileEvents, fileCalls}
+use Rattle.month.specs.Month.{fileCard}
+use Rattle.month.specs.Statements.{FileCounted}
+use Rattle.month.proofs.Events.{events-reported}
+use Rattle.month.proofs.Figures.{what-a-line-says}
+use Rattle.month.proofs.Sums.{ticks-add-up}
+
+one-call-each : (events : List Event) → length (callsOf events) ≡ length events
+unfolding callsOf
+one-call-each [] = refl
+one-call-each (event ∷ events) = ap suc (one-call-each events)
+
+pub file-counted : FileCounted
+file-counted s accepted =
+    record {
+      ticks = ticks-add-up (fileCard s) (fileCalls s);
+      calls = one-call-each (fileEvents s);
+      events = events-reported (fileCard s) (fileCalls s);
+      lines = what-a-line-says (fileCard s) (fileCalls s);
+    }
