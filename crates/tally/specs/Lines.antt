@@ -3,7 +3,7 @@
 use Prim.Native.Nat.{ℕ, suc, _+_}
 use mathlib.Core.List.{List, [], _∷_}
 use mathlib.Core.Bool.{Bool, true, false, cond}
-use lib.ListN.{getD, set, take, replicate}
+use lib.ListN.{length, getD, set, take, replicate}
 use lib.Dec.{ltb}
 use Rattle.byte_string.specs.Bytes.{sameBytes}
 use Rattle.isdp.specs.Aids.{noAid, bytesOf}
@@ -30,7 +30,7 @@ abbrev pub aidsIn : Names → List Aid
 aidsIn n = take (n .count) (n .aids)
 
 abbrev pub hasLine : Names → Aid → Bool
-hasLine n a = ltb (seekAid a (aidsIn n)) (n .count)
+hasLine n a = ltb (seekAid a (aidsIn n)) (length (aidsIn n))
 
 -- the line of an AID, or that of the rest
 abbrev pub lineOf : Names → Aid → ℕ
@@ -53,3 +53,8 @@ noMinutes = replicate (mostLines + 1) 0
 
 abbrev pub minuteOn : ℕ → List ℕ → List ℕ
 minuteOn line minutes = set minutes line (getD minutes line 0 + 1)
+
+-- the minutes of all lines together
+unfoldable pub minutesIn : List ℕ → ℕ
+minutesIn [] = 0
+minutesIn (m ∷ ms) = m + minutesIn ms
