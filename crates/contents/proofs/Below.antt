@@ -61,6 +61,21 @@ unfolding someBelow firstBelow
 first-none zero t f = refl
 first-none (suc n) t f = rw (neither-l (someBelow n t) (t n) f, neither-r (someBelow n t) (t n) f)
 
+-- where some passes, the first that does is below the bound, and passes
+pub first-is : (n : ℕ) (t : ℕ → Bool) → someBelow n t ≡ true → (firstBelow n t < n) × (t (firstBelow n t) ≡ true)
+unfolding someBelow firstBelow
+first-is zero t e = absurd (true≢false (sym e))
+first-is (suc n) t e =
+    on-test (someBelow n t)
+    (λ k. let r = first-is n t k in rw k (omega (arith, r .0), r .1))
+    (λ k. let l : t n ≡ true = rw k at e in rw (k, l) (omega arith, l))
+
+pub first-passes : (n : ℕ) (t : ℕ → Bool) → firstBelow n t < n → t (firstBelow n t) ≡ true
+first-passes n t h =
+    on-test (someBelow n t)
+    (λ k. first-is n t k .1)
+    (λ k. let e = first-none n t k in absurd (omega arith))
+
 -- a sum: nothing below 0; a turn further
 pub sum-none : (f : ℕ → ℕ) → sumBelow 0 f ≡ 0
 unfolding sumBelow

@@ -5,3 +5,4 @@ pub mod Refusals
 pub mod Entries
 pub mod Laid
 pub mod Examples
+pub mod TwoSections

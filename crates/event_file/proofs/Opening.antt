@@ -84,3 +84,12 @@ module _ (f : List ℕ) where
   pub not-bad : 32 ≤ length f → isDone (freshAnswer f .status) ≡ true → freshBad f ≡ false
   unfolding freshBad
   not-bad h e = rw (le-ltb (length f) 32 h, e)
+
+-- the verdict that an opened file carries is the table's
+by-verdict : (v : Verdict) (s : List ℕ) → openedBy v s .verdict ≡ v
+by-verdict Accepted s = refl
+by-verdict (Refused r) s = refl
+
+pub opened-verdict : (s : List ℕ) → openedOf s .verdict ≡ verdictOf s
+unfolding openedOf
+opened-verdict s = by-verdict (verdictOf s) s

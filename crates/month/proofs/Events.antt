@@ -10,8 +10,7 @@ use Rattle.status.specs.StatusWords.{isDone}
 use Rattle.card.specs.declared.Card.{Card}
 use Rattle.manager.specs.Calls.{Call, Call.Command, Call.Keyed, Call.Stored, Call.Finished, Call.Tick, Call.Lost}
 use Rattle.manager.specs.Manager.{step, answers}
-use Rattle.demands.specs.Change as change
-use Rattle.month.specs.Month as month
+use Rattle.demands.specs.Change.{ticksAmong}
 use Rattle.month.specs.Month.{Counted, atFirst, counted, counting}
 use Rattle.month.specs.Statements.{howMany, isRefusal, EventsReported}
 
@@ -44,25 +43,12 @@ events-reported c calls =
     let f = refused-from c calls (atFirst c) in
     record { events = omega arith; answered = answered c calls; refused = omega arith }
 
--- the two words for a tick
-pub tick-word : (call : Call) → month.isTick call ≡ change.isTick call
-tick-word (Command verdict s room) = refl
-tick-word (Keyed aid) = refl
-tick-word (Stored aid n) = refl
-tick-word (Finished aid policy) = refl
-tick-word Tick = refl
-tick-word Lost = refl
-
-abbrev pub minute : Bool → ℕ
-minute b = cond b 1 0
-
-ticks-from : (c : Card) (calls : List Call) (k : Counted) → counting c calls k .tally .ticks ≡ k .tally .ticks + change.ticksAmong calls
-unfolding counting change.ticksAmong
+ticks-from : (c : Card) (calls : List Call) (k : Counted) → counting c calls k .tally .ticks ≡ k .tally .ticks + ticksAmong calls
+unfolding counting ticksAmong
 ticks-from c [] k = omega arith
 ticks-from c (call ∷ calls) k =
     let e = ticks-from (step c call .card) calls (counted c call k) in
-    let f = ap (λ (b : Bool). minute b) (tick-word call) in
     omega arith
 
-pub ticks-told : (c : Card) (calls : List Call) → counting c calls (atFirst c) .tally .ticks ≡ change.ticksAmong calls
+pub ticks-told : (c : Card) (calls : List Call) → counting c calls (atFirst c) .tally .ticks ≡ ticksAmong calls
 ticks-told c calls = let e = ticks-from c calls (atFirst c) in omega arith

@@ -16,13 +16,12 @@ use Rattle.card.specs.Cards.{enabledAid}
 use Rattle.card.specs.declared.Card.{Card}
 use Rattle.manager.specs.Calls.{Call}
 use Rattle.manager.specs.Manager.{step}
-use Rattle.demands.specs.Change as change
+use Rattle.demands.specs.Change.{isTick}
 use Rattle.tally.specs.Lines.{sameAid, aidsIn, lineOf, noNames, noted, minuteOn}
 use Rattle.tally.specs.declared.Names.{Names}
-use Rattle.month.specs.Month.{Counted, atFirst, counted, counting, isTick}
+use Rattle.month.specs.Month.{Counted, atFirst, counted, counting}
 use Rattle.month.specs.Statements.{monthFrom, figure, reached, enabledIn, isAmong, WhatALineSays}
 use Rattle.month.proofs.Splits.{figure-none, figure-next, figure-same}
-use Rattle.month.proofs.Events.{tick-word}
 use Rattle.tally.proofs.Noting.{lines-most, line-most}
 use Rattle.tally.specs.Statements.{notedAll}
 use Rattle.tally.proofs.InOrder.{lines-in-order}
@@ -69,17 +68,17 @@ module _ (c : Card) (call : Call) (k : Counted) (kept : Kept c k) where
       record {
         fit = noted-next .fits;
         settled = noted-next .settled;
-        size = timed-size-case (lineOf (k .tally .names) (enabledAid c)) (k .minutes) (isTick call) ∙ kept .size;
+        size = timed-size-case _ (k .minutes) (isTick call) ∙ kept .size;
       }
 
   pub later-next : Later (k .tally .names) (counted c call k .tally .names)
   later-next = noted-next .later
 
   -- the minutes after the call
-  pub minutes-next : (i : ℕ) → getD (counted c call k .minutes) i 0 ≡ getD (k .minutes) i 0 + cond (change.isTick call && eqb (lineOf (k .tally .names) (enabledAid c)) i) 1 0
+  pub minutes-next : (i : ℕ) → getD (counted c call k .minutes) i 0 ≡ getD (k .minutes) i 0 + cond (isTick call && eqb (lineOf (k .tally .names) (enabledAid c)) i) 1 0
   minutes-next i =
       let m = line-most (k .tally .names) (kept .fit .size) (enabledAid c) in
-      rw (← tick-word call) (timed-case (lineOf (k .tally .names) (enabledAid c)) i (k .minutes) (isTick call) (omega (arith, kept .size)))
+      timed-case (lineOf (k .tally .names) (enabledAid c)) i (k .minutes) (isTick call) (omega (arith, kept .size))
 
 pub kept-end : (c : Card) (calls : List Call) (k : Counted) → Kept c k → Fit (counting c calls k .tally .names)
 unfolding counting
@@ -105,7 +104,7 @@ figures c (call ∷ calls) k i kept =
     let rest = figures (step c call .card) calls (counted c call k) i (kept-next c call k kept) in
     let here = figure-next c call calls (has end i) in
     let minutes = minutes-next c call k kept i in
-    let same = ap (λ (line : ℕ). cond {A = ℕ} (change.isTick call && eqb line i) 1 0) still in
+    let same = ap (λ (line : ℕ). cond {A = ℕ} (isTick call && eqb line i) 1 0) still in
     omega arith
 
 -- the lines are those of the AIDs enabled, one after the other

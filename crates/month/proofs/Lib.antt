@@ -1,4 +1,6 @@
--- The proofs of the statements in specs/.
+-- Laws of the loop over the events, and the proofs of the statements in specs/.
+pub mod Turns
+pub mod Opened
 pub mod Splits
 pub mod Events
 pub mod Settled

@@ -12,13 +12,13 @@ use Rattle.card.specs.Cards.{enabledAid}
 use Rattle.card.specs.declared.Card.{Card}
 use Rattle.manager.specs.Calls.{Call}
 use Rattle.manager.specs.Manager.{step}
-use Rattle.demands.specs.Change as change
+use Rattle.demands.specs.Change.{isTick, ticksAmong}
 use Rattle.tally.specs.Lines.{seekAid, aidsIn, lineOf, noNames, noted, minuteOn, noMinutes, minutesIn}
 use Rattle.tally.specs.declared.Names.{Names}
 use Rattle.tally.proofs.Noting.{lines-most, withLine, withRest, by-noting, aids-new}
-use Rattle.month.specs.Month.{Counted, atFirst, counted, counting, isTick}
+use Rattle.month.specs.Month.{Counted, atFirst, counted, counting}
 use Rattle.month.specs.Statements.{TicksAddUp}
-use Rattle.month.proofs.Events.{minute, tick-word, ticks-told}
+use Rattle.month.proofs.Events.{ticks-told}
 use Rattle.month.proofs.Settled.{Fit, Settled, Settled.on-line, Settled.in-rest, line-found, line-rest, none-fit}
 use Rattle.month.proofs.Figures.{Kept, first-kept, kept-next}
 
@@ -124,14 +124,13 @@ first-sums c =
     })
     (enabledAid c)
 
-sums-end : (c : Card) (calls : List Call) (k : Counted) (t : ℕ) → Kept c k → Sums (k .tally .names) (k .minutes) t → Sums (counting c calls k .tally .names) (counting c calls k .minutes) (t + change.ticksAmong calls)
-unfolding counting change.ticksAmong
+sums-end : (c : Card) (calls : List Call) (k : Counted) (t : ℕ) → Kept c k → Sums (k .tally .names) (k .minutes) t → Sums (counting c calls k .tally .names) (counting c calls k .minutes) (t + ticksAmong calls)
+unfolding counting ticksAmong
 sums-end c [] k t kept sums = subst (Sums (k .tally .names) (k .minutes)) (omega arith) sums
 sums-end c (call ∷ calls) k t kept sums =
     let ticked = tick-sums (k .tally .names) (k .minutes) t (kept .fit) sums (enabledAid c) (isTick call) (kept .settled) in
     let then = noted-sums (k .tally .names) (counted c call k .minutes) (t + cond (isTick call) 1 0) (kept .fit) ticked (enabledAid (step c call .card)) in
     let end = sums-end (step c call .card) calls (counted c call k) (t + cond (isTick call) 1 0) (kept-next c call k kept) then in
-    let e = ap (λ (b : Bool). minute b) (tick-word call) in
     subst (Sums (counting (step c call .card) calls (counted c call k) .tally .names) (counting (step c call .card) calls (counted c call k) .minutes)) (omega arith) end
 
 pub ticks-add-up : TicksAddUp

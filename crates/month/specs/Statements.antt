@@ -18,8 +18,9 @@ use Rattle.demands.specs.Change.{isTick, ticksAmong}
 use Rattle.tally.specs.Lines.{sameAid, aidsIn, minutesIn}
 use Rattle.tally.specs.Statements.{firsts}
 use Rattle.event_file.specs.File.{verdictOf, fileEvents, fileCalls}
-use Rattle.event_file.specs.declared.Verdict.the-variants.{Accepted}
-use Rattle.month.specs.Month.{Counted, atFirst, counting, fileCard, monthOf}
+use Rattle.event_file.specs.declared.Refusal.{Refusal}
+use Rattle.event_file.specs.declared.Verdict.the-variants.{Accepted, Refused}
+use Rattle.month.specs.Month.{Counted, atFirst, counting, fileCard, nothing, fileCounted}
 
 -- how many of a list meet a test
 unfoldable pub howMany : {A : Type 0} → (A → Bool) → List A → ℕ
@@ -125,12 +126,16 @@ pub record LinesSay (c : Card) (calls : List Call) (k : Counted) : Type 0 where
 abbrev pub WhatALineSays : Type 0
 WhatALineSays = (c : Card) (calls : List Call) → LinesSay c calls (monthFrom c calls)
 
--- all of it of the month of a file that is accepted; its events are the file's, one call each
-pub record MonthTold (s : List ℕ) : Type 0 where
-  pub ticks : AddsUp (fileCalls s) (monthOf s)
+-- all of it of what is counted of a file that is accepted; its calls are the file's events, one each
+pub record FileTold (s : List ℕ) (k : Counted) : Type 0 where
+  pub ticks : AddsUp (fileCalls s) k
   pub calls : length (fileCalls s) ≡ length (fileEvents s)
-  pub events : EveryEvent (fileCard s) (fileCalls s) (monthOf s)
-  pub lines : LinesSay (fileCard s) (fileCalls s) (monthOf s)
+  pub events : EveryEvent (fileCard s) (fileCalls s) k
+  pub lines : LinesSay (fileCard s) (fileCalls s) k
 
 abbrev pub FileCounted : Type 0
-FileCounted = (s : List ℕ) → verdictOf s ≡ Accepted → MonthTold s
+FileCounted = (s : List ℕ) → verdictOf s ≡ Accepted → FileTold s (fileCounted s)
+
+-- of a file that is refused nothing is counted: no line, no tick, no event
+abbrev pub RefusedUncounted : Type 0
+RefusedUncounted = (s : List ℕ) (r : Refusal) → verdictOf s ≡ Refused r → fileCounted s ≡ nothing

@@ -203,18 +203,14 @@ fn call_reply(
     }
 }
 
-// A line that cannot be read: it is named, and the run stops.
-fn fault(turn: Turn, number: u64, reason: Reason, out: &mut [u8]) -> Turn
-    ensures { λ r. ⌜ Replied (now (out .entry)) (turn .filled) (faultReply (turn .card) (turn .sound) number reason) r (now (out .exit)) ⌝ }
+// A line that cannot be read stops the run, once it is named.
+fn stopped(turn: Turn, filled: usize) -> Turn
+    ensures { λ r. ⌜ r ≡ record { card = turn .card; sound = turn .sound; filled = filled; goes = false } ⌝ }
 {
-    let filled = write_reason(number, reason, out, turn.filled);
-    let card = turn.card;
-    Turn {
-        card,
-        sound: turn.sound,
-        filled,
-        goes: false,
-    }
+    let mut after = turn;
+    after.filled = filled;
+    after.goes = false;
+    after
 }
 
 // A line that asks nothing.
@@ -233,7 +229,7 @@ fn record_reply(turn: Turn, explain: bool, number: u64, s: &[u8], at: usize, out
     let record = record_at(s, at);
     let reading = record.reading;
     match reading {
-        Reading::Wrong(reason) => fault(turn, number, reason, out),
+        Reading::Wrong(reason) => stopped(turn, write_reason(number, reason, out, turn.filled)),
         Reading::Fine => {
             let given = record.card;
             first_reply(explain, hand_in(given), out, turn.filled)
@@ -273,6 +269,6 @@ pub fn take_line(
             call_reply(turn, explain, call, room, s, bytes, response, out)
         }
         Order::Record(at) => record_reply(turn, explain, number, s, at, out),
-        Order::Wrong(reason) => fault(turn, number, reason, out),
+        Order::Wrong(reason) => stopped(turn, write_reason(number, reason, out, turn.filled)),
     }
 }
