@@ -8,7 +8,10 @@ use Rattle.isdp.specs.Sizes.{mostPlaces}
 use Rattle.isdp.specs.Place.{held}
 use Rattle.places.proofs.Seeks.{found-hit, found-miss}
 use Rattle.card.specs.Cards.{isQuiet, profileOf, freePlace}
+use Rattle.steps.specs.Asked.{Asked.create}
+use Rattle.steps.specs.Steps.{askedWork}
 use Rattle.steps.proofs.Targets.{absent, found}
+use Rattle.calls.proofs.Accepted.{accepts}
 use borrow.Author.Needs.{needs}
 use Rattle.calls.proofs.create.Statement.{statement}
 use Rattle.calls.proofs.create.Tie as tie
@@ -61,7 +64,13 @@ returns-5 c =
     let a = c .before .before .before in
     let e = a .before .before in
     let k = e .before .before in
-    rw (quiet (asking (seeking k)), free (seeking k), lt-ltb _ mostPlaces (vacancy k .1), sym (e .before .free .ensures), le-leb _ _ (e .if2 .left), c .answer .ensures, c .before .step-since .ensures, a .filled .ensures, a .before .made .ensures, vacancy k .0)
+    let s = start (asking (seeking k)) .args in
+    accepts (s .card) (askedWork (s .card) (create (s .aid .now) (s .quota)))
+    (rw (quiet (asking (seeking k)), free (seeking k), lt-ltb _ mostPlaces (vacancy k .1), sym (e .before .free .ensures), le-leb _ _ (e .if2 .left)))
+    (rw (a .filled .ensures, a .before .made .ensures, vacancy k .0))
+    (c .before .before .none .ensures)
+    (c .before .step-since .ensures)
+    (c .answer .ensures)
 
 pub create-spec : {M : Type 1} → statement M
 create-spec =

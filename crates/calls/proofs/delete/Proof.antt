@@ -4,7 +4,10 @@ use mathlib.Core.Bool.{true}
 use borrow.Author.Tests.{not-true, not-false}
 use Rattle.status.specs.Rows.{wordOf}
 use Rattle.card.specs.Cards.{isQuiet}
+use Rattle.steps.specs.Asked.{Act.delete, Asked.on}
+use Rattle.steps.specs.Steps.{askedWork}
 use Rattle.steps.proofs.Targets.{Target, absent, found}
+use Rattle.calls.proofs.Accepted.{accepts}
 use borrow.Author.Needs.{needs}
 use Rattle.calls.proofs.delete.Statement.{statement}
 use Rattle.calls.proofs.delete.Tie as tie
@@ -55,7 +58,13 @@ returns-5 c =
     let p = f .before in
     let m = p .before .before in
     let k = m .before in
-    rw (quiet (asking k), target k .there, target k .place, sym (m .may-be-deleted .ensures) ∙ not-false _ (p .before .if2 .left), sym (p .profile .ensures), sym (f .forbids-deletion .ensures) ∙ a .before .if3 .left, c .answer .ensures, c .before .step-since .ensures, a .cleared .ensures)
+    let s = start (asking k) .args in
+    accepts (s .card) (askedWork (s .card) (on (s .aid .now) delete))
+    (rw (quiet (asking k), target k .there, target k .place, sym (m .may-be-deleted .ensures) ∙ not-false _ (p .before .if2 .left), sym (p .profile .ensures), sym (f .forbids-deletion .ensures) ∙ a .before .if3 .left))
+    (rw (a .cleared .ensures, target k .place))
+    (c .before .before .none .ensures)
+    (c .before .step-since .ensures)
+    (c .answer .ensures)
 
 pub delete-spec : {M : Type 1} → statement M
 delete-spec =

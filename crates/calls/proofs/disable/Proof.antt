@@ -6,7 +6,10 @@ use borrow.Author.Tests.{not-true, not-false}
 use Rattle.status.specs.Rows.{wordOf}
 use Rattle.isdp.specs.LifeCycle.{isEnabled}
 use Rattle.card.specs.Cards.{isQuiet, profileOf}
+use Rattle.steps.specs.Asked.{Act.disable, Asked.on}
+use Rattle.steps.specs.Steps.{askedWork}
 use Rattle.steps.proofs.Targets.{Target, absent, found, read}
+use Rattle.calls.proofs.Accepted.{accepts}
 use borrow.Author.Needs.{needs}
 use Rattle.calls.proofs.disable.Statement.{statement}
 use Rattle.calls.proofs.disable.Tie as tie
@@ -69,7 +72,13 @@ returns-5 c =
     let f = a .before .before in
     let p = reading f in
     let k = p .before in
-    rw (quiet (asking k), target k .there, profile p, target k .place, state f, sym (f .forbids-disabling .ensures) ∙ a .before .if3 .left, c .answer .ensures, c .before .step-since .ensures, a .opened .ensures)
+    let s = start (asking k) .args in
+    accepts (s .card) (askedWork (s .card) (on (s .aid .now) disable))
+    (rw (quiet (asking k), target k .there, profile p, target k .place, state f, sym (f .forbids-disabling .ensures) ∙ a .before .if3 .left))
+    (rw (a .opened .ensures))
+    (c .before .before .none .ensures)
+    (c .before .step-since .ensures)
+    (c .answer .ensures)
 
 pub disable-spec : {M : Type 1} → statement M
 disable-spec =

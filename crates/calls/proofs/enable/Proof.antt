@@ -8,7 +8,10 @@ use Rattle.isdp.specs.LifeCycle.{disabled}
 use Rattle.isdp.specs.Policy.{forbidsDisabling}
 use Rattle.places.specs.Places.{at}
 use Rattle.card.specs.Cards.{isQuiet, profileOf, enabledPlace}
+use Rattle.steps.specs.Asked.{Act.enable, Asked.on}
+use Rattle.steps.specs.Steps.{askedWork}
 use Rattle.steps.proofs.Targets.{Target, absent, found, read}
+use Rattle.calls.proofs.Accepted.{accepts}
 use borrow.Author.Needs.{needs}
 use Rattle.calls.proofs.enable.Statement.{statement}
 use Rattle.calls.proofs.enable.Tie as tie
@@ -70,7 +73,13 @@ returns-5 c =
     let f = a .before .before in
     let p = passing f .before .before in
     let k = p .before in
-    rw (quiet (asking k), target k .there, profile p, state (passing f), policy f, a .before .if3 .left, c .answer .ensures, c .before .step-since .ensures, a .opened .ensures, target k .place)
+    let s = start (asking k) .args in
+    accepts (s .card) (askedWork (s .card) (on (s .aid .now) enable))
+    (rw (quiet (asking k), target k .there, profile p, state (passing f), policy f, a .before .if3 .left))
+    (rw (a .opened .ensures, target k .place))
+    (c .before .before .none .ensures)
+    (c .before .step-since .ensures)
+    (c .answer .ensures)
 
 pub enable-spec : {M : Type 1} → statement M
 enable-spec =

@@ -9,7 +9,10 @@ use Rattle.isdp.specs.Policy.{policyOk}
 use Rattle.isdp.specs.LifeCycle.{personalized}
 use Rattle.isdp.specs.declared.Isdp.{Isdp}
 use Rattle.card.specs.Cards.{profileOf}
+use Rattle.steps.specs.Asked.{Act.finished}
+use Rattle.steps.specs.Steps.{innerWork}
 use Rattle.steps.proofs.Targets.{Target, absent, found, read}
+use Rattle.calls.proofs.Accepted.{accepts}
 use borrow.Author.Needs.{needs}
 use Rattle.calls.proofs.finished.Statement.{statement}
 use Rattle.calls.proofs.finished.Tie as tie
@@ -62,7 +65,13 @@ returns-4 c =
     let p = e .before .before .before in
     let k = p .before in
     let y : finishable (p .profile .result) ≡ true = not-false _ (e .if2 .left) in
-    rw (right (asking k), target k .there, profile p, y, c .answer .ensures, c .before .step-since .ensures, a .rewritten .ensures, a .before .finish .ensures, target k .place)
+    let s = start (asking k) .args in
+    accepts (s .card) (innerWork (s .card) (s .aid .now) (finished (s .policy)))
+    (rw (right (asking k), target k .there, profile p, y))
+    (rw (a .rewritten .ensures, a .before .finish .ensures, profile p, target k .place))
+    (c .before .before .none .ensures)
+    (c .before .step-since .ensures)
+    (c .answer .ensures)
 
 pub finished-spec : {M : Type 1} → statement M
 finished-spec =

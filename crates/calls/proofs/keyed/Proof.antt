@@ -6,7 +6,10 @@ use Rattle.status.specs.Rows.{wordOf}
 use Rattle.isdp.specs.Aids.{aidOk}
 use Rattle.isdp.specs.LifeCycle.{selectable}
 use Rattle.card.specs.Cards.{profileOf}
+use Rattle.steps.specs.Asked.{Act.keyed}
+use Rattle.steps.specs.Steps.{innerWork}
 use Rattle.steps.proofs.Targets.{Target, absent, found, read}
+use Rattle.calls.proofs.Accepted.{accepts}
 use borrow.Author.Needs.{needs}
 use Rattle.calls.proofs.keyed.Statement.{statement}
 use Rattle.calls.proofs.keyed.Tie as tie
@@ -51,7 +54,13 @@ returns-4 c =
     let e = a .before .before in
     let p = e .before .before in
     let k = p .before in
-    rw (named (asking k), target k .there, profile p, eq-eqb _ selectable (e .if2 .left), c .answer .ensures, c .before .step-since .ensures, a .rewritten .ensures, a .before .with-life .ensures, target k .place)
+    let s = start (asking k) .args in
+    accepts (s .card) (innerWork (s .card) (s .aid .now) keyed)
+    (rw (named (asking k), target k .there, profile p, eq-eqb _ selectable (e .if2 .left)))
+    (rw (a .rewritten .ensures, a .before .with-life .ensures, profile p, target k .place))
+    (c .before .before .none .ensures)
+    (c .before .step-since .ensures)
+    (c .answer .ensures)
 
 pub keyed-spec : {M : Type 1} → statement M
 keyed-spec =

@@ -4,7 +4,10 @@ use mathlib.Core.Bool.{true}
 use borrow.Author.Tests.{eq-eqb, ne-eqb, not-true, not-false}
 use Rattle.status.specs.Rows.{wordOf}
 use Rattle.card.specs.Cards.{isQuiet}
+use Rattle.steps.specs.Asked.{Act.masterDelete, Asked.on}
+use Rattle.steps.specs.Steps.{askedWork}
 use Rattle.steps.proofs.Targets.{Target, absent, found}
+use Rattle.calls.proofs.Accepted.{accepts}
 use borrow.Author.Needs.{needs}
 use Rattle.calls.proofs.master_delete.Statement.{statement}
 use Rattle.calls.proofs.master_delete.Tie as tie
@@ -54,7 +57,13 @@ returns-5 c =
     let e = a .before .before in
     let m = e .before in
     let k = m .before in
-    rw (quiet (asking k), target k .there, target k .place, sym (m .may-be-deleted .ensures) ∙ not-false _ (e .if2 .left), eq-eqb _ 1 (a .before .if3 .left), c .answer .ensures, c .before .step-since .ensures, a .cleared .ensures)
+    let s = start (asking k) .args in
+    accepts (s .card) (askedWork (s .card) (on (s .aid .now) (masterDelete (s .verdict))))
+    (rw (quiet (asking k), target k .there, target k .place, sym (m .may-be-deleted .ensures) ∙ not-false _ (e .if2 .left), eq-eqb _ 1 (a .before .if3 .left)))
+    (rw (a .cleared .ensures, target k .place))
+    (c .before .before .none .ensures)
+    (c .before .step-since .ensures)
+    (c .answer .ensures)
 
 pub master-delete-spec : {M : Type 1} → statement M
 master-delete-spec =

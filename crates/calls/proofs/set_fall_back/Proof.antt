@@ -5,7 +5,10 @@ use borrow.Author.Tests.{not-true, not-false}
 use Rattle.status.specs.Rows.{wordOf}
 use Rattle.isdp.specs.LifeCycle.{isFinished}
 use Rattle.card.specs.Cards.{isQuiet, profileOf}
+use Rattle.steps.specs.Asked.{Act.setFallBack, Asked.on}
+use Rattle.steps.specs.Steps.{askedWork}
 use Rattle.steps.proofs.Targets.{Target, absent, found, read}
+use Rattle.calls.proofs.Accepted.{accepts}
 use borrow.Author.Needs.{needs}
 use Rattle.calls.proofs.set_fall_back.Statement.{statement}
 use Rattle.calls.proofs.set_fall_back.Tie as tie
@@ -51,7 +54,13 @@ returns-4 c =
     let p = a .before .before .before .before in
     let k = p .before in
     let y : isFinished (p .profile .result .life) ≡ true = not-false _ (a .before .if2 .left) in
-    rw (quiet (asking k), target k .there, profile p, y, c .answer .ensures, c .before .step-since .ensures, a .with-fallback .ensures, target k .place)
+    let s = start (asking k) .args in
+    accepts (s .card) (askedWork (s .card) (on (s .aid .now) setFallBack))
+    (rw (quiet (asking k), target k .there, profile p, y))
+    (rw (a .with-fallback .ensures, target k .place))
+    (c .before .before .none .ensures)
+    (c .before .step-since .ensures)
+    (c .answer .ensures)
 
 pub set-fall-back-spec : {M : Type 1} → statement M
 set-fall-back-spec =

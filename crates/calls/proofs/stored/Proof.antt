@@ -10,7 +10,10 @@ use Rattle.status.specs.Rows.{wordOf}
 use Rattle.isdp.specs.Aids.{aidOk}
 use Rattle.isdp.specs.LifeCycle.{personalized}
 use Rattle.card.specs.Cards.{profileOf}
+use Rattle.steps.specs.Asked.{Act.stored}
+use Rattle.steps.specs.Steps.{innerWork}
 use Rattle.steps.proofs.Targets.{Target, absent, found, read}
+use Rattle.calls.proofs.Accepted.{accepts}
 use borrow.Author.Needs.{needs}
 use Rattle.calls.proofs.stored.Statement.{statement}
 use Rattle.calls.proofs.stored.Tie as tie
@@ -76,7 +79,13 @@ returns-5 c =
     let h = e .before in
     let p = reading h in
     let k = p .before in
-    rw (named (asking k), target k .there, profile p, eq-eqb _ personalized (h .before .if2 .left), sym (h .has-room .ensures) ∙ not-false _ (e .if3 .left), c .answer .ensures, c .before .step-since .ensures, a .rewritten .ensures, a .before .with-used .ensures, target k .place)
+    let s = start (asking k) .args in
+    accepts (s .card) (innerWork (s .card) (s .aid .now) (stored (s .n)))
+    (rw (named (asking k), target k .there, profile p, eq-eqb _ personalized (h .before .if2 .left), sym (h .has-room .ensures) ∙ not-false _ (e .if3 .left)))
+    (rw (a .rewritten .ensures, a .before .with-used .ensures, profile p, target k .place))
+    (c .before .before .none .ensures)
+    (c .before .step-since .ensures)
+    (c .answer .ensures)
 
 pub stored-spec : {M : Type 1} → statement M
 stored-spec =
