@@ -1,5 +1,5 @@
--- Byte strings as lists of numbers: one byte, a number of two bytes, a part, and when two are the same.
-use Prim.Native.Nat.{ℕ, _+_, _-_, _*_}
+-- Byte strings as lists of numbers: one byte, numbers of two and four bytes, a part, and when two are the same.
+use Prim.Native.Nat.{ℕ, _+_, _-_, _*_, _/_, _%_}
 use mathlib.Core.List.{List, [], _∷_}
 use mathlib.Core.Bool.{Bool, true, false, _&&_}
 use lib.ListN.{getD, take, drop}
@@ -13,6 +13,14 @@ byte s i = getD s i 0
 -- two bytes, high byte first
 abbrev pub pairAt : List ℕ → ℕ → ℕ
 pairAt s at = byte s at * 256 + byte s (at + 1)
+
+-- four bytes, high byte first
+abbrev pub fourAt : List ℕ → ℕ → ℕ
+fourAt s at = pairAt s at * 65536 + pairAt s (at + 2)
+
+-- a number as four bytes, high byte first
+abbrev pub fourBytes : ℕ → List ℕ
+fourBytes n = n / 16777216 % 256 ∷ n / 65536 % 256 ∷ n / 256 % 256 ∷ n % 256 ∷ []
 
 -- the part from `start` up to `stop`
 abbrev pub between : ℕ → ℕ → Part

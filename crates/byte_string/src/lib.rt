@@ -1,8 +1,8 @@
-// Byte strings: their parts, two of them compared, a number of two bytes, and bytes written into a lent buffer.
+// Byte strings: their parts, two of them compared, numbers of two and four bytes, and bytes written into a lent buffer.
 // Every function is total, and its contract gives its whole answer and what it leaves in the buffer.
 ghost use mathlib.Core.Path.{_≡_};
 ghost use mathlib.Core.List.{_∷_, []};
-ghost use Rattle.byte_string.specs.Bytes.{byte, pairAt, partOf, sameBytes};
+ghost use Rattle.byte_string.specs.Bytes.{byte, pairAt, fourAt, partOf, sameBytes};
 ghost use Rattle.byte_string.specs.Put.{Wrote};
 
 // Bytes told by their place in a byte string: where the first stands, and how many there are.
@@ -49,6 +49,18 @@ pub fn read_pair(bytes: &[u8], at: usize) -> u16
     let high = byte_at(bytes, at) as u16;
     let low = byte_at(bytes, at + 1) as u16;
     high * 256 + low
+}
+
+// The number of the four bytes from a place on, high byte first.
+pub fn read_four(bytes: &[u8], at: usize) -> u32
+    ensures { λ r. ⌜ r ≡ fourAt (now (bytes .entry)) at ⌝ }
+{
+    if bytes.len() <= at {
+        return 0;
+    }
+    let high = read_pair(bytes, at) as u32;
+    let low = read_pair(bytes, at + 2) as u32;
+    high * 65536 + low
 }
 
 // Are the two byte strings the same, in length too?

@@ -3,7 +3,7 @@
 use Prim.Native.Nat.{ℕ, zero, suc, _+_, _-_, _*_}
 use mathlib.Core.List.{List}
 use Rattle.choice.specs.Choice.{pick, atMost, isBelow, isSame}
-use Rattle.byte_string.specs.Bytes.{pairAt}
+use Rattle.byte_string.specs.Bytes.{pairAt, fourAt}
 use Rattle.tlv.specs.Tlv.{expectAt, onFound}
 use Rattle.tlv.specs.Lists.{listWrong}
 use Rattle.reader.specs.Reader.{aloneAt}
@@ -28,7 +28,7 @@ onListed protocols.Listed q = q
 
 -- "2 or 4 bytes", high byte first
 unfoldable pub numberAt : List ℕ → ℕ → ℕ → ℕ
-numberAt s start count = pick (isSame count 2) (pairAt s start) (pairAt s start * 65536 + pairAt s (start + 2))
+numberAt s start count = pick (isSame count 2) (pairAt s start) (fourAt s start)
 
 -- "1 up to capacity"
 unfoldable pub grantOf : ℕ → ℕ → Quota

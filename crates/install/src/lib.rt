@@ -1,6 +1,7 @@
 // Create's data field: GP's INSTALL, six fields each after its length, of which the ISD-P's AID and the quota are handed on.
 // Every function reads a window of the whole command, from `at` up to `end`; one that does not lie in it is wrong.
 use byte_string::Part;
+use byte_string::read_four;
 use byte_string::read_pair;
 use fields::Field;
 use fields::Request;
@@ -37,16 +38,12 @@ fn read_protocols(s: &[u8], at: usize, end: usize) -> Protocols
 
 // A number of two bytes, or else of four.
 fn read_number(s: &[u8], start: usize, count: usize) -> u32
-    requires { ⌜ start + 2 ≤ length (now s) ⌝ }
     ensures { λ r. ⌜ r ≡ numberAt (now (s .entry)) start count ⌝ }
 {
-    let high = read_pair(s, start) as u32;
     if count == 2 {
-        return high;
+        return read_pair(s, start) as u32;
     }
-    let next = start + 2;
-    let low = read_pair(s, next) as u32;
-    high * 65536 + low
+    read_four(s, start)
 }
 
 enum Quota {

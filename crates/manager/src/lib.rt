@@ -116,15 +116,15 @@ fn serve(card: Card, verdict: u8, request: Request, bytes: &[u8], buf: &mut [u8]
 {
     match request {
         Request::Create { aid, quota } => {
-            acknowledged(steps::create(card, part_of(bytes, aid), quota), buf)
+            acknowledged(calls::create(card, part_of(bytes, aid), quota), buf)
         }
-        Request::Enable(aid) => steps::enable(card, part_of(bytes, aid)),
-        Request::Disable(aid) => steps::disable(card, part_of(bytes, aid)),
-        Request::SetFallBack(aid) => steps::set_fall_back(card, part_of(bytes, aid)),
-        Request::Delete(aid) => acknowledged(steps::delete(card, part_of(bytes, aid)), buf),
+        Request::Enable(aid) => calls::enable(card, part_of(bytes, aid)),
+        Request::Disable(aid) => calls::disable(card, part_of(bytes, aid)),
+        Request::SetFallBack(aid) => calls::set_fall_back(card, part_of(bytes, aid)),
+        Request::Delete(aid) => acknowledged(calls::delete(card, part_of(bytes, aid)), buf),
         Request::MasterDelete(aid) => {
             acknowledged(
-                steps::master_delete(card, part_of(bytes, aid), verdict),
+                calls::master_delete(card, part_of(bytes, aid), verdict),
                 buf,
             )
         }
@@ -162,9 +162,9 @@ pub fn answer_on_sound(card: Card, call: Call, bytes: &[u8], buf: &mut [u8]) -> 
             verdict,
             bytes: part,
         } => { command(card, verdict, part_of(bytes, part), buf) }
-        Call::Keyed(aid) => steps::keyed(card, part_of(bytes, aid)),
-        Call::Stored { aid, n } => steps::stored(card, part_of(bytes, aid), n),
-        Call::Finished { aid, policy } => steps::finished(card, part_of(bytes, aid), policy),
+        Call::Keyed(aid) => calls::keyed(card, part_of(bytes, aid)),
+        Call::Stored { aid, n } => calls::stored(card, part_of(bytes, aid), n),
+        Call::Finished { aid, policy } => calls::finished(card, part_of(bytes, aid), policy),
         Call::Tick => card.tick().answer(Status::Done, 0),
         Call::Lost => card.lost().answer(Status::Done, 0),
     }

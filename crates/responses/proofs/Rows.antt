@@ -17,7 +17,8 @@ use Rattle.isdp.proofs.Bytes.{taken}
 use Rattle.places.proofs.Records.{unread}
 use Rattle.card.specs.Cards.{freeIn}
 use Rattle.card.specs.declared.Card.{Card}
-use Rattle.responses.specs.Responses.{aidElement, lifeElement, markElement, markOf, listed, statusBody, statusRow, rowOf, rowsFrom, statusResponse, oneStatus, fourBytes, dataResponse, deletedResponse}
+use Rattle.byte_string.specs.Bytes.{fourBytes}
+use Rattle.responses.specs.Responses.{aidElement, lifeElement, markElement, markOf, listed, statusBody, statusRow, rowOf, rowsFrom, statusResponse, oneStatus, dataResponse, deletedResponse}
 
 -- as many bytes as the AID has, after their tag and their number
 pub aid-element : (a : Aid) (n : ℕ) → n ≡ length (bytesOf a) → 0x4F ∷ n ∷ take n (a .bytes) ≡ aidElement (bytesOf a)

@@ -1,6 +1,7 @@
 -- Document 01, 'Responses' (000: Tables 28, 29, 63; ETSI TS 102 226 for GET DATA): the bytes of each response.
 -- All is said over a list of places of any length, so that no count of places is written here.
-use Prim.Native.Nat.{ℕ, suc, _/_, _%_}
+use Prim.Native.Nat.{ℕ, suc}
+use Rattle.byte_string.specs.Bytes.{fourBytes}
 use mathlib.Core.List.{List, [], _∷_, _++_}
 use mathlib.Core.Bool.{Bool, cond}
 use lib.ListN.{length}
@@ -64,10 +65,6 @@ statusResponse c life fallback = rowsFrom (c .fallback) 0 life fallback (c .plac
 -- GET STATUS of one AID, held at this place
 unfoldable pub oneStatus : Card → ℕ → Bool → Bool → List ℕ
 oneStatus c place life fallback = rowOf (at (c .places) place) (markOf (c .fallback) place) life fallback
-
--- four bytes, high byte first
-abbrev pub fourBytes : ℕ → List ℕ
-fourBytes n = n / 16777216 % 256 ∷ n / 65536 % 256 ∷ n / 256 % 256 ∷ n % 256 ∷ []
 
 -- GET DATA: "FF21 holding 81 (number of ISD-Ps, 1 byte), 82 (free, 4 bytes), 83 (volatile figure, 4 bytes)"
 unfoldable pub dataResponse : Card → List ℕ

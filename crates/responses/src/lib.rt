@@ -9,12 +9,13 @@ ghost use mathlib.Core.Path.{_≡_};
 ghost use mathlib.Core.Bool.{cond};
 ghost use Prim.Native.Nat.{_+_, _*_, _≤_};
 ghost use lib.ListN.{length};
+ghost use Rattle.byte_string.specs.Bytes.{fourBytes};
 ghost use Rattle.byte_string.specs.Put.{Wrote};
 ghost use Rattle.isdp.specs.Sizes.{mostPlaces};
 ghost use Rattle.isdp.specs.Aids.{bytesOf};
 ghost use Rattle.isdp.specs.Place.{held};
 ghost use Rattle.places.specs.Places.{countOf};
-ghost use Rattle.responses.specs.Responses.{mostRow, aidElement, lifeElement, markElement, markOf, listed, statusRow, rowOf, statusResponse, oneStatus, dataResponse, informationOf, deletedResponse, fourBytes};
+ghost use Rattle.responses.specs.Responses.{mostRow, aidElement, lifeElement, markElement, markOf, listed, statusRow, rowOf, statusResponse, oneStatus, dataResponse, informationOf, deletedResponse};
 
 // The number of ISD-Ps, in the one byte that GET DATA has for it.
 pub fn count_held(places: [Isdp; PLACES]) -> u8

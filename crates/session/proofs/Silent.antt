@@ -20,11 +20,11 @@ use Rattle.card.specs.declared.Card.{Card}
 use Rattle.card.specs.declared.Step.{Step}
 use Rattle.card.specs.declared.Answer.{Answer}
 use Rattle.script.specs.Orders.{orderOf}
-use Rattle.script.specs.Records.{onReading}
-use Rattle.script.specs.declared.arguments.Reason.{Reason}
-use Rattle.script.specs.declared.records.Reading.{Reading}
-use Rattle.script.specs.declared.records.Reading.the-variants as reading
-use Rattle.script.specs.declared.orders.Order.{Order}
+use Rattle.records.specs.Records.{onReading}
+use Rattle.records.specs.declared.arguments.Reason.{Reason}
+use Rattle.records.specs.declared.Reading.{Reading}
+use Rattle.records.specs.declared.Reading.the-variants as reading
+use Rattle.script.specs.declared.Order.{Order}
 use Rattle.session.specs.Reasons.{reasonLine, mostFault}
 use Rattle.session.specs.Session.{recordOutcome, answerText, firstReply, faultReply, answerTo, Reply, replyBy, lineOf, mostText, Replied, Used}
 use Rattle.session.specs.declared.Turn.{Turn}

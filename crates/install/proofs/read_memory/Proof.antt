@@ -29,7 +29,7 @@ unfolding memoryAt
 returns-2 c = rw (← c .before .before .before .before .last-element .ensures) (rw (c .before .before .start .given .1) (eq! _ (omega arith) refl))
 
 read-number-requires : tie.Need-read-number-requires
-read-number-requires c κs = let g = c .before .before .start .given in let i = alone-expected _ _ _ _ _ _ (g .0 .0) (g .0 .1 .0) (sym (g .1) ∙ c .before .before .before .before .last-element .ensures) in let j = i .inside in let k = i .least in omega arith
+read-number-requires c κs = search needs
 
 grant-requires : tie.Need-grant-requires
 grant-requires c κs = search needs

@@ -1,7 +1,6 @@
 -- `read_number` meets its contract: by the number of bytes.
 use Rattle.install.specs.Parameters.{numberAt}
 use native.Mathlib.Omega.{arith}
-use mathlib.Core.Path.{refl}
 use Rattle.choice.proofs.Branches.{eq!, ne! }
 use borrow.Author.Needs.{needs}
 use Rattle.install.proofs.read_number.Statement.{statement}
@@ -10,42 +9,26 @@ use Rattle.install.proofs.read_number.Tie as tie
 read-pair-requires : tie.Need-read-pair-requires
 read-pair-requires c κs = search needs
 
-cast-high : tie.Need-cast-high
-cast-high c = search needs
+cast-result : tie.Need-cast-result
+cast-result c = search needs
 
 returns : tie.Need-returns
 unfolding numberAt
-returns c = eq! _ (omega arith) (c .before .read-pair .ensures)
+returns c = eq! _ (omega arith) (c .read-pair .ensures)
 
-add-next : tie.Need-add-next
-add-next c = search needs
-
-read-pair-requires-2 : tie.Need-read-pair-requires-2
-read-pair-requires-2 c κs = search needs
-
-cast-low : tie.Need-cast-low
-cast-low c = search needs
-
-mul-result : tie.Need-mul-result
-mul-result c = search needs
-
-add-result : tie.Need-add-result
-add-result c = search needs
+read-four-requires : tie.Need-read-four-requires
+read-four-requires c κs = search needs
 
 returns-2 : tie.Need-returns-2
 unfolding numberAt
-returns-2 c = ne! _ (omega arith) (rw (c .before .before .read-pair .ensures) (rw (c .read-pair2 .ensures) refl))
+returns-2 c = ne! _ (omega arith) (c .read-four .ensures)
 
 pub read-number-spec : {M : Type 1} → statement M
 read-number-spec =
     tie.close
     (tie.spec
     read-pair-requires
-    cast-high
+    cast-result
     returns
-    add-next
-    read-pair-requires-2
-    cast-low
-    mul-result
-    add-result
+    read-four-requires
     returns-2)

@@ -4,7 +4,7 @@ use native.Mathlib.Omega.{arith}
 use denote.Ref.{now}
 use Rattle.byte_string.proofs.PutLaws.{wrote-none}
 use Rattle.script.proofs.Fits.{orders-fit}
-use Rattle.script.specs.Records.{recordAt}
+use Rattle.records.specs.Records.{recordAt}
 use Rattle.session.specs.declared.Turn.{Turn}
 use Rattle.session.proofs.Silent.{fresh-silent, first-replied, fault-replied, unused, record-unused, as-ordered}
 use borrow.Author.Needs.{needs}

@@ -13,7 +13,7 @@ use Rattle.places.specs.Places.{countOf, quotas}
 use Rattle.card.specs.Sound.{sound}
 use Rattle.card.specs.Answers.{Outcome, outcome}
 use Rattle.card.specs.declared.Card.{Card}
-use Rattle.responses.specs.Responses.{fourBytes}
+use Rattle.byte_string.specs.Bytes.{fourBytes}
 use Rattle.steps.specs.Asked.{Act.status, Asked.on, Asked.statusOfAll, Asked.getData}
 use Rattle.steps.specs.Steps.{askedWork}
 use Rattle.steps.specs.Laws.Answer.{profileAt, Holds, element, Still, OnPlace}

@@ -1,0 +1,3 @@
+-- docs/EVENTS.md, 'The report': the lines.
+pub mod Lines
+pub mod Statements
