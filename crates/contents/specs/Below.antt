@@ -1,4 +1,5 @@
--- The numbers below a bound: whether some passes a test, which is the first that does, and what a figure of each adds up to.
+-- The numbers below a bound: whether some passes a test, which is the first that does, what a figure of each adds up to,
+-- and how many pass.
 use Prim.Native.Nat.{ℕ, zero, suc, _+_}
 use mathlib.Core.Bool.{Bool, false, cond, _||_}
 
@@ -14,3 +15,6 @@ firstBelow (suc n) t = cond (someBelow n t) (firstBelow n t) (cond (t n) n (suc 
 unfoldable pub sumBelow : ℕ → (ℕ → ℕ) → ℕ
 sumBelow zero f = 0
 sumBelow (suc n) f = sumBelow n f + f n
+
+abbrev pub countBelow : ℕ → (ℕ → Bool) → ℕ
+countBelow n t = sumBelow n (λ i. cond (t i) 1 0)

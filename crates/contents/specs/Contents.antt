@@ -47,13 +47,21 @@ stopAt s i = startAt s i + lengthAt s i
 abbrev pub contentsEnd : List ℕ → ℕ
 contentsEnd s = entryAt (sections s)
 
+-- "is listed twice"
+abbrev pub sameKind : List ℕ → ℕ → ℕ → Bool
+sameKind s i j = eqb (kindAt s j) (kindAt s i)
+
 -- "a section's kind is not known, or is listed twice"
 abbrev pub kindWrong : List ℕ → ℕ → Bool
-kindWrong s i = not (isKnown (kindAt s i)) || someBelow i (λ j. eqb (kindAt s j) (kindAt s i))
+kindWrong s i = not (isKnown (kindAt s i)) || someBelow i (sameKind s i)
 
--- "two sections overlap": neither ends where the other begins, or before
+-- one of two bodies ends where the other begins, or before
+abbrev pub apart : ℕ → ℕ → ℕ → ℕ → Bool
+apart start stop begin end = leb end start || leb stop begin
+
+-- "two sections overlap"
 abbrev pub overlap : List ℕ → ℕ → ℕ → Bool
-overlap s i j = not (leb (stopAt s j) (startAt s i) || leb (stopAt s i) (startAt s j))
+overlap s i j = not (apart (startAt s i) (stopAt s i) (startAt s j) (stopAt s j))
 
 -- "a section begins before the end of the contents or runs past the end of the file", or overlaps one listed before it
 abbrev pub bodyWrong : List ℕ → ℕ → Bool
@@ -76,8 +84,11 @@ contentsWrong s =
     || notFilled s))))
 
 -- the number of the first entry of a kind, and its body
+abbrev pub ofKind : List ℕ → ℕ → ℕ → Bool
+ofKind s kind i = eqb (kindAt s i) kind
+
 abbrev pub placeOf : List ℕ → ℕ → ℕ
-placeOf s kind = firstBelow (sections s) (λ i. eqb (kindAt s i) kind)
+placeOf s kind = firstBelow (sections s) (ofKind s kind)
 
 unfoldable pub sectionOf : List ℕ → ℕ → Section
 sectionOf s kind =

@@ -1,3 +1,5 @@
 -- docs/EVENTS.md, 'The file': its table of contents.
 pub mod Below
 pub mod Contents
+pub mod Statements
+pub mod Examples

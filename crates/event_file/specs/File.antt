@@ -60,7 +60,10 @@ firstOf (r ∷ rs) = cond (r .when) (Refused (r .refusal)) (firstOf rs)
 abbrev pub verdictOf : List ℕ → Verdict
 verdictOf s = firstOf (table s)
 
--- the file opened
+-- the file opened; of a refused one the record of zeros, and no events
+abbrev pub refusedFile : Refusal → Opened
+refusedFile r = record { verdict = Refused r; card = zeroCard; events = record { start = 0; len = 0 } }
+
 abbrev pub openedBy : Verdict → List ℕ → Opened
 openedBy Accepted s =
     record {
@@ -68,7 +71,7 @@ openedBy Accepted s =
       card = freshAnswer (bodyOf s freshKind) .card;
       events = partIn (sectionOf s eventsKind);
     }
-openedBy (Refused r) s = record { verdict = Refused r; card = zeroCard; events = record { start = 0; len = 0 } }
+openedBy (Refused r) s = refusedFile r
 
 unfoldable pub openedOf : List ℕ → Opened
 openedOf s = openedBy (verdictOf s) s

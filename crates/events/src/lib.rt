@@ -1,6 +1,16 @@
 // The events of an event file: their kinds, what is wrong with them, and the manager's call that each is (docs/EVENTS.md, 'The file').
 // Every function answers for every byte string. Nothing is run here.
+use byte_string::Part;
+use byte_string::byte_at;
+use byte_string::read_four;
+use byte_string::read_pair;
 use manager::Call;
+ghost use mathlib.Core.Path.{_≡_};
+ghost use Prim.Native.Nat.{_+_, _≤_, _<_};
+ghost use lib.ListN.{length};
+ghost use Rattle.byte_string.specs.Bytes.{between};
+ghost use Rattle.events.specs.Kinds.{kindOf, isUnknown, lengthWrong};
+ghost use Rattle.events.specs.Events.{callIn, checkedOf, headSize, nextOf, stopOf};
 
 pub enum Kind {
     Command,
@@ -24,4 +34,143 @@ pub enum Checked {
 pub enum Next {
     Event { call: Call, stop: usize },
     End,
+}
+
+// The bytes of an event's kind and length.
+const HEAD: usize = 3;
+
+impl Kind {
+    fn of(byte: u8) -> Self
+        ensures { λ r. ⌜ r ≡ kindOf byte ⌝ }
+    {
+        match byte {
+            1 => Kind::Command,
+            2 => Kind::Keyed,
+            3 => Kind::Stored,
+            4 => Kind::Finished,
+            5 => Kind::Tick,
+            6 => Kind::Lost,
+            _ => Kind::Unknown,
+        }
+    }
+
+    fn is_unknown(self) -> bool
+        ensures { λ r. ⌜ r ≡ isUnknown self ⌝ }
+    {
+        match self {
+            Kind::Command => false,
+            Kind::Keyed => false,
+            Kind::Stored => false,
+            Kind::Finished => false,
+            Kind::Tick => false,
+            Kind::Lost => false,
+            Kind::Unknown => true,
+        }
+    }
+
+    // Must no event of this kind have so many bytes?
+    fn is_wrong_at(self, length: usize) -> bool
+        ensures { λ r. ⌜ r ≡ lengthWrong self length ⌝ }
+    {
+        match self {
+            Kind::Command => length < 1,
+            Kind::Keyed => false,
+            Kind::Stored => length < 4,
+            Kind::Finished => length < 1,
+            Kind::Tick => length != 0,
+            Kind::Lost => length != 0,
+            Kind::Unknown => false,
+        }
+    }
+}
+
+// The part from one place up to another; empty where that lies before it.
+fn part(start: usize, stop: usize) -> Part
+    ensures { λ r. ⌜ r ≡ between start stop ⌝ }
+{
+    if stop < start {
+        return Part { start, len: 0 };
+    }
+    Part {
+        start,
+        len: stop - start,
+    }
+}
+
+// Where the event at a place stops, as its length says.
+fn stop_of(b: &[u8], at: usize) -> usize
+    requires { ⌜ at < length (now b) ⌝ }
+    ensures { λ r. ⌜ r ≡ stopOf (now (b .entry)) at ⌝ }
+{
+    let length = read_pair(b, at + 1) as usize;
+    at + (HEAD + length)
+}
+
+// The call of an event whose bytes stand from `from` up to `to`.
+fn call_in(b: &[u8], kind: Kind, from: usize, to: usize) -> Call
+    requires { ⌜ from ≤ length (now b) ⌝ }
+    ensures { λ r. ⌜ r ≡ callIn (now (b .entry)) kind from to ⌝ }
+{
+    match kind {
+        Kind::Command => Call::Command {
+            verdict: byte_at(b, from),
+            bytes: part(from + 1, to),
+        },
+        Kind::Keyed => Call::Keyed(part(from, to)),
+        Kind::Stored => Call::Stored {
+            aid: part(from + 4, to),
+            n: read_four(b, from),
+        },
+        Kind::Finished => Call::Finished {
+            aid: part(from + 1, to),
+            policy: byte_at(b, from),
+        },
+        Kind::Tick => Call::Tick,
+        Kind::Lost => Call::Lost,
+        Kind::Unknown => Call::Lost,
+    }
+}
+
+// What is wrong with the events of a body, in one walk.
+pub fn check_events(b: &[u8]) -> Checked
+    ensures { λ r. ⌜ r ≡ checkedOf (now (b .entry)) ⌝ }
+{
+    let mut at = 0;
+    let mut unknown = false;
+    let mut wrong = false;
+    while at < b.len() {
+        let stop = stop_of(b, at);
+        if b.len() < stop {
+            return Checked::CutShort;
+        }
+        let kind = Kind::of(b[at]);
+        unknown = unknown | kind.is_unknown();
+        wrong = wrong | kind.is_wrong_at(stop - (at + HEAD));
+        at = stop;
+    }
+    if unknown {
+        return Checked::UnknownKind;
+    }
+    if wrong {
+        return Checked::WrongLength;
+    }
+    Checked::Right
+}
+
+// The event at a place; none where the body ends there or within it.
+pub fn next_event(b: &[u8], at: usize) -> Next
+    ensures { λ r. ⌜ r ≡ nextOf (now (b .entry)) at ⌝ }
+{
+    if b.len() <= at {
+        return Next::End;
+    }
+    let stop = stop_of(b, at);
+    if b.len() < stop {
+        return Next::End;
+    }
+    let kind = Kind::of(b[at]);
+    Next::Event {
+        call: call_in(b, kind, at + HEAD, stop),
+        stop,
+    }
 }

@@ -1,2 +1,4 @@
--- docs/EVENTS.md, 'The report': the events counted.
+-- docs/EVENTS.md, 'The report': the events counted, and what the count says.
 pub mod Month
+pub mod Loop
+pub mod Statements

@@ -2,26 +2,22 @@
 -- event. A tick counts for the profile that is enabled before it".
 use Prim.Native.Nat.{ℕ, _+_}
 use mathlib.Core.List.{List, [], _∷_}
-use mathlib.Core.Bool.{Bool, true, false, cond}
+use mathlib.Core.Bool.{cond}
 use Rattle.status.specs.StatusWords.{isDone}
 use Rattle.card.specs.Cards.{enabledAid}
 use Rattle.card.specs.Answers.{Outcome}
 use Rattle.card.specs.declared.Card.{Card}
-use Rattle.manager.specs.Calls.{Call, Call.Command, Call.Keyed, Call.Stored, Call.Finished, Call.Tick, Call.Lost}
+use Rattle.manager.specs.Calls.{Call}
 use Rattle.manager.specs.Manager.{step}
+use Rattle.demands.specs.Change.{isTick}
 use Rattle.tally.specs.Lines.{lineOf, noNames, noted, noMinutes, minuteOn}
 use Rattle.tally.specs.declared.Tally.{Tally}
 use Rattle.event_file.specs.Inputs.{freshAnswer}
-use Rattle.event_file.specs.File.{bodyOf, fileCalls}
+use Rattle.event_file.specs.File.{bodyOf, fileCalls, verdictOf}
+use Rattle.event_file.specs.declared.Verdict.{Verdict}
+use Rattle.event_file.specs.declared.Verdict.the-variants.{Accepted, Refused}
 use Rattle.contents.specs.Contents.{freshKind}
-
-abbrev pub isTick : Call → Bool
-isTick (Command verdict s room) = false
-isTick (Keyed aid) = false
-isTick (Stored aid n) = false
-isTick (Finished aid policy) = false
-isTick Tick = true
-isTick Lost = false
+use Rattle.month.specs.declared.Month.{Month}
 
 -- what is counted: the tally, and the minutes of each line and of the rest
 pub record Counted : Type 0 where
@@ -63,3 +59,18 @@ fileCard s = freshAnswer (bodyOf s freshKind) .card
 
 abbrev pub monthOf : List ℕ → Counted
 monthOf s = counting (fileCard s) (fileCalls s) (atFirst (fileCard s))
+
+-- a file: "no event is run before all of them were asked", so that of a refused file nothing is counted
+abbrev pub nothing : Counted
+nothing = record { tally = record { names = noNames; ticks = 0; events = 0; refused = 0 }; minutes = noMinutes }
+
+abbrev pub countedBy : Verdict → List ℕ → Counted
+countedBy Accepted s = monthOf s
+countedBy (Refused r) s = nothing
+
+abbrev pub fileCounted : List ℕ → Counted
+fileCounted s = countedBy (verdictOf s) s
+
+-- the verdict, and the tally; the minutes are told beside them
+abbrev pub fileMonth : List ℕ → Month
+fileMonth s = record { verdict = verdictOf s; tally = fileCounted s .tally }

@@ -1,0 +1,13 @@
+-- `Opened::refused` meets its contract: the card is the record of zeros.
+use borrow.Author.Needs.{needs}
+use Rattle.event_file.proofs.Opened.refused.Statement.{statement}
+use Rattle.event_file.proofs.Opened.refused.Tie as tie
+
+zero-requires : tie.Need-zero-requires
+zero-requires c κs = search needs
+
+returns : tie.Need-returns
+returns c = rw (c .zero .ensures)
+
+pub refused-spec : {M : Type 1} → statement M
+refused-spec = tie.close (tie.spec zero-requires returns)

@@ -1,0 +1,58 @@
+-- `fresh_answer` meets its contract: the parts that it names are the EID and the AID of the inputs.
+use mathlib.Core.Path.{_≡_, _∙_}
+use native.Mathlib.Omega.{arith}
+use denote.Ref.{now}
+use lib.ListN.{length, take, drop, length-drop}
+use lib.Seq.{take-all}
+use Rattle.event_file.specs.Inputs.{freshAnswer}
+use borrow.Author.Needs.{needs}
+use Rattle.event_file.proofs.fresh_answer.Statement.{statement}
+use Rattle.event_file.proofs.fresh_answer.Tie as tie
+
+read-four-requires : tie.Need-read-four-requires
+read-four-requires c κs = search needs
+
+read-four-requires-2 : tie.Need-read-four-requires-2
+read-four-requires-2 c κs = search needs
+
+read-four-requires-3 : tie.Need-read-four-requires-3
+read-four-requires-3 c κs = search needs
+
+read-four-requires-4 : tie.Need-read-four-requires-4
+read-four-requires-4 c κs = search needs
+
+part-of-requires : tie.Need-part-of-requires
+part-of-requires c κs = search needs
+
+part-of-requires-2 : tie.Need-part-of-requires-2
+part-of-requires-2 c κs = search needs
+
+fresh-requires : tie.Need-fresh-requires
+fresh-requires c κs = search needs
+
+returns : tie.Need-returns
+unfolding freshAnswer
+returns c =
+    let b = c .before in
+    let a = b .before in
+    let r4 = a .before in
+    let r3 = r4 .before in
+    let r2 = r3 .before in
+    let r1 = r2 .before in
+    let f = now (r1 .before .before .args .f) in
+    let e : take (length f) (drop 32 f) ≡ drop 32 f = take-all (length f) (drop 32 f) (omega (arith, length-drop 32 f)) in
+    c .fresh .ensures
+    ∙ rw (a .part-of .ensures, b .part-of2 .ensures, e, r1 .read-four .ensures, r2 .read-four2 .ensures, r3 .read-four3 .ensures, r4 .read-four4 .ensures)
+
+pub fresh-answer-spec : {M : Type 1} → statement M
+fresh-answer-spec =
+    tie.close
+    (tie.spec
+    read-four-requires
+    read-four-requires-2
+    read-four-requires-3
+    read-four-requires-4
+    part-of-requires
+    part-of-requires-2
+    fresh-requires
+    returns)

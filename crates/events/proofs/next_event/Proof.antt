@@ -1,0 +1,46 @@
+-- `next_event` meets its contract: past the end and within an event there is none.
+use mathlib.Core.Path.{sym}
+use native.Mathlib.Omega.{arith}
+use Rattle.events.proofs.Turns.{next-is, next-ends}
+use borrow.Author.Needs.{needs}
+use Rattle.events.proofs.next_event.Statement.{statement}
+use Rattle.events.proofs.next_event.Tie as tie
+
+returns : tie.Need-returns
+returns c = sym (next-ends _ _ (omega arith))
+
+stop-of-requires : tie.Need-stop-of-requires
+stop-of-requires c κs = search needs
+
+returns-2 : tie.Need-returns-2
+returns-2 c = sym (next-ends _ _ (omega arith))
+
+shared-slice-read-of : tie.Need-shared-slice-read-of
+shared-slice-read-of c = search needs
+
+of-requires : tie.Need-of-requires
+of-requires c κs = search needs
+
+add-call-in : tie.Need-add-call-in
+add-call-in c = search needs
+
+call-in-requires : tie.Need-call-in-requires
+call-in-requires c κs = search needs
+
+returns-3 : tie.Need-returns-3
+returns-3 c =
+    let e = c .before .before .before .before .stop-of .ensures in
+    rw (c .call-in .ensures, c .before .of .ensures, e) (sym (next-is _ _ (omega arith)))
+
+pub next-event-spec : {M : Type 1} → statement M
+next-event-spec =
+    tie.close
+    (tie.spec
+    returns
+    stop-of-requires
+    returns-2
+    shared-slice-read-of
+    of-requires
+    add-call-in
+    call-in-requires
+    returns-3)

@@ -1,0 +1,39 @@
+-- `month::time`: a call that is no tick leaves the minutes as they are; a tick is one more on the line.
+use mathlib.Core.Path.{sym, _∙_}
+use borrow.Author.Needs.{needs}
+use borrow.Author.Tests.{not-true, not-false}
+use Rattle.month.proofs.time.Statement.{statement}
+use Rattle.month.proofs.time.Tie as tie
+
+is-tick-requires : tie.Need-is-tick-requires
+is-tick-requires c κs = search needs
+
+returns : tie.Need-returns
+returns c = let e = sym (c .before .is-tick .ensures) ∙ not-true _ (c .if1 .taken) in rw e (search needs)
+
+mul-minutes : tie.Need-mul-minutes
+mul-minutes c = search needs
+
+element-copy-out-minutes : tie.Need-element-copy-out-minutes
+element-copy-out-minutes c = search needs
+
+add-minutes : tie.Need-add-minutes
+add-minutes c = search needs
+
+element-write-minutes : tie.Need-element-write-minutes
+element-write-minutes c = search needs
+
+returns-2 : tie.Need-returns-2
+returns-2 c = let e = sym (c .before .before .is-tick .ensures) ∙ not-false _ (c .before .if1 .left) in rw e (search needs)
+
+pub time-spec : {M : Type 1} → statement M
+time-spec =
+    tie.close
+    (tie.spec
+    is-tick-requires
+    returns
+    mul-minutes
+    element-copy-out-minutes
+    add-minutes
+    element-write-minutes
+    returns-2)

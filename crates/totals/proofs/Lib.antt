@@ -1,0 +1,4 @@
+-- The proofs of the statements in specs/.
+pub mod Reports
+pub mod RollBack
+pub mod WrongReports

@@ -1,0 +1,96 @@
+-- Issue 12, theorem 6: the buyer's present engine, which counts a tick for the profile last named by an accepted enable, and one that counts a tick
+-- for the profile enabled after it. Each is the month's count with one thing changed, and neither meets theorem 3.
+use Prim.Native.Nat.{ℕ}
+use mathlib.Core.Path.{_≡_}
+use mathlib.Core.List.{List, [], _∷_}
+use mathlib.Core.Bool.{false, cond}
+use lib.ListN.{replicate}
+use Rattle.isdp.specs.Aids.{noAid, named}
+use Rattle.isdp.specs.declared.Aid.{Aid}
+use Rattle.places.specs.Places.{at}
+use Rattle.card.specs.Cards.{enabledAid}
+use Rattle.card.specs.declared.Card.{Card}
+use Rattle.steps.specs.Asked.{Act, Act.enable, Act.disable, Act.delete, Act.masterDelete, Act.setFallBack, Act.status, Act.keyed, Act.stored, Act.finished, Asked, Asked.unread, Asked.create, Asked.on, Asked.confirm, Asked.statusOfAll, Asked.getData, Asked.tick, Asked.lost}
+use Rattle.manager.specs.Calls.{Call, asked}
+use Rattle.manager.specs.Manager.{step}
+use Rattle.demands.specs.Change.{taken, isTick}
+use Rattle.tally.specs.Lines.{lineOf, minuteOn}
+use Rattle.demands.specs.Examples.{aid}
+use Rattle.event_file.specs.File.{verdictOf}
+use Rattle.event_file.specs.declared.Verdict.the-variants.{Accepted}
+use Rattle.month.specs.Month.{Counted, atFirst, tallied, fileCounted}
+use Rattle.totals.specs.Reports.{Report, onFile, MeetsLines}
+use Rattle.totals.specs.RollBack as rollBack
+
+-- one event, a tick counted for this AID
+abbrev pub countedFor : Aid → Card → Call → Counted → Counted
+countedFor a c call k =
+    record {
+      tally = tallied (k .tally) call (step c call);
+      minutes = cond (isTick call) (minuteOn (lineOf (tallied (k .tally) call (step c call) .names) a) (k .minutes)) (k .minutes);
+    }
+
+-- the profile last named: by an enable its own, by a disable the fall-back
+abbrev pub namedOn : Card → List ℕ → Act → Aid → Aid
+namedOn c aid enable last = named aid
+namedOn c aid disable last = at (c .places) (c .fallback) .aid
+namedOn c aid delete last = last
+namedOn c aid (masterDelete verdict) last = last
+namedOn c aid setFallBack last = last
+namedOn c aid (status life fallback) last = last
+namedOn c aid keyed last = last
+namedOn c aid (stored n) last = last
+namedOn c aid (finished policy) last = last
+
+abbrev pub namedBy : Card → Asked → Aid → Aid
+namedBy c unread last = last
+namedBy c (create aid quota) last = last
+namedBy c (on aid act) last = namedOn c aid act last
+namedBy c (confirm number) last = last
+namedBy c (statusOfAll life fallback) last = last
+namedBy c getData last = last
+namedBy c tick last = last
+namedBy c lost last = last
+
+abbrev pub lastNamed : Card → Call → Aid → Aid
+lastNamed c call last = cond (taken c call) (namedBy c (asked c call) last) last
+
+unfoldable pub countingNamed : Aid → Card → List Call → Counted → Counted
+countingNamed last c [] k = k
+countingNamed last c (call ∷ calls) k = countingNamed (lastNamed c call last) (step c call .card) calls (countedFor last c call k)
+
+-- the buyer's present engine
+abbrev pub namedReport : Report
+namedReport c calls = countingNamed (enabledAid c) c calls (atFirst c)
+
+unfoldable pub countingAfter : Card → List Call → Counted → Counted
+countingAfter c [] k = k
+countingAfter c (call ∷ calls) k = countingAfter (step c call .card) calls (countedFor (enabledAid (step c call .card)) c call k)
+
+-- one that counts a tick for the profile enabled after it
+abbrev pub afterReport : Report
+afterReport c calls = countingAfter c calls (atFirst c)
+
+-- the file of an enable that rolls back: two lines, F's and 02's, with so many minutes; fifteen ticks, twenty events, none refused
+abbrev pub told : ℕ → ℕ → Counted
+told first second =
+    record {
+      tally = record {
+        names = record { aids = named (aid 1) ∷ named (aid 2) ∷ replicate 62 noAid; count = 2; more = false };
+        ticks = 15;
+        events = 20;
+        refused = 0;
+      };
+      minutes = first ∷ second ∷ replicate 63 0;
+    }
+
+-- the three beside each other: the minutes of the profile enabled, of the one last named, and of the one enabled after
+pub record Beside : Type 0 where
+  pub accepted : verdictOf rollBack.file ≡ Accepted
+  pub enabled : fileCounted rollBack.file ≡ told 5 10
+  pub last-named : onFile namedReport rollBack.file ≡ told 0 15
+  pub enabled-after : onFile afterReport rollBack.file ≡ told 6 9
+
+pub record WrongReports : Type 0 where
+  pub named : MeetsLines namedReport → ⊥
+  pub after : MeetsLines afterReport → ⊥
