@@ -4,9 +4,9 @@ use Prim.Native.Nat.{ℕ, _+_, _*_, _≤_, _<_}
 use mathlib.Core.List.{List, [], _∷_, _++_}
 use mathlib.Core.Bool.{Bool, true, false}
 use lib.ListN.{replicate}
-use Rattle.isdp.specs.Aids.{noAid, named}
-use Rattle.isdp.specs.declared.Aid.{Aid}
+use Rattle.isdp.specs.Aids.{noAid}
 use Rattle.profiles.specs.Letters.{text}
+use Rattle.tally.specs.Statements.{aidEnding}
 use Rattle.tally.specs.declared.Tally.{Tally}
 use Rattle.report.specs.Report.{tenthsOf, shareText, reportText}
 
@@ -18,10 +18,7 @@ Rounded =
     → (tenthsOf minutes ticks * (ticks * 2) ≤ minutes * 2000 + ticks)
     × (minutes * 2000 + ticks < tenthsOf minutes ticks * (ticks * 2) + ticks * 2)
 
-abbrev pub aidEnding : ℕ → Aid
-aidEnding n = named (0xA0 ∷ 0x00 ∷ 0x00 ∷ 0x00 ∷ n ∷ [])
-
--- the tally of the page; without ticks, and with no rest, the second
+-- a tally as the page has it, with a rest or without
 abbrev pub tallyOf : Bool → ℕ → Tally
 tallyOf more ticks =
     record {
