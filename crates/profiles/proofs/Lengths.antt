@@ -49,7 +49,7 @@ lead-small n =
     (λ l. by-lt (λ (k : ℕ). k ≤ 6) n 100000 (λ m. omega arith)
     (λ m. by-lt (λ (k : ℕ). k ≤ 6) n 1000000 (λ o. omega arith) (λ o. omega arith))))))
 
-column-length : (n : ℕ) → length (columnText n) ≤ 26
+pub column-length : (n : ℕ) → length (columnText n) ≤ 26
 unfolding columnText
 column-length n = simp (length-append, spaces-length) (omega (arith, lead-small n, decimal-length n))
 

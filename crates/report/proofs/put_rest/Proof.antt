@@ -1,0 +1,39 @@
+-- `put_rest`: only where there is one more.
+use mathlib.Core.Path.{refl}
+use Rattle.byte_string.proofs.PutLaws.{wrote-then, wrote-as, wrote-none}
+use Rattle.choice.proofs.Branches.{yes!, no! }
+use Rattle.report.specs.Report.{restText}
+use borrow.Author.Needs.{needs}
+use Rattle.report.proofs.put_rest.Statement.{statement}
+use Rattle.report.proofs.put_rest.Tie as tie
+
+slice-aggregate-put-bytes : tie.Need-slice-aggregate-put-bytes
+slice-aggregate-put-bytes c = search needs
+
+put-bytes-requires : tie.Need-put-bytes-requires
+put-bytes-requires c κs = search needs
+
+put-minutes-requires : tie.Need-put-minutes-requires
+put-minutes-requires c κs = search needs
+
+same-length : tie.Need-same-length
+same-length c = search needs
+
+returns : tie.Need-returns
+unfolding restText
+returns c = wrote-as _ (yes! _ (c .before .before .before .before .before .before .before .before .before .if1 .taken) refl) (wrote-then (c .before .before .before .before .before .before .put-bytes .ensures) (c .before .before .put-minutes .ensures))
+
+returns-2 : tie.Need-returns-2
+unfolding restText
+returns-2 c = wrote-as _ (no! _ (c .if1 .left) refl) (wrote-none _ _)
+
+pub put-rest-spec : {M : Type 1} → statement M
+put-rest-spec =
+    tie.close
+    (tie.spec
+    slice-aggregate-put-bytes
+    put-bytes-requires
+    put-minutes-requires
+    same-length
+    returns
+    returns-2)
