@@ -1,0 +1,3 @@
+-- Laws that the proofs cite, and the proofs of the statements in specs/.
+pub mod Lengths
+pub mod Told

@@ -1,0 +1,16 @@
+-- What is written of a file, whole: of a refused one the refusal alone, of any other the report of its month and nothing else.
+use Prim.Native.Nat.{ℕ}
+use mathlib.Core.Path.{_≡_}
+use mathlib.Core.List.{List}
+use mathlib.Core.Bool.{Bool}
+use Rattle.event_file.specs.File.{verdictOf}
+use Rattle.event_file.specs.declared.Refusal.{Refusal}
+use Rattle.event_file.specs.declared.Verdict.the-variants.{Accepted, Refused}
+use Rattle.month.specs.Month.{monthOf}
+use Rattle.report.specs.Report.{reportText}
+use Rattle.account.specs.Refusals.{refusalText}
+use Rattle.account.specs.Account.{accountText}
+
+pub record Told : Type 0 where
+  pub refused : (explain : Bool) (s : List ℕ) (r : Refusal) → verdictOf s ≡ Refused r → accountText explain s ≡ refusalText explain r
+  pub accepted : (explain : Bool) (s : List ℕ) → verdictOf s ≡ Accepted → accountText explain s ≡ reportText explain (monthOf s .tally) (monthOf s .minutes)
