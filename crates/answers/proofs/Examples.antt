@@ -20,9 +20,10 @@ use Rattle.card.specs.declared.Card.{Card}
 use Rattle.card.specs.declared.Kind.the-variants.{Changed}
 use Rattle.card.specs.declared.Notification.{Notification}
 use Rattle.card.specs.declared.Phase.the-variants.{Trial}
-use Rattle.answers.specs.Letters.{text}
+use Rattle.profiles.specs.Letters.{text}
 use Rattle.answers.specs.Lines.{issuedWord, noticeWord, answerLine}
-use Rattle.answers.specs.Explained.{meaningOf, wordText, responseText, kindText, issuedText, noticeText, spaces, leadOf, columnText, stateText, markText, policyText, nameCells, figureCells, rowText, placeText, rowsText, widestOf, headText, tableText, openText, trialText, phaseText, explainedText}
+use Rattle.profiles.specs.Profiles.{spaces, leadOf, columnText, stateText, markText, policyText, nameCells, figureCells, rowText, placeText, rowsText, widestOf, headText, tableText}
+use Rattle.answers.specs.Explained.{meaningOf, wordText, responseText, kindText, issuedText, noticeText, openText, trialText, phaseText, explainedText}
 
 abbrev aid-01 : List ℕ
 aid-01 = 0xA0 ∷ 0x00 ∷ 0x00 ∷ 0x00 ∷ 0x01 ∷ []

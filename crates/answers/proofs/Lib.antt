@@ -2,5 +2,4 @@
 pub mod Records
 pub mod Pieces
 pub mod Lengths
-pub mod Columns
 pub mod Examples

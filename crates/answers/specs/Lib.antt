@@ -1,4 +1,3 @@
 -- What the program says: the answer line, and the answer for a person.
-pub mod Letters
 pub mod Lines
 pub mod Explained

@@ -5,25 +5,17 @@ use mathlib.Core.List.{List, [], _∷_, _++_}
 use Rattle.text.specs.Hex.{hexText, hexWord}
 use Rattle.text.specs.Numbers.{decimalText}
 use Rattle.status.specs.StatusWords.{numberOf}
-use Rattle.isdp.specs.Aids.{bytesOf}
-use Rattle.isdp.specs.declared.Aid.{Aid}
 use Rattle.card.specs.Notifications.{codeOf}
 use Rattle.card.specs.declared.Answer.{Answer}
 use Rattle.card.specs.declared.Kind.{Kind}
 use Rattle.card.specs.declared.Kind.the-variants.{Silent, Changed, RolledBack, FallenBack}
 use Rattle.card.specs.declared.Notification.{Notification}
-use Rattle.answers.specs.Letters.{text}
+use Rattle.profiles.specs.Letters.{text}
+use Rattle.profiles.specs.Profiles.{hex8, aidText}
 
--- one byte as two hex digits, and a number of two bytes as four
-abbrev pub hex8 : ℕ → List ℕ
-hex8 n = hexText (n ∷ [])
-
+-- a number of two bytes as four hex digits
 abbrev pub hex16 : ℕ → List ℕ
 hex16 n = hexText (n / 256 ∷ n % 256 ∷ [])
-
--- an AID, with its true length
-abbrev pub aidText : Aid → List ℕ
-aidText a = hexText (bytesOf a)
 
 -- KIND:NUMBER:AID
 unfoldable pub issuedWord : Notification → List ℕ

@@ -1,12 +1,12 @@
 // An answer for a person: the word and what it means, response and notification, the profiles, the phase, and the ticks to come.
-use crate::line::put_aid;
-use crate::table::put_table;
 use byte_string::put_byte;
 use byte_string::put_bytes;
 use card::Answer;
 use card::Kind;
 use card::Notification;
 use card::Phase;
+use profiles::put_aid;
+use profiles::put_table;
 use status::Status;
 use text::put_decimal;
 use text::put_hex;

@@ -4,7 +4,7 @@ use byte_string::put_bytes;
 use card::Answer;
 use card::Kind;
 use card::Notification;
-use isdp::Aid;
+use profiles::put_aid;
 use text::put_decimal;
 use text::put_hex;
 use text::put_hex_8;
@@ -14,19 +14,7 @@ ghost use mathlib.Core.Path.{_≡_};
 ghost use Prim.Native.Nat.{_+_, _*_, _≤_};
 ghost use lib.ListN.{length};
 ghost use Rattle.byte_string.specs.Put.{Wrote};
-ghost use Rattle.answers.specs.Lines.{aidText, issuedWord, noticeWord, answerLine, mostLine};
-
-// An AID in hex, with its true length; a length over sixteen takes the whole array.
-pub fn put_aid(aid: Aid, buf: &mut [u8], at: usize) -> usize
-    ensures { λ r. ⌜ Wrote (now (buf .entry)) at (aidText aid) r (now (buf .exit)) ⌝ }
-{
-    let bytes = aid.bytes;
-    let n = aid.len as usize;
-    if n > 16 {
-        return put_hex(buf, at, &bytes);
-    }
-    put_hex(buf, at, &bytes[..n])
-}
+ghost use Rattle.answers.specs.Lines.{issuedWord, noticeWord, answerLine, mostLine};
 
 fn put_issued(notification: Notification, buf: &mut [u8], at: usize) -> usize
     ensures { λ r. ⌜ Wrote (now (buf .entry)) at (issuedWord notification) r (now (buf .exit)) ⌝ }

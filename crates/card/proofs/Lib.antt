@@ -2,6 +2,7 @@
 pub mod Records
 pub mod Sounds
 pub mod Counts
+pub mod Waits
 pub mod Rewrites
 pub mod Noticed
 pub mod Outcomes

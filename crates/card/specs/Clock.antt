@@ -1,6 +1,6 @@
 -- Document 01, 'Steps': tick, lost and confirmation. "Entering Trial, Back or Fallen sets ticks left to 10 and issues the next number".
 use Prim.Native.Nat.{ℕ, _+_, _-_}
-use mathlib.Core.Bool.{Bool, false, not, cond, _&&_}
+use mathlib.Core.Bool.{Bool, true, false, not, cond, _&&_}
 use lib.Dec.{ltb, eqb}
 use Rattle.isdp.specs.Sizes.{wait, lastNumber}
 use Rattle.isdp.specs.Policy.{onceDisabled}
@@ -38,6 +38,20 @@ tickIn (Back left number) c =
     (cond (onFallback c) (withPhase c Quiet) (fallen c))
 tickIn (Fallen left number) c =
     cond (ltb 1 left) (withPhase c (Fallen (left - 1) number)) (withPhase c Quiet)
+
+-- the phase stays open over a tick; Quiet stays as it is
+abbrev pub waits : Phase → Bool
+waits Quiet = true
+waits (Trial previous left number) = ltb 1 left
+waits (Back left number) = ltb 1 left
+waits (Fallen left number) = ltb 1 left
+
+-- "ticks left falls by one"
+abbrev pub shorter : Phase → Phase
+shorter Quiet = Quiet
+shorter (Trial previous left number) = Trial previous (left - 1) number
+shorter (Back left number) = Back (left - 1) number
+shorter (Fallen left number) = Fallen (left - 1) number
 
 unfoldable pub tickOf : Card → Card
 tickOf c = tickIn (c .phase) c

@@ -31,15 +31,12 @@ kindOf (Fallen left number) = FallenBack
 abbrev pub silent : Notification
 silent = record { kind = Silent; number = 0; eid = replicate eidSize 0; aid = noAid }
 
--- the notification of the number last issued
+-- the notification of the number last issued, of a kind
+abbrev pub issuedAs : Kind → Card → Notification
+issuedAs kind c = record { kind = kind; number = c .last; eid = c .eid; aid = enabledAid c }
+
 abbrev pub issued : Card → Notification
-issued c =
-    record {
-      kind = kindOf (c .phase);
-      number = c .last;
-      eid = c .eid;
-      aid = enabledAid c;
-    }
+issued c = issuedAs (kindOf (c .phase)) c
 
 -- a card after one whose last number was `last`: one is handed out exactly where a number was issued
 unfoldable pub noticeSince : ℕ → Card → Notification

@@ -5,8 +5,9 @@ use Rattle.isdp.specs.Aids.{noAid}
 use Rattle.isdp.specs.declared.Aid.{Aid}
 use Rattle.places.specs.Places.{at}
 use Rattle.card.specs.Clock.{tickOf, lostOf, confirmOf, dropped}
-use Rattle.card.specs.Notifications.{noticeSince}
+use Rattle.card.specs.Notifications.{issuedAs, noticeSince}
 use Rattle.card.specs.declared.Card.{Card}
+use Rattle.card.specs.declared.Kind.{Kind}
 use Rattle.card.specs.declared.Step.{Step}
 use Rattle.card.specs.declared.Phase.{Phase}
 use Rattle.card.specs.declared.Phase.the-variants.{Quiet, Trial, Back, Fallen}
@@ -14,6 +15,10 @@ use Rattle.card.specs.declared.Phase.the-variants.{Quiet, Trial, Back, F
 -- every step is made here: a card after one whose last number was `last`, its notification, and the AID that was deleted
 abbrev pub stepSince : ℕ → Card → Aid → Step
 stepSince last d deleted = record { card = d; notification = noticeSince last d; deleted = deleted }
+
+-- of a number that was issued: with the notification of a kind
+abbrev pub stepTold : Kind → Card → Aid → Step
+stepTold kind d deleted = record { card = d; notification = issuedAs kind d; deleted = deleted }
 
 -- from card c to card d
 abbrev pub stepTo : Card → Card → Aid → Step

@@ -5,8 +5,11 @@ use crate::Phase;
 use isdp::Isdp;
 use isdp::once_disabled;
 ghost use mathlib.Core.Path.{_≡_};
-ghost use Rattle.card.specs.declared.Phase.the-variants.{Trial, Back, Fallen};
-ghost use Rattle.card.specs.Clock.{nextOf, moved, opened, fallen, tickIn, tickOf, lostOf, dropped, outstanding};
+ghost use mathlib.Core.Bool.{true, false, cond};
+ghost use Rattle.isdp.specs.Sizes.{wait};
+ghost use Rattle.card.specs.declared.Phase.the-variants.{Quiet, Back};
+ghost use Rattle.card.specs.Cards.{onFallback, withPhase};
+ghost use Rattle.card.specs.Clock.{nextOf, moved, opened, fallen, waits, shorter, tickOf, lostOf, dropped, outstanding};
 
 // The number after `n`.
 fn next(n: u16) -> u16
@@ -16,6 +19,49 @@ fn next(n: u16) -> u16
 }
 
 impl Phase {
+    // Is it still as it is after a tick, but for its ticks left?
+    pub(crate) fn waits(self) -> bool
+        ensures { λ r. ⌜ r ≡ waits self ⌝ }
+    {
+        match self {
+            Phase::Quiet => true,
+            Phase::Trial {
+                previous: _,
+                left,
+                number: _,
+            } => left > 1,
+            Phase::Back { left, number: _ } => left > 1,
+            Phase::Fallen { left, number: _ } => left > 1,
+        }
+    }
+
+    // With a tick less.
+    fn shorter(self) -> Phase
+        requires { ⌜ waits self ≡ true ⌝ }
+        ensures { λ r. ⌜ r ≡ shorter self ⌝ }
+    {
+        match self {
+            Phase::Quiet => Phase::Quiet,
+            Phase::Trial {
+                previous,
+                left,
+                number,
+            } => Phase::Trial {
+                previous,
+                left: left - 1,
+                number,
+            },
+            Phase::Back { left, number } => Phase::Back {
+                left: left - 1,
+                number,
+            },
+            Phase::Fallen { left, number } => Phase::Fallen {
+                left: left - 1,
+                number,
+            },
+        }
+    }
+
     // Is it the outstanding number?
     pub fn is_outstanding(self, n: u16) -> bool
         ensures { λ r. ⌜ r ≡ outstanding self n ⌝ }
@@ -76,18 +122,10 @@ impl Card {
         )
     }
 
-    // A tick in Trial.
-    fn trial_ticked(self, previous: u8, left: u8, number: u16) -> Card
-        ensures { λ r. ⌜ r ≡ tickIn (Trial previous left number) self ⌝ }
+    // Trial has run out.
+    fn trial_over(self, previous: u8) -> Card
+        ensures { λ r. ⌜ r ≡ moved self previous (Back wait (nextOf (self .last))) ⌝ }
     {
-        if left > 1 {
-            let fewer = left - 1;
-            return self.with_phase(Phase::Trial {
-                previous,
-                left: fewer,
-                number,
-            });
-        }
         let n = next(self.last);
         self.moved(
             previous,
@@ -98,17 +136,10 @@ impl Card {
         )
     }
 
-    // A tick in Back.
-    fn back_ticked(self, left: u8, number: u16) -> Card
-        ensures { λ r. ⌜ r ≡ tickIn (Back left number) self ⌝ }
+    // Back has run out.
+    fn back_over(self) -> Card
+        ensures { λ r. ⌜ r ≡ cond (onFallback self) (withPhase self Quiet) (fallen self) ⌝ }
     {
-        if left > 1 {
-            let fewer = left - 1;
-            return self.with_phase(Phase::Back {
-                left: fewer,
-                number,
-            });
-        }
         let p = self.profile(self.fallback);
         if p.life == Isdp::ENABLED {
             return self.with_phase(Phase::Quiet);
@@ -116,22 +147,18 @@ impl Card {
         self.fallen()
     }
 
-    // A tick in Fallen.
-    fn fallen_ticked(self, left: u8, number: u16) -> Card
-        ensures { λ r. ⌜ r ≡ tickIn (Fallen left number) self ⌝ }
+    // The card after a tick that leaves its phase open.
+    pub(crate) fn waited(self) -> Card
+        requires { ⌜ waits (self .phase) ≡ true ⌝ }
+        ensures { λ r. ⌜ r ≡ tickOf self ⌝ }
     {
-        if left > 1 {
-            let fewer = left - 1;
-            return self.with_phase(Phase::Fallen {
-                left: fewer,
-                number,
-            });
-        }
-        self.with_phase(Phase::Quiet)
+        let phase = self.phase;
+        self.with_phase(phase.shorter())
     }
 
-    // The card after a tick.
-    pub(crate) fn ticked(self) -> Card
+    // The card after a tick that its phase runs out with.
+    pub(crate) fn run_out(self) -> Card
+        requires { ⌜ waits (self .phase) ≡ false ⌝ }
         ensures { λ r. ⌜ r ≡ tickOf self ⌝ }
     {
         let phase = self.phase;
@@ -139,11 +166,11 @@ impl Card {
             Phase::Quiet => self,
             Phase::Trial {
                 previous,
-                left,
-                number,
-            } => self.trial_ticked(previous, left, number),
-            Phase::Back { left, number } => self.back_ticked(left, number),
-            Phase::Fallen { left, number } => self.fallen_ticked(left, number),
+                left: _,
+                number: _,
+            } => self.trial_over(previous),
+            Phase::Back { .. } => self.back_over(),
+            Phase::Fallen { .. } => self.with_phase(Phase::Quiet),
         }
     }
 

@@ -3,10 +3,9 @@
 use crate::Card;
 use crate::Kind;
 use crate::Notification;
-use crate::Phase;
 use isdp::Aid;
 ghost use mathlib.Core.Path.{_≡_};
-ghost use Rattle.card.specs.Notifications.{silent, kindOf, codeOf, issued, noticeSince};
+ghost use Rattle.card.specs.Notifications.{silent, codeOf, issuedAs};
 
 impl Kind {
     pub fn code(self) -> u8
@@ -17,20 +16,6 @@ impl Kind {
             Kind::Changed => 2,
             Kind::RolledBack => 3,
             Kind::FallenBack => 5,
-        }
-    }
-}
-
-impl Phase {
-    // The kind of the notification that opens the phase.
-    fn kind(self) -> Kind
-        ensures { λ r. ⌜ r ≡ kindOf self ⌝ }
-    {
-        match self {
-            Phase::Quiet => Kind::Silent,
-            Phase::Trial { .. } => Kind::Changed,
-            Phase::Back { .. } => Kind::RolledBack,
-            Phase::Fallen { .. } => Kind::FallenBack,
         }
     }
 }
@@ -53,12 +38,10 @@ impl Notification {
 
 impl Card {
     // The notification of the number last issued.
-    fn issued(self) -> Notification
-        ensures { λ r. ⌜ r ≡ issued self ⌝ }
+    pub(crate) fn issued(self, kind: Kind) -> Notification
+        ensures { λ r. ⌜ r ≡ issuedAs kind self ⌝ }
     {
-        let phase = self.phase;
         let eid = self.eid;
-        let kind = phase.kind();
         let p = self.profile(self.enabled_place());
         let aid = p.aid;
         Notification {
@@ -67,15 +50,5 @@ impl Card {
             eid,
             aid,
         }
-    }
-
-    // A notification where a number was issued after `last`.
-    pub(crate) fn noticed(self, last: u16) -> Notification
-        ensures { λ r. ⌜ r ≡ noticeSince last self ⌝ }
-    {
-        if self.last == last {
-            return Notification::silent();
-        }
-        self.issued()
     }
 }

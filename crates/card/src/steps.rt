@@ -1,12 +1,14 @@
 // Document 01, 'Steps': tick, lost and confirmation with what they hand out.
 // Every step of the product is made by `step_since`.
 use crate::Card;
+use crate::Kind;
+use crate::Notification;
 use crate::Phase;
 use crate::Step;
 use isdp::Aid;
 ghost use mathlib.Core.Path.{_≡_};
 ghost use Rattle.card.specs.Clock.{trialClosed};
-ghost use Rattle.card.specs.Steps.{stepSince, stepTo, tickStep, lostStep, trialGone, confirmStep};
+ghost use Rattle.card.specs.Steps.{stepSince, stepTold, stepTo, tickStep, lostStep, trialGone, confirmStep};
 
 impl Card {
     // Every step is made here: this card comes after one whose last number was `last`. It takes that number and not the old card, so
@@ -14,7 +16,28 @@ impl Card {
     pub fn step_since(self, last: u16, deleted: Aid) -> Step
         ensures { λ r. ⌜ r ≡ stepSince last self deleted ⌝ }
     {
-        let notification = self.noticed(last);
+        if self.last == last {
+            let notification = Notification::silent();
+            return Step {
+                card: self,
+                notification,
+                deleted,
+            };
+        }
+        let phase = self.phase;
+        match phase {
+            Phase::Quiet => self.step_told(Kind::Silent, deleted),
+            Phase::Trial { .. } => self.step_told(Kind::Changed, deleted),
+            Phase::Back { .. } => self.step_told(Kind::RolledBack, deleted),
+            Phase::Fallen { .. } => self.step_told(Kind::FallenBack, deleted),
+        }
+    }
+
+    // A step that issued a number: its notification goes with it.
+    fn step_told(self, kind: Kind, deleted: Aid) -> Step
+        ensures { λ r. ⌜ r ≡ stepTold kind self deleted ⌝ }
+    {
+        let notification = self.issued(kind);
         Step {
             card: self,
             notification,
@@ -25,7 +48,11 @@ impl Card {
     pub fn tick(self) -> Step
         ensures { λ r. ⌜ r ≡ tickStep self ⌝ }
     {
-        self.ticked().step_since(self.last, Aid::none())
+        let phase = self.phase;
+        if phase.waits() {
+            return self.waited().step_since(self.last, Aid::none());
+        }
+        self.run_out().step_since(self.last, Aid::none())
     }
 
     pub fn lost(self) -> Step

@@ -1,17 +1,24 @@
 -- What an entry of the contents says where neither its kind nor its body is wrong, as facts about numbers; and the other way round.
 -- Assumes nothing.
-use mathlib.Core.Path.{_≡_}
+use mathlib.Core.Path.{_≡_, refl}
 use Prim.Native.Nat.{ℕ, _≤_, _<_}
-use mathlib.Core.Logic.{_⊎_, inl, inr, ⊎-elim}
+use mathlib.Core.Logic.{_⊎_, inl, inr, ⊎-elim, ⊎-map}
 use mathlib.Core.List.{List}
 use mathlib.Core.Bool.{Bool, true, false, not, _||_, or-true}
 use lib.ListN.{length}
 use lib.Dec.{leb, ltb}
 use borrow.Author.Tests.{ltb-false, leb-true, eqb-false, le-leb, le-ltb, ne-eqb, not-false}
-use Rattle.choice.proofs.Branches.{on-test}
 use Rattle.contents.specs.Below.{someBelow}
-use Rattle.contents.specs.Contents.{isKnown, kindAt, startAt, stopAt, contentsEnd, sameKind, kindWrong, overlap, bodyWrong}
+use Rattle.contents.specs.Contents.{isKnown, kindAt, startAt, stopAt, contentsEnd, sameKind, kindWrong, apart, overlap, bodyWrong}
 use Rattle.contents.proofs.Below.{neither-l, neither-r, some-each, each-some}
+
+-- two bodies that lie apart, as numbers
+lies-apart : (start stop begin end : ℕ) → apart start stop begin end ≡ true → (end ≤ start) ⊎ (stop ≤ begin)
+lies-apart start stop begin end e = ⊎-map (leb-true end start) (leb-true stop begin) (either (leb end start) (leb stop begin) e)
+  where
+    either : (a b : Bool) → (a || b) ≡ true → (a ≡ true) ⊎ (b ≡ true)
+    either true b e = inl refl
+    either false b e = inr e
 
 -- the kind is known, and none before it is the same
 module _ (s : List ℕ) (i : ℕ) where
@@ -41,10 +48,7 @@ module _ (s : List ℕ) (i : ℕ) where
   pub body-apart : bodyWrong s i ≡ false → (j : ℕ) → j < i → (stopAt s j ≤ startAt s i) ⊎ (stopAt s i ≤ startAt s j)
   body-apart e j h =
       let f = some-each (overlap s i) i (neither-r (ltb (length s) (stopAt s i)) (someBelow i (overlap s i)) (not-late e)) j h in
-      let g = not-false (leb (stopAt s j) (startAt s i) || leb (stopAt s i) (startAt s j)) f in
-      on-test (leb (stopAt s j) (startAt s i))
-      (λ k. inl (leb-true (stopAt s j) (startAt s i) k))
-      (λ k. inr (leb-true (stopAt s i) (startAt s j) (rw k at g)))
+      lies-apart (startAt s i) (stopAt s i) (startAt s j) (stopAt s j) (not-false (apart (startAt s i) (stopAt s i) (startAt s j) (stopAt s j)) f)
 
   pub body-right : contentsEnd s ≤ startAt s i → stopAt s i ≤ length s → ((j : ℕ) → j < i → (stopAt s j ≤ startAt s i) ⊎ (stopAt s i ≤ startAt s j)) → bodyWrong s i ≡ false
   body-right h k f =

@@ -1,8 +1,9 @@
--- The examples, by computing. Assumes nothing.
+-- The examples, by computing, and the first of them as a witness. Assumes nothing.
 use mathlib.Core.Path.{refl}
 use Rattle.contents.specs.Below.{someBelow, firstBelow, sumBelow}
 use Rattle.contents.specs.Contents.{contentsWrong, sectionOf}
-use Rattle.contents.specs.Examples.{ContentsExamples}
+use Rattle.contents.specs.Examples.{entry, listing, three, ContentsExamples, LaidMet}
+use Rattle.contents.proofs.Laid.{end-to-end}
 
 pub contents-examples : ContentsExamples
 unfolding someBelow firstBelow sumBelow contentsWrong sectionOf
@@ -37,3 +38,6 @@ contents-examples =
       found-first = refl;
       missing = refl;
     }
+
+pub laid-met : LaidMet
+laid-met = end-to-end (listing (entry 1 28 2) (entry 2 30 1) three) (contents-examples .in-order)

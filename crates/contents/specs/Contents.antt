@@ -55,9 +55,13 @@ sameKind s i j = eqb (kindAt s j) (kindAt s i)
 abbrev pub kindWrong : List ℕ → ℕ → Bool
 kindWrong s i = not (isKnown (kindAt s i)) || someBelow i (sameKind s i)
 
--- "two sections overlap": neither ends where the other begins, or before
+-- one of two bodies ends where the other begins, or before
+abbrev pub apart : ℕ → ℕ → ℕ → ℕ → Bool
+apart start stop begin end = leb end start || leb stop begin
+
+-- "two sections overlap"
 abbrev pub overlap : List ℕ → ℕ → ℕ → Bool
-overlap s i j = not (leb (stopAt s j) (startAt s i) || leb (stopAt s i) (startAt s j))
+overlap s i j = not (apart (startAt s i) (stopAt s i) (startAt s j) (stopAt s j))
 
 -- "a section begins before the end of the contents or runs past the end of the file", or overlaps one listed before it
 abbrev pub bodyWrong : List ℕ → ℕ → Bool

@@ -6,6 +6,7 @@ use mathlib.Core.List.{List, [], _∷_, _++_}
 use mathlib.Core.Bool.{true, false}
 use Rattle.byte_string.specs.Bytes.{fourBytes}
 use Rattle.contents.specs.Contents.{contentsWrong, sectionOf}
+use Rattle.contents.specs.Statements.{Laid}
 use Rattle.contents.specs.declared.Section.the-variants.{Body, Missing}
 
 abbrev pub entry : ℕ → ℕ → ℕ → List ℕ
@@ -57,3 +58,7 @@ pub record ContentsExamples : Type 0 where
   pub found : sectionOf (listing (entry 2 30 1) (entry 1 28 2) three) 1 ≡ Body (record { start = 28; len = 2 })
   pub found-first : sectionOf (listing (entry 2 30 1) (entry 1 28 2) three) 2 ≡ Body (record { start = 30; len = 1 })
   pub missing : sectionOf (fourBytes 1 ++ entry 2 16 3 ++ three) 1 ≡ Missing
+
+-- some file is laid as the statements have it
+abbrev pub LaidMet : Type 0
+LaidMet = Laid (listing (entry 1 28 2) (entry 2 30 1) three)

@@ -4,7 +4,7 @@ use byte_string::Part;
 use byte_string::read_four;
 ghost use mathlib.Core.Path.{_≡_};
 ghost use Rattle.contents.specs.Below.{someBelow};
-ghost use Rattle.contents.specs.Contents.{isKnown, sections, entryAt, kindAt, startAt, lengthAt, stopAt, contentsEnd, sameKind, kindWrong, overlap, bodyWrong, notFilled, contentsWrong, sectionOf};
+ghost use Rattle.contents.specs.Contents.{isKnown, sections, entryAt, kindAt, startAt, lengthAt, stopAt, contentsEnd, sameKind, kindWrong, apart, overlap, bodyWrong, notFilled, contentsWrong, sectionOf};
 
 // The most bytes of a file.
 pub const MOST_FILE: usize = 65536;
@@ -125,13 +125,21 @@ fn some_kind_wrong(s: &[u8]) -> bool
     false
 }
 
-// Do two bodies overlap?
+// Does one of two bodies end where the other begins, or before? The other is from `begin` to `end`.
+fn apart(start: usize, stop: usize, begin: usize, end: usize) -> bool
+    ensures { λ r. ⌜ r ≡ apart start stop begin end ⌝ }
+{
+    (end <= start) | (stop <= begin)
+}
+
 fn overlaps(s: &[u8], i: u32, j: u32) -> bool
     ensures { λ r. ⌜ r ≡ overlap (now (s .entry)) i j ⌝ }
 {
-    let before = stop_at(s, j) <= start_at(s, i);
-    let after = stop_at(s, i) <= start_at(s, j);
-    !(before | after)
+    let start = start_at(s, i);
+    let stop = stop_at(s, i);
+    let begin = start_at(s, j);
+    let end = stop_at(s, j);
+    !apart(start, stop, begin, end)
 }
 
 // Does a body overlap one that is listed before it?

@@ -18,23 +18,19 @@ use Rattle.events.specs.Events.{cutShort, kindUnknown, wrongLength, checkedOf}
 use Rattle.events.specs.declared.Checked.the-variants as checked
 use Rattle.event_file.specs.Inputs.{inputsOf, freshAnswer, freshBad}
 use Rattle.event_file.specs.File.{isMissing, partIn, bodyOf, Row, table, firstOf, verdictOf}
+use Rattle.event_file.specs.Refusals.{NoneHolds}
 use Rattle.event_file.specs.declared.Verdict.the-variants.{Accepted, Refused}
 
--- no row of the list has a condition that holds
-abbrev pub Passed : List Row → Type 0
-Passed [] = Unit {0}
-Passed (r ∷ rs) = (r .when ≡ false) × Passed rs
-
-passed-case : (r : Row) (rs : List Row) (b : Bool) → r .when ≡ b → cond b (Refused (r .refusal)) (firstOf rs) ≡ Accepted → (firstOf rs ≡ Accepted → Passed rs) → Passed (r ∷ rs)
+passed-case : (r : Row) (rs : List Row) (b : Bool) → r .when ≡ b → cond b (Refused (r .refusal)) (firstOf rs) ≡ Accepted → (firstOf rs ≡ Accepted → NoneHolds rs) → NoneHolds (r ∷ rs)
 passed-case r rs true q e f = let z : _≡_ {A = ℕ} 0 1 = cc in absurd (omega arith)
 passed-case r rs false q e f = (q, f e)
 
-pub passed : (rs : List Row) → firstOf rs ≡ Accepted → Passed rs
+pub passed : (rs : List Row) → firstOf rs ≡ Accepted → NoneHolds rs
 unfolding firstOf
 passed [] e = tt
 passed (r ∷ rs) e = passed-case r rs (r .when) refl e (passed rs)
 
-pub none-refuses : (rs : List Row) → Passed rs → firstOf rs ≡ Accepted
+pub none-refuses : (rs : List Row) → NoneHolds rs → firstOf rs ≡ Accepted
 unfolding firstOf
 none-refuses [] p = refl
 none-refuses (r ∷ rs) p = rw (p .0) (none-refuses rs (p .1))

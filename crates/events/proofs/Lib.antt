@@ -1,2 +1,4 @@
 -- Laws that the crates above cite.
 pub mod Turns
+pub mod Written
+pub mod Examples

@@ -186,17 +186,17 @@ pub record Turn (b : List ℕ) (at : ℕ) (call : Call) (stop : ℕ) : Type 0 wh
   pub rest : RightFrom b stop
 
 -- a test of all events is one of the first and one of the others
-some-first : (t : Event → Bool) (b : List ℕ) (e : Event) (r : List ℕ) → eventsOf b ≡ e ∷ eventsOf r → someEvent t (eventsOf b) ≡ (t e || someEvent t (eventsOf r))
-unfolding someEvent
-some-first t b e r p = ap (someEvent t) p
+module _ (t : Event → Bool) (b : List ℕ) (e : Event) (r : List ℕ) (p : eventsOf b ≡ e ∷ eventsOf r) where
+  pub some-first : someEvent t (eventsOf b) ≡ (t e || someEvent t (eventsOf r))
+  unfolding someEvent
+  some-first = ap (someEvent t) p
 
-wrong-first : (b : List ℕ) (e : Event) (r : List ℕ) → eventsOf b ≡ e ∷ eventsOf r → wrongLength b ≡ false → (ofWrongLength e ≡ false) × (wrongLength r ≡ false)
-unfolding wrongLength
-wrong-first b e r p q = both (ofWrongLength e) (someEvent ofWrongLength (eventsOf r)) (sym (some-first ofWrongLength b e r p) ∙ q)
-  where
-    both : (s t : Bool) → (s || t) ≡ false → (s ≡ false) × (t ≡ false)
-    both true t e = absurd (false≢true (sym e))
-    both false t e = (refl, e)
+  pub none-first : someEvent t (eventsOf b) ≡ false → (t e ≡ false) × (someEvent t (eventsOf r) ≡ false)
+  none-first q = both (t e) (someEvent t (eventsOf r)) (sym some-first ∙ q)
+    where
+      both : (x y : Bool) → (x || y) ≡ false → (x ≡ false) × (y ≡ false)
+      both true y e = absurd (false≢true (sym e))
+      both false y e = (refl, e)
 
 -- the event at a place, where the body does not end within it
 module _ (b : List ℕ) (at : ℕ) where
@@ -212,10 +212,11 @@ module _ (b : List ℕ) (at : ℕ) where
   next-ends h = rw (lt-ltb (length b) (stopOf b at) h)
 
   turn-at : stopOf b at ≤ length b → RightFrom b at → Turn b at callAt (stopOf b at)
+  unfolding wrongLength
   turn-at h f =
       let n = pairAt b (at + 1) in
       let l : at < length b = omega arith in
-      let g = wrong-first (drop at b) (eventAt b at) (drop (stopOf b at) b) (turn-events b at l h) (f .lengths) in
+      let g = none-first ofWrongLength (drop at b) (eventAt b at) (drop (stopOf b at) b) (turn-events b at l h) (f .lengths) in
       let m : length (eventAt b at .bytes) ≡ n = turn-length b at l h ∙ omega arith in
       let s : stopOf b at ≡ at + headSize + n = omega arith in
       record {

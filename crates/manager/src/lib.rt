@@ -10,10 +10,9 @@ use command::Request;
 use command::read;
 use isdp::Aid;
 use places::Found;
-use responses::write_data;
+use responses::Information;
 use responses::write_deleted;
-use responses::write_one_status;
-use responses::write_status;
+use responses::write_information;
 use status::Status;
 ghost use mathlib.Core.Path.{_≡_};
 ghost use mathlib.Core.List.{_∷_, []};
@@ -75,7 +74,7 @@ fn status_of_all(card: Card, life: bool, fallback: bool, buf: &mut [u8]) -> Answ
     requires { ⌜ leastBuffer ≤ length (now buf) ⌝ }
     ensures { λ r. ⌜ Served (now (buf .entry)) (known card (askedWork card (statusOfAll life fallback))) r (now (buf .exit)) ⌝ }
 {
-    let n = write_status(card, life, fallback, buf, 0);
+    let n = write_information(card, Information::All { life, fallback }, buf, 0);
     card.step_since(card.last, Aid::none())
         .answer(Status::Done, n)
 }
@@ -87,7 +86,16 @@ fn status_of_one(card: Card, aid: &[u8], life: bool, fallback: bool, buf: &mut [
     let Found::At(t) = card.place_of(aid) else {
         return card.refused(Status::NotHeld);
     };
-    let n = write_one_status(card, t, life, fallback, buf, 0);
+    let n = write_information(
+        card,
+        Information::One {
+            place: t,
+            life,
+            fallback,
+        },
+        buf,
+        0,
+    );
     card.step_since(card.last, Aid::none())
         .answer(Status::Done, n)
 }
@@ -96,7 +104,7 @@ fn get_data(card: Card, buf: &mut [u8]) -> Answer
     requires { ⌜ leastBuffer ≤ length (now buf) ⌝ }
     ensures { λ r. ⌜ Served (now (buf .entry)) (known card (askedWork card getData)) r (now (buf .exit)) ⌝ }
 {
-    let n = write_data(card, buf, 0);
+    let n = write_information(card, Information::Data, buf, 0);
     card.step_since(card.last, Aid::none())
         .answer(Status::Done, n)
 }
@@ -108,15 +116,15 @@ fn serve(card: Card, verdict: u8, request: Request, bytes: &[u8], buf: &mut [u8]
 {
     match request {
         Request::Create { aid, quota } => {
-            acknowledged(steps::create(card, part_of(bytes, aid), quota), buf)
+            acknowledged(calls::create(card, part_of(bytes, aid), quota), buf)
         }
-        Request::Enable(aid) => steps::enable(card, part_of(bytes, aid)),
-        Request::Disable(aid) => steps::disable(card, part_of(bytes, aid)),
-        Request::SetFallBack(aid) => steps::set_fall_back(card, part_of(bytes, aid)),
-        Request::Delete(aid) => acknowledged(steps::delete(card, part_of(bytes, aid)), buf),
+        Request::Enable(aid) => calls::enable(card, part_of(bytes, aid)),
+        Request::Disable(aid) => calls::disable(card, part_of(bytes, aid)),
+        Request::SetFallBack(aid) => calls::set_fall_back(card, part_of(bytes, aid)),
+        Request::Delete(aid) => acknowledged(calls::delete(card, part_of(bytes, aid)), buf),
         Request::MasterDelete(aid) => {
             acknowledged(
-                steps::master_delete(card, part_of(bytes, aid), verdict),
+                calls::master_delete(card, part_of(bytes, aid), verdict),
                 buf,
             )
         }
@@ -154,9 +162,9 @@ pub fn answer_on_sound(card: Card, call: Call, bytes: &[u8], buf: &mut [u8]) -> 
             verdict,
             bytes: part,
         } => { command(card, verdict, part_of(bytes, part), buf) }
-        Call::Keyed(aid) => steps::keyed(card, part_of(bytes, aid)),
-        Call::Stored { aid, n } => steps::stored(card, part_of(bytes, aid), n),
-        Call::Finished { aid, policy } => steps::finished(card, part_of(bytes, aid), policy),
+        Call::Keyed(aid) => calls::keyed(card, part_of(bytes, aid)),
+        Call::Stored { aid, n } => calls::stored(card, part_of(bytes, aid), n),
+        Call::Finished { aid, policy } => calls::finished(card, part_of(bytes, aid), policy),
         Call::Tick => card.tick().answer(Status::Done, 0),
         Call::Lost => card.lost().answer(Status::Done, 0),
     }

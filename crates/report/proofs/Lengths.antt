@@ -11,8 +11,8 @@ use lib.Seq.{drop-cons}
 use Rattle.choice.proofs.Branches.{each, by-lt, by-eq}
 use Rattle.text.proofs.NumberLaws.{text-small}
 use Rattle.isdp.specs.declared.Aid.{Aid}
-use Rattle.answers.specs.Lines.{aidText}
-use Rattle.answers.proofs.Lengths.{aid-length, column-length, decimal-length, spaces-length}
+use Rattle.profiles.specs.Profiles.{aidText}
+use Rattle.profiles.proofs.Lengths.{aid-length, column-length, decimal-length, spaces-length}
 use Rattle.tally.specs.Lines.{mostLines, restLine, aidsIn}
 use Rattle.tally.specs.declared.Tally.{Tally}
 use Rattle.tally.proofs.Seeking.{unread}

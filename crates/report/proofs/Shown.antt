@@ -1,12 +1,19 @@
--- The reports of the page: both sides compute to the same bytes.
+-- A share is rounded, by the laws of division; the reports of the page compute to the same bytes.
 use mathlib.Core.Path.{refl}
+use Prim.Native.Nat.{ℕ, _+_, _*_}
+use native.Mathlib.Nat.{div-mul-le-self, lt-div-mul-add}
+use native.Mathlib.Omega.{arith}
 use Rattle.choice.specs.Choice.{pick, isBelow, isSame}
 use Rattle.text.specs.Hex.{glyphOf, hexText}
 use Rattle.text.specs.Numbers.{digitsText}
 use Rattle.isdp.specs.Aids.{padded}
-use Rattle.answers.specs.Explained.{spaces, leadOf, columnText}
+use Rattle.profiles.specs.Profiles.{spaces, leadOf, columnText}
 use Rattle.report.specs.Report.{figureText, shareLead, percentText, shareText, plainText, minutesText, totalText, aidLine, linesText, restText, headText, refusedText, totalsText, reportText}
-use Rattle.report.specs.Statements.{Shown}
+use Rattle.report.specs.Statements.{Rounded, Shown}
+
+pub rounded : Rounded
+rounded minutes ticks h =
+    (div-mul-le-self (minutes * 2000 + ticks) (ticks * 2), lt-div-mul-add {a = minutes * 2000 + ticks} {b = ticks * 2} (omega arith))
 
 pub shown : Shown
 unfolding reportText totalsText refusedText headText restText linesText aidLine totalText minutesText plainText shareText percentText shareLead figureText columnText leadOf spaces digitsText hexText glyphOf pick isBelow isSame padded

@@ -7,9 +7,8 @@ use lib.ListN.{length, getD}
 use Rattle.choice.specs.Choice.{pick, isBelow, isSame}
 use Rattle.text.specs.Numbers.{decimalText}
 use Rattle.isdp.specs.declared.Aid.{Aid}
-use Rattle.answers.specs.Letters.{text}
-use Rattle.answers.specs.Lines.{aidText}
-use Rattle.answers.specs.Explained.{spaces, columnText}
+use Rattle.profiles.specs.Letters.{text}
+use Rattle.profiles.specs.Profiles.{aidText, spaces, columnText}
 use Rattle.tally.specs.Lines.{mostLines, restLine, aidsIn}
 use Rattle.tally.specs.declared.Tally.{Tally}
 

@@ -1,19 +1,24 @@
--- docs/EVENTS.md: the two reports of the page, byte for byte, and what the share of some minutes is. By computing.
+-- docs/EVENTS.md: how a share is rounded, and by computing the two reports of the page, byte for byte, and what the share of some minutes is.
 use mathlib.Core.Path.{_≡_}
-use Prim.Native.Nat.{ℕ}
+use Prim.Native.Nat.{ℕ, _+_, _*_, _≤_, _<_}
 use mathlib.Core.List.{List, [], _∷_, _++_}
 use mathlib.Core.Bool.{Bool, true, false}
 use lib.ListN.{replicate}
-use Rattle.isdp.specs.Aids.{noAid, named}
-use Rattle.isdp.specs.declared.Aid.{Aid}
-use Rattle.answers.specs.Letters.{text}
+use Rattle.isdp.specs.Aids.{noAid}
+use Rattle.profiles.specs.Letters.{text}
+use Rattle.tally.specs.Statements.{aidEnding}
 use Rattle.tally.specs.declared.Tally.{Tally}
-use Rattle.report.specs.Report.{shareText, reportText}
+use Rattle.report.specs.Report.{tenthsOf, shareText, reportText}
 
-abbrev pub aidEnding : ℕ → Aid
-aidEnding n = named (0xA0 ∷ 0x00 ∷ 0x00 ∷ 0x00 ∷ n ∷ [])
+-- "rounded to the nearest tenth, a half upwards": with t tenths of a percent, t ≤ 1000 * minutes / ticks + 1/2 < t + 1, without the fractions
+abbrev pub Rounded : Type 0
+Rounded =
+    (minutes ticks : ℕ)
+    → 0 < ticks
+    → (tenthsOf minutes ticks * (ticks * 2) ≤ minutes * 2000 + ticks)
+    × (minutes * 2000 + ticks < tenthsOf minutes ticks * (ticks * 2) + ticks * 2)
 
--- the tally of the page; without ticks, and with no rest, the second
+-- a tally as the page has it, with a rest or without
 abbrev pub tallyOf : Bool → ℕ → Tally
 tallyOf more ticks =
     record {
@@ -52,7 +57,7 @@ pub record Shown : Type 0 where
       ++ text "ticks                                   0\n"
       ++ text "events                                 41\n"
       ++ text "refused                                 3\n"
-  -- rounded to the nearest tenth, a half upwards
+  -- a share of all, one rounded up, a half and less than a half
   pub all-of-it : shareText 7 7 ≡ text "  100.0%"
   pub two-thirds : shareText 2 3 ≡ text "   66.7%"
   pub half-a-tenth : shareText 1 2000 ≡ text "    0.1%"

@@ -1,13 +1,13 @@
 // What follows a name on its line: a number, and for a person the columns and the share of all ticks.
-use answers::put_column;
-use answers::put_spaces;
 use byte_string::put_byte;
 use byte_string::put_bytes;
+use profiles::put_column;
+use profiles::put_spaces;
 use text::put_decimal;
 ghost use mathlib.Core.Path.{_≡_};
 ghost use Prim.Native.Nat.{_-_};
 ghost use Rattle.byte_string.specs.Put.{Wrote};
-ghost use Rattle.answers.specs.Explained.{spaces};
+ghost use Rattle.profiles.specs.Profiles.{spaces};
 ghost use Rattle.report.specs.Report.{nameColumn, figureText, shareLead, percentText, shareText, plainText, minutesText, totalText};
 
 // The spaces after a name of `size` letters in its column.

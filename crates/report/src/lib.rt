@@ -2,11 +2,11 @@
 // Every function answers for every record and every buffer: what does not fit is dropped, as the writers of `text` do.
 mod cells;
 
-use answers::put_aid;
 use byte_string::put_bytes;
 use cells::put_minutes;
 use cells::put_total;
 use isdp::Aid;
+use profiles::put_aid;
 use tally::Names;
 use tally::Tally;
 ghost use Prim.Native.Nat.{_*_, _≤_};

@@ -13,6 +13,8 @@ use Rattle.isdp.specs.declared.Aid.{Aid}
 use Rattle.places.specs.Places.{at, countOf}
 use Rattle.card.specs.Cards.{freeIn}
 use Rattle.card.specs.declared.Card.{Card}
+use Rattle.responses.specs.declared.Information.{Information}
+use Rattle.responses.specs.declared.Information.the-variants.{All, One, Data}
 
 -- "4F": the AID, with its true length
 abbrev pub aidElement : List ℕ → List ℕ
@@ -71,6 +73,12 @@ dataResponse c =
     ∷ 0x81 ∷ 1 ∷ countOf held (c .places)
     ∷ 0x82 ∷ 4 ∷ fourBytes (freeIn c)
     ++ (0x83 ∷ 4 ∷ fourBytes (c .volatile))
+
+-- the response of a command that changes nothing
+abbrev pub informationOf : Card → Information → List ℕ
+informationOf c (All life fallback) = statusResponse c life fallback
+informationOf c (One place life fallback) = oneStatus c place life fallback
+informationOf c Data = dataResponse c
 
 -- confirmation: the AID deleted, where there is one
 unfoldable pub deletedResponse : Aid → List ℕ

@@ -15,7 +15,7 @@ ghost use Rattle.isdp.specs.Sizes.{mostPlaces};
 ghost use Rattle.isdp.specs.Aids.{bytesOf};
 ghost use Rattle.isdp.specs.Place.{held};
 ghost use Rattle.places.specs.Places.{countOf};
-ghost use Rattle.responses.specs.Responses.{mostRow, aidElement, lifeElement, markElement, markOf, listed, statusRow, rowOf, statusResponse, oneStatus, dataResponse, deletedResponse};
+ghost use Rattle.responses.specs.Responses.{mostRow, aidElement, lifeElement, markElement, markOf, listed, statusRow, rowOf, statusResponse, oneStatus, dataResponse, informationOf, deletedResponse};
 
 // The number of ISD-Ps, in the one byte that GET DATA has for it.
 pub fn count_held(places: [Isdp; PLACES]) -> u8
@@ -113,7 +113,7 @@ fn write_place(p: Isdp, mark: u8, life: bool, fallback: bool, buf: &mut [u8], at
 }
 
 // GET STATUS of all.
-pub fn write_status(card: Card, life: bool, fallback: bool, buf: &mut [u8], at: usize) -> usize
+fn write_status(card: Card, life: bool, fallback: bool, buf: &mut [u8], at: usize) -> usize
     ensures { λ r. ⌜ Wrote (now (buf .entry)) at (statusResponse card life fallback) r (now (buf .exit)) × (length (statusResponse card life fallback) ≤ mostRow * mostPlaces) ⌝ }
 {
     let places = card.places;
@@ -130,7 +130,7 @@ pub fn write_status(card: Card, life: bool, fallback: bool, buf: &mut [u8], at: 
 }
 
 // GET STATUS of the profile at a place.
-pub fn write_one_status(
+fn write_one_status(
     card: Card,
     place: u8,
     life: bool,
@@ -158,7 +158,7 @@ fn write_four(n: u32, buf: &mut [u8], at: usize) -> usize
 }
 
 // GET DATA.
-pub fn write_data(card: Card, buf: &mut [u8], at: usize) -> usize
+fn write_data(card: Card, buf: &mut [u8], at: usize) -> usize
     ensures { λ r. ⌜ Wrote (now (buf .entry)) at (dataResponse card) r (now (buf .exit)) ⌝ }
 {
     let places = card.places;
@@ -170,6 +170,35 @@ pub fn write_data(card: Card, buf: &mut [u8], at: usize) -> usize
     let figure = [0x83, 4];
     let j = put_bytes(buf, m, &figure);
     write_four(card.volatile, buf, j)
+}
+
+// What a command asks that changes nothing.
+pub enum Information {
+    All {
+        life: bool,
+        fallback: bool,
+    },
+    One {
+        place: u8,
+        life: bool,
+        fallback: bool,
+    },
+    Data,
+}
+
+// The response of each, by one door, so that the card of the caller stays whole.
+pub fn write_information(card: Card, asked: Information, buf: &mut [u8], at: usize) -> usize
+    ensures { λ r. ⌜ Wrote (now (buf .entry)) at (informationOf card asked) r (now (buf .exit)) × (length (informationOf card asked) ≤ mostRow * mostPlaces) ⌝ }
+{
+    match asked {
+        Information::All { life, fallback } => write_status(card, life, fallback, buf, at),
+        Information::One {
+            place,
+            life,
+            fallback,
+        } => write_one_status(card, place, life, fallback, buf, at),
+        Information::Data => write_data(card, buf, at),
+    }
 }
 
 // Confirmation: the AID deleted, where there is one.

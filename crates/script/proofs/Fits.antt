@@ -16,18 +16,18 @@ use Rattle.lines.specs.Lines.{longest}
 use Rattle.byte_string.specs.Bytes.{between}
 use Rattle.byte_string.specs.declared.Part.{Part}
 use Rattle.manager.specs.declared.Call.the-variants as call
-use Rattle.script.specs.Arguments.{most32, most8, onBytes, onValue, bytesAt, valueAt, roomAt}
-use Rattle.script.specs.Orders.{hash, verbOf, counted, inner, freshWith, freshAt, commandAt, keyedAt, storedAt, finishedAt, recordWords, orderBy, orderOf}
+use Rattle.records.specs.Arguments.{most32, most8, onBytes, onValue, bytesAt, valueAt}
+use Rattle.script.specs.Orders.{hash, verbOf, counted, inner, roomAt, freshWith, freshAt, commandAt, keyedAt, storedAt, finishedAt, recordWords, orderBy, orderOf}
 use Rattle.script.specs.Fits.{Fits, OrderFits, OrdersFit}
-use Rattle.script.specs.declared.arguments.Reason.the-variants.{WordsMissing, BadHex}
-use Rattle.script.specs.declared.arguments.Bytes.the-variants as bytes
-use Rattle.script.specs.declared.arguments.Value.{Value}
-use Rattle.script.specs.declared.arguments.Value.the-variants as value
-use Rattle.script.specs.declared.orders.Verb.{Verb}
-use Rattle.script.specs.declared.orders.Verb.the-variants as verb
-use Rattle.script.specs.declared.orders.Order.{Order}
-use Rattle.script.specs.declared.orders.Order.the-variants as order
-use Rattle.script.proofs.Within.{value-within}
+use Rattle.records.specs.declared.arguments.Reason.the-variants.{WordsMissing, BadHex}
+use Rattle.records.specs.declared.arguments.Bytes.the-variants as bytes
+use Rattle.records.specs.declared.arguments.Value.{Value}
+use Rattle.records.specs.declared.arguments.Value.the-variants as value
+use Rattle.script.specs.declared.Verb.{Verb}
+use Rattle.script.specs.declared.Verb.the-variants as verb
+use Rattle.script.specs.declared.Order.{Order}
+use Rattle.script.specs.declared.Order.the-variants as order
+use Rattle.records.proofs.Within.{value-within}
 
 module _ (s : List ℕ) where
   room-on : (at n k : ℕ) (w : Word) → value.Is n k ≡ onWord w (value.Is 256 at) (λ a e. valueAt 1024 s at) → n ≤ 1024

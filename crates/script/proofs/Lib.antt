@@ -1,6 +1,3 @@
--- What the proofs of the functions share.
-pub mod Within
-pub mod Names
-pub mod PlaceList
+-- What an order promises, and examples.
 pub mod Fits
 pub mod Examples

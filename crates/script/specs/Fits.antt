@@ -12,8 +12,8 @@ use Rattle.byte_string.specs.Bytes.{partOf}
 use Rattle.manager.specs.declared.Call.{Call}
 use Rattle.manager.specs.declared.Call.the-variants as call
 use Rattle.script.specs.Orders.{orderOf}
-use Rattle.script.specs.declared.orders.Order.{Order}
-use Rattle.script.specs.declared.orders.Order.the-variants as order
+use Rattle.script.specs.declared.Order.{Order}
+use Rattle.script.specs.declared.Order.the-variants as order
 
 pub record Fits (s : List ℕ) (p : Part) : Type 0 where
   pub some : 0 < p .len

@@ -1,5 +1,5 @@
 -- What a line of a script asks for: "words parted by spaces, .. `#` comments and empty lines passed over". The first word decides,
--- then the number of words, then the words from left to right: the first that is wrong gives the reason (those of a record: Records).
+-- then the number of words, then the words from left to right: the first that is wrong gives the reason (those of a record: records/Records).
 use Prim.Native.Nat.{ℕ, _+_}
 use mathlib.Core.List.{List}
 use lib.ListN.{length, getD}
@@ -11,13 +11,15 @@ use Rattle.isdp.specs.Sizes.{mostPlaces}
 use Rattle.byte_string.specs.declared.Part.{Part}
 use Rattle.manager.specs.declared.Call.{Call}
 use Rattle.manager.specs.declared.Call.the-variants as call
-use Rattle.script.specs.Ascii.{ascii}
-use Rattle.script.specs.Arguments.{most32, most8, onBytes, onValue, bytesAt, valueAt, roomAt}
-use Rattle.script.specs.declared.arguments.Reason.the-variants.{TooLong, UnknownWord, WordsMissing, TooManyWords}
-use Rattle.script.specs.declared.orders.Verb.{Verb}
-use Rattle.script.specs.declared.orders.Verb.the-variants as verb
-use Rattle.script.specs.declared.orders.Order.{Order}
-use Rattle.script.specs.declared.orders.Order.the-variants as order
+use Rattle.records.specs.Ascii.{ascii}
+use Rattle.records.specs.Arguments.{most32, most8, onBytes, onValue, bytesAt, valueAt}
+use Rattle.records.specs.declared.arguments.Reason.the-variants.{TooLong, UnknownWord, WordsMissing, TooManyWords}
+use Rattle.records.specs.declared.arguments.Value.{Value}
+use Rattle.records.specs.declared.arguments.Value.the-variants as value
+use Rattle.script.specs.declared.Verb.{Verb}
+use Rattle.script.specs.declared.Verb.the-variants as verb
+use Rattle.script.specs.declared.Order.{Order}
+use Rattle.script.specs.declared.Order.the-variants as order
 
 -- `#`
 abbrev pub hash : ℕ
@@ -51,6 +53,10 @@ unfoldable pub freshAt : List ℕ → ℕ → Order
 freshAt s at =
     onBytes (bytesAt s at) order.Wrong λ eid b.
     onBytes (bytesAt s b) order.Wrong λ aid c. freshWith s c eid aid
+
+-- "`command` lends a buffer of 256 bytes, or of LENGTH (0 to 1,024)"
+unfoldable pub roomAt : List ℕ → ℕ → Value
+roomAt s at = onWord (wordAt s at) (value.Is 256 at) λ a e. valueAt 1024 s at
 
 -- VERDICT HEX, or VERDICT HEX LENGTH
 unfoldable pub commandAt : List ℕ → ℕ → Order

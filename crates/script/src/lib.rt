@@ -1,12 +1,251 @@
-// What a line of a script means: the call that it asks for, or what is wrong with it. Every function answers for every line.
-mod arguments;
-mod colons;
-mod orders;
-mod records;
+// What a line of a script means: the order that it gives, by its first word, or what is wrong with it. Every function answers for every line.
+use byte_string::Part;
+use byte_string::same;
+use card::Card;
+use lines::LONGEST;
+use manager::Call;
+use records::Bytes;
+use records::MOST;
+use records::Reason;
+use records::Value;
+use records::next_bytes;
+use records::next_value;
+use text::Word;
+use text::count_words;
+use text::next_word;
+ghost use mathlib.Core.Path.{_≡_};
+ghost use Rattle.script.specs.Orders.{verbOf, counted, inner, roomAt, freshWith, freshAt, commandAt, keyedAt, storedAt, finishedAt, orderBy, orderOf};
 
-pub use arguments::Reason;
-pub use orders::Order;
-pub use orders::read_line;
-pub use records::Reading;
-pub use records::Record;
-pub use records::record_at;
+// A byte string stays in the line, where a part names the word that spells it: an enum holds no array.
+pub enum Order {
+    Nothing,
+    Fresh {
+        eid: Part,
+        aid: Part,
+        capacity: u32,
+        quota: u32,
+        used: u32,
+        volatile: u32,
+    },
+    // The call, and the length of the response buffer lent to it.
+    Call {
+        call: Call,
+        room: usize,
+    },
+    // The record's words begin at this place; `records::record_at` reads them.
+    Record(usize),
+    Wrong(Reason),
+}
+
+// The words of a `card` line: seven, and one for each place.
+const RECORD: usize = 7 + Card::PLACES;
+
+pub enum Verb {
+    Fresh,
+    Command,
+    Keyed,
+    Stored,
+    Finished,
+    Tick,
+    Lost,
+    Card,
+    Unknown,
+}
+
+fn verb_of(w: &[u8]) -> Verb
+    ensures { λ r. ⌜ r ≡ verbOf (now (w .entry)) ⌝ }
+{
+    if same(w, b"fresh") {
+        return Verb::Fresh;
+    }
+    if same(w, b"command") {
+        return Verb::Command;
+    }
+    if same(w, b"keyed") {
+        return Verb::Keyed;
+    }
+    if same(w, b"stored") {
+        return Verb::Stored;
+    }
+    if same(w, b"finished") {
+        return Verb::Finished;
+    }
+    if same(w, b"tick") {
+        return Verb::Tick;
+    }
+    if same(w, b"lost") {
+        return Verb::Lost;
+    }
+    if same(w, b"card") {
+        return Verb::Card;
+    }
+    Verb::Unknown
+}
+
+// The order, where the line has the words that it should have.
+fn counted(least: usize, most: usize, n: usize, order: Order) -> Order
+    ensures { λ r. ⌜ r ≡ counted least most n order ⌝ }
+{
+    if n < least {
+        return Order::Wrong(Reason::WordsMissing);
+    }
+    if most < n {
+        return Order::Wrong(Reason::TooManyWords);
+    }
+    order
+}
+
+// CAPACITY QUOTA USED VOLATILE.
+fn fresh_with(s: &[u8], at: usize, eid: Part, aid: Part) -> Order
+    ensures { λ r. ⌜ r ≡ freshWith (now (s .entry)) at eid aid ⌝ }
+{
+    match next_value(s, at, MOST) {
+        Value::Wrong(why) => Order::Wrong(why),
+        Value::Is {
+            n: capacity,
+            next: b,
+        } => match next_value(s, b, MOST) {
+            Value::Wrong(why) => Order::Wrong(why),
+            Value::Is { n: quota, next: c } => match next_value(s, c, MOST) {
+                Value::Wrong(why) => Order::Wrong(why),
+                Value::Is { n: used, next: d } => match next_value(s, d, MOST) {
+                    Value::Wrong(why) => Order::Wrong(why),
+                    Value::Is {
+                        n: volatile,
+                        next: _,
+                    } => Order::Fresh {
+                        eid,
+                        aid,
+                        capacity,
+                        quota,
+                        used,
+                        volatile,
+                    },
+                },
+            },
+        },
+    }
+}
+
+fn fresh_order(s: &[u8], at: usize) -> Order
+    ensures { λ r. ⌜ r ≡ freshAt (now (s .entry)) at ⌝ }
+{
+    match next_bytes(s, at) {
+        Bytes::Wrong(why) => Order::Wrong(why),
+        Bytes::Is { part: eid, next: b } => match next_bytes(s, b) {
+            Bytes::Wrong(why) => Order::Wrong(why),
+            Bytes::Is { part: aid, next: c } => fresh_with(s, c, eid, aid),
+        },
+    }
+}
+
+// The length of the buffer that a command lends.
+fn next_room(s: &[u8], at: usize) -> Value
+    ensures { λ r. ⌜ r ≡ roomAt (now (s .entry)) at ⌝ }
+{
+    let Word::Span { .. } = next_word(s, at) else {
+        return Value::Is { n: 256, next: at };
+    };
+    next_value(s, at, 1024)
+}
+
+fn command_order(s: &[u8], at: usize) -> Order
+    ensures { λ r. ⌜ r ≡ commandAt (now (s .entry)) at ⌝ }
+{
+    match next_value(s, at, 255) {
+        Value::Wrong(why) => Order::Wrong(why),
+        Value::Is { n, next: b } => match next_bytes(s, b) {
+            Bytes::Wrong(why) => Order::Wrong(why),
+            Bytes::Is {
+                part: bytes,
+                next: c,
+            } => match next_room(s, c) {
+                Value::Wrong(why) => Order::Wrong(why),
+                Value::Is { n: room, next: _ } => {
+                    let verdict = n as u8;
+                    let call = Call::Command { verdict, bytes };
+                    Order::Call {
+                        call,
+                        room: room as usize,
+                    }
+                }
+            },
+        },
+    }
+}
+
+// A call that has no response lends no buffer.
+fn inner(call: Call) -> Order
+    ensures { λ r. ⌜ r ≡ inner call ⌝ }
+{
+    Order::Call { call, room: 0 }
+}
+
+fn keyed_order(s: &[u8], at: usize) -> Order
+    ensures { λ r. ⌜ r ≡ keyedAt (now (s .entry)) at ⌝ }
+{
+    match next_bytes(s, at) {
+        Bytes::Wrong(why) => Order::Wrong(why),
+        Bytes::Is { part: aid, next: _ } => inner(Call::Keyed(aid)),
+    }
+}
+
+fn stored_order(s: &[u8], at: usize) -> Order
+    ensures { λ r. ⌜ r ≡ storedAt (now (s .entry)) at ⌝ }
+{
+    match next_bytes(s, at) {
+        Bytes::Wrong(why) => Order::Wrong(why),
+        Bytes::Is { part: aid, next: b } => match next_value(s, b, MOST) {
+            Value::Wrong(why) => Order::Wrong(why),
+            Value::Is { n, next: _ } => inner(Call::Stored { aid, n }),
+        },
+    }
+}
+
+fn finished_order(s: &[u8], at: usize) -> Order
+    ensures { λ r. ⌜ r ≡ finishedAt (now (s .entry)) at ⌝ }
+{
+    match next_bytes(s, at) {
+        Bytes::Wrong(why) => Order::Wrong(why),
+        Bytes::Is { part: aid, next: b } => match next_value(s, b, 255) {
+            Value::Wrong(why) => Order::Wrong(why),
+            Value::Is { n, next: _ } => {
+                let policy = n as u8;
+                inner(Call::Finished { aid, policy })
+            }
+        },
+    }
+}
+
+// The order by its first word, of a line of n words.
+fn order_by(verb: Verb, n: usize, s: &[u8], at: usize) -> Order
+    ensures { λ r. ⌜ r ≡ orderBy verb n (now (s .entry)) at ⌝ }
+{
+    match verb {
+        Verb::Fresh => counted(7, 7, n, fresh_order(s, at)),
+        Verb::Command => counted(3, 4, n, command_order(s, at)),
+        Verb::Keyed => counted(2, 2, n, keyed_order(s, at)),
+        Verb::Stored => counted(3, 3, n, stored_order(s, at)),
+        Verb::Finished => counted(3, 3, n, finished_order(s, at)),
+        Verb::Tick => counted(1, 1, n, inner(Call::Tick)),
+        Verb::Lost => counted(1, 1, n, inner(Call::Lost)),
+        Verb::Card => counted(RECORD, RECORD, n, Order::Record(at)),
+        Verb::Unknown => Order::Wrong(Reason::UnknownWord),
+    }
+}
+
+// What a line says, given without its line end.
+pub fn read_line(s: &[u8]) -> Order
+    ensures { λ r. ⌜ r ≡ orderOf (now (s .entry)) ⌝ }
+{
+    if LONGEST < s.len() {
+        return Order::Wrong(Reason::TooLong);
+    }
+    let Word::Span { from, to } = next_word(s, 0) else {
+        return Order::Nothing;
+    };
+    if s[from] == b'#' {
+        return Order::Nothing;
+    }
+    order_by(verb_of(&s[from..to]), count_words(s), s, to)
+}

@@ -16,11 +16,11 @@ use Rattle.manager.specs.Calls.{Call}
 use Rattle.manager.specs.Manager.{step}
 use Rattle.manager.proofs.Kept.{on-sound-agrees, step-sound}
 use Rattle.script.specs.Orders.{orderOf}
-use Rattle.script.specs.Records.{onReading, recordAt}
-use Rattle.script.specs.declared.orders.Order.{Order}
-use Rattle.script.specs.declared.orders.Order.the-variants as order
-use Rattle.script.specs.declared.records.Reading.{Reading}
-use Rattle.script.specs.declared.records.Reading.the-variants as reading
+use Rattle.records.specs.Records.{onReading, recordAt}
+use Rattle.script.specs.declared.Order.{Order}
+use Rattle.script.specs.declared.Order.the-variants as order
+use Rattle.records.specs.declared.Reading.{Reading}
+use Rattle.records.specs.declared.Reading.the-variants as reading
 use Rattle.session.specs.Session.{bytesOf, partIn, callIn, recordWork, recordOutcome, replyOf, firstReply, faultReply, answerTo, Reply, replyBy, lineOf, askedLine, scriptOf, askedScript, AskedOnce}
 
 -- the flag is right: where it says that the card is sound, it is

@@ -5,10 +5,10 @@ use native.Mathlib.Omega.{arith}
 use lib.ListN.{length, length-append}
 use Rattle.choice.specs.Choice.{pick, isBelow}
 use Rattle.text.specs.Numbers.{digitsText}
-use Rattle.script.specs.declared.arguments.Reason.{Reason}
-use Rattle.script.specs.declared.arguments.Reason.the-variants.{TooLong, UnknownWord, WordsMissing, TooManyWords, BadHex, BadNumber, BadPlace, BadPhase}
-use Rattle.answers.specs.Letters.{text}
-use Rattle.answers.proofs.Lengths.{decimal-length}
+use Rattle.records.specs.declared.arguments.Reason.{Reason}
+use Rattle.records.specs.declared.arguments.Reason.the-variants.{TooLong, UnknownWord, WordsMissing, TooManyWords, BadHex, BadNumber, BadPlace, BadPhase}
+use Rattle.profiles.specs.Letters.{text}
+use Rattle.profiles.proofs.Lengths.{decimal-length}
 use Rattle.session.specs.Reasons.{reasonText, reasonLine, mostFault}
 
 reason-length : (r : Reason) → length (reasonText r) ≤ 14

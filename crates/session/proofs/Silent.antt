@@ -4,6 +4,7 @@ use Prim.Native.Nat.{ℕ, _≤_}
 use mathlib.Core.Path.{_≡_, refl, ap, sym, _∙_, subst}
 use mathlib.Core.List.{List, [], _∷_}
 use mathlib.Core.Bool.{Bool, true, false, not, cond}
+use native.Mathlib.Omega.{arith}
 use lib.ListN.{length}
 use Rattle.status.specs.StatusWords.{isDone}
 use Rattle.status.specs.Rows.{row, wordOf}
@@ -19,10 +20,12 @@ use Rattle.card.specs.declared.Card.{Card}
 use Rattle.card.specs.declared.Step.{Step}
 use Rattle.card.specs.declared.Answer.{Answer}
 use Rattle.script.specs.Orders.{orderOf}
-use Rattle.script.specs.Records.{onReading}
-use Rattle.script.specs.declared.records.Reading.{Reading}
-use Rattle.script.specs.declared.records.Reading.the-variants as reading
-use Rattle.script.specs.declared.orders.Order.{Order}
+use Rattle.records.specs.Records.{onReading}
+use Rattle.records.specs.declared.arguments.Reason.{Reason}
+use Rattle.records.specs.declared.Reading.{Reading}
+use Rattle.records.specs.declared.Reading.the-variants as reading
+use Rattle.script.specs.declared.Order.{Order}
+use Rattle.session.specs.Reasons.{reasonLine, mostFault}
 use Rattle.session.specs.Session.{recordOutcome, answerText, firstReply, faultReply, answerTo, Reply, replyBy, lineOf, mostText, Replied, Used}
 use Rattle.session.specs.declared.Turn.{Turn}
 use Rattle.session.proofs.Spelled.{replied}
@@ -49,6 +52,21 @@ Silently old at explain a r new = (r .card ≡ a .card) × ((r .sound ≡ isDone
 pub first-replied : {old new : List ℕ} {at : ℕ} {a : Answer} {r : Turn} (explain : Bool) (o : Outcome) → o .response ≡ [] → a ≡ handed o → Silently old at explain a r new → Replied old at (firstReply explain o) r new
 first-replied explain o none e t =
     replied explain (isDone (o .status)) [] o e (sym none) (t .0) (t .1 .0 ∙ ap (λ (x : Answer). isDone (x .status)) e) (t .1 .1 .0) (t .1 .1 .1 .0) (t .1 .1 .1 .1)
+
+-- a line that cannot be read, once it is named
+pub fault-replied : {old new : List ℕ} {at filled : ℕ} {r : Turn} (c : Card) (found : Bool) (n : ℕ) (reason : Reason)
+    → r ≡ record { card = c; sound = found; filled = filled; goes = false }
+    → Wrote old at (reasonLine n reason) filled new × (length (reasonLine n reason) ≤ mostFault)
+    → Replied old at (faultReply c found n reason) r new
+fault-replied c found n reason e w =
+    let k = w .1 in
+    record {
+      same-card = ap (λ (t : Turn). t .card) e;
+      same-sound = ap (λ (t : Turn). t .sound) e;
+      same-goes = ap (λ (t : Turn). t .goes) e;
+      wrote = rw e (w .0);
+      short = omega arith;
+    }
 
 -- the buffers of a line that spells nothing and has no response
 pub unused : (bytes response : List ℕ) (x : Reply) → x .bytes ≡ [] → x .response ≡ [] → Used bytes response x bytes response

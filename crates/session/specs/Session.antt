@@ -22,10 +22,10 @@ use Rattle.manager.specs.Manager.{step, onSound}
 use Rattle.manager.specs.declared.Call as declared
 use Rattle.manager.specs.declared.Call.the-variants as code
 use Rattle.script.specs.Orders.{orderOf}
-use Rattle.script.specs.Records.{onReading, recordAt}
-use Rattle.script.specs.declared.arguments.Reason.{Reason}
-use Rattle.script.specs.declared.orders.Order.{Order}
-use Rattle.script.specs.declared.orders.Order.the-variants as order
+use Rattle.records.specs.Records.{onReading, recordAt}
+use Rattle.records.specs.declared.arguments.Reason.{Reason}
+use Rattle.script.specs.declared.Order.{Order}
+use Rattle.script.specs.declared.Order.the-variants as order
 use Rattle.answers.specs.Lines.{answerLine}
 use Rattle.answers.specs.Explained.{explainedText, mostExplained}
 use Rattle.session.specs.Reasons.{reasonLine}

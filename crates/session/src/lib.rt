@@ -11,15 +11,15 @@ use card::Card;
 use isdp::Aid;
 use manager::Call;
 use reasons::write_reason;
+use records::Reading;
+use records::Reason;
+use records::record_at;
 use script::Order;
-use script::Reading;
-use script::Reason;
 use script::read_line;
-use script::record_at;
 use status::Status;
 use text::spell_hex;
 ghost use mathlib.Core.Path.{_≡_};
-ghost use mathlib.Core.Bool.{true};
+ghost use mathlib.Core.Bool.{true, false};
 ghost use mathlib.Core.List.{[]};
 ghost use Prim.Native.Nat.{_+_, _*_, _≤_};
 ghost use lib.ListN.{length};
@@ -29,7 +29,7 @@ ghost use Rattle.card.specs.Answers.{handed};
 ghost use Rattle.card.specs.Fresh.{freshOutcome};
 ghost use Rattle.manager.specs.Calls.{callOf};
 ghost use Rattle.manager.specs.Manager.{Served};
-ghost use Rattle.script.specs.Records.{onReading, recordAt};
+ghost use Rattle.records.specs.Records.{onReading, recordAt};
 ghost use Rattle.answers.specs.Explained.{mostExplained};
 ghost use Rattle.session.specs.Session.{mostBytes, mostRoom, bytesOf, partIn, laid, callIn, recordOutcome, answerText, replyOf, firstReply, silentReply, faultReply, answerTo, firstTurn, lineOf, mostText, Replied, Used};
 
@@ -203,18 +203,14 @@ fn call_reply(
     }
 }
 
-// A line that cannot be read: it is named, and the run stops.
-fn fault(turn: Turn, number: u64, reason: Reason, out: &mut [u8]) -> Turn
-    ensures { λ r. ⌜ Replied (now (out .entry)) (turn .filled) (faultReply (turn .card) (turn .sound) number reason) r (now (out .exit)) ⌝ }
+// A line that cannot be read stops the run, once it is named.
+fn stopped(turn: Turn, filled: usize) -> Turn
+    ensures { λ r. ⌜ r ≡ record { card = turn .card; sound = turn .sound; filled = filled; goes = false } ⌝ }
 {
-    let filled = write_reason(number, reason, out, turn.filled);
-    let card = turn.card;
-    Turn {
-        card,
-        sound: turn.sound,
-        filled,
-        goes: false,
-    }
+    let mut after = turn;
+    after.filled = filled;
+    after.goes = false;
+    after
 }
 
 // A line that asks nothing.
@@ -233,7 +229,7 @@ fn record_reply(turn: Turn, explain: bool, number: u64, s: &[u8], at: usize, out
     let record = record_at(s, at);
     let reading = record.reading;
     match reading {
-        Reading::Wrong(reason) => fault(turn, number, reason, out),
+        Reading::Wrong(reason) => stopped(turn, write_reason(number, reason, out, turn.filled)),
         Reading::Fine => {
             let given = record.card;
             first_reply(explain, hand_in(given), out, turn.filled)
@@ -273,6 +269,6 @@ pub fn take_line(
             call_reply(turn, explain, call, room, s, bytes, response, out)
         }
         Order::Record(at) => record_reply(turn, explain, number, s, at, out),
-        Order::Wrong(reason) => fault(turn, number, reason, out),
+        Order::Wrong(reason) => stopped(turn, write_reason(number, reason, out, turn.filled)),
     }
 }

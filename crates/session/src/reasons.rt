@@ -1,7 +1,7 @@
 // A line of the script that cannot be read: `line N: ..`, and what is wrong with it.
 use byte_string::put_byte;
 use byte_string::put_bytes;
-use script::Reason;
+use records::Reason;
 use text::put_decimal;
 ghost use Prim.Native.Nat.{_≤_};
 ghost use lib.ListN.{length};

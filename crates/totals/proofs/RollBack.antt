@@ -10,11 +10,9 @@ use Rattle.card.specs.Sound.{phaseOk, sound}
 use Rattle.card.specs.Ticks.{stepsIn, ticksToCome}
 use Rattle.card.specs.Answers.{refused, accepted}
 use Rattle.card.specs.Fresh.{freshOutcome}
-use Rattle.card.specs.declared.Card.{Card}
-use Rattle.card.specs.declared.Phase.the-variants.{Quiet}
 use Rattle.choice.specs.Choice.{pick, isSame}
 use Rattle.manager.specs.Calls.{Call}
-use Rattle.demands.specs.Examples.{cardWith, alone, load, enable, ticks}
+use Rattle.demands.specs.Examples.{load, enable, ticks}
 use Rattle.contents.specs.Below.{someBelow, firstBelow, sumBelow}
 use Rattle.contents.specs.Contents.{contentsWrong, sectionOf}
 use Rattle.events.specs.Kinds.{kindOf}
@@ -23,10 +21,8 @@ use Rattle.event_file.specs.Inputs.{freshAnswer, freshBad}
 use Rattle.event_file.specs.File.{firstOf, verdictOf, fileCalls}
 use Rattle.event_file.specs.declared.Verdict.the-variants.{Accepted}
 use Rattle.month.specs.Month.{fileCard}
+use Rattle.totals.specs.Examples.{start}
 use Rattle.totals.specs.RollBack.{file}
-
-abbrev pub start : Card
-start = cardWith alone 0 0 Quiet
 
 abbrev pub calls : List Call
 calls = load 2 0 ++ enable 2 ∷ ticks 15

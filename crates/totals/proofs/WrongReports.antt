@@ -35,19 +35,30 @@ use Rattle.month.specs.Month.{Counted, counting}
 use Rattle.month.specs.Statements.{monthFrom, linesIn}
 use Rattle.event_file.specs.File.{fileCalls}
 use Rattle.totals.specs.Reports.{Report, onFile, MeetsLines}
+use Rattle.totals.specs.Examples.{told, start, SmallMonths}
 use Rattle.totals.specs.RollBack.{file}
-use Rattle.totals.specs.WrongReports.{countingNamed, namedReport, countingAfter, afterReport, told, Beside, WrongReports}
+use Rattle.totals.specs.WrongReports.{countingNamed, namedReport, countingAfter, afterReport, Beside, WrongReports}
 use Rattle.totals.proofs.Reports.{month-meets, one-report}
-use Rattle.totals.proofs.RollBack.{start, calls, read}
+use Rattle.totals.proofs.RollBack.{calls, read}
 
 record Computed : Type 0 where
-  enabled : monthFrom start calls ≡ told 5 10
-  last-named : namedReport start calls ≡ told 0 15
-  enabled-after : afterReport start calls ≡ told 6 9
+  enabled : monthFrom start calls ≡ told 5 10 15 20
+  last-named : namedReport start calls ≡ told 0 15 15 20
+  enabled-after : afterReport start calls ≡ told 6 9 15 20
+  small-months : SmallMonths
 
 computed : Computed
 unfolding counting countingNamed countingAfter seekAid step wordOf sameBytes padded isFor clash zeros placeOk seek quotas allOf anyOf countOf distinct allOff enableAt phaseOk sound tickOf lostOf confirmOf tickStep lostStep confirmStep noticeSince stepsIn ticksToCome refused accepted freshOutcome pick atMost isBelow isSame tagAt lengthAt afterLength afterTag headAt expectOf expectAt aloneAt dgiAt confirmationAt namedBy storeDataAt verificationAt deletionAt noted listedWithin listedAt tagsAt listingAt protocolsWithin protocolsAt numberAt grantOf memoryAt parametersAt prefixedOf prefixedAt namesAt rightsAt installOf lengthWrong classRight classWrong instructionWrong parametersRight parametersWrong shapeRight shapeWrong fieldOf dataWrong statusBody statusRow rowOf rowsFrom statusResponse oneStatus dataResponse deletedResponse listWrong listAt listWithin listOf elementOf restOf closed
-computed = record { enabled = refl; last-named = refl; enabled-after = refl }
+computed =
+    record {
+      enabled = refl;
+      last-named = refl;
+      enabled-after = refl;
+      small-months = record { created-again = refl; network-lost = refl; no-tick = refl };
+    }
+
+pub small-months : SmallMonths
+small-months = computed .small-months
 
 -- a report on the file is the report on its card and calls
 on-file : (report : Report) → onFile report file ≡ report start calls
@@ -63,7 +74,7 @@ beside =
     }
 
 -- a report whose lines say what they should tells five minutes of F
-refuted : (report : Report) (first second : ℕ) → onFile report file ≡ told first second → (5 ≡ first → ⊥) → MeetsLines report → ⊥
+refuted : (report : Report) (first second : ℕ) → onFile report file ≡ told first second 15 20 → (5 ≡ first → ⊥) → MeetsLines report → ⊥
 refuted report first second e n meets =
     let same = one-report monthFrom report month-meets meets file (read .accepted) in
     let month = on-file monthFrom ∙ computed .enabled in

@@ -1,4 +1,5 @@
 -- Issue 12, theorem 6: wrong reports, and the file that refutes them.
 pub mod Reports
+pub mod Examples
 pub mod RollBack
 pub mod WrongReports

@@ -3,9 +3,8 @@
 use Prim.Native.Nat.{ℕ}
 use mathlib.Core.Path.{_≡_}
 use mathlib.Core.List.{List, [], _∷_}
-use mathlib.Core.Bool.{false, cond}
-use lib.ListN.{replicate}
-use Rattle.isdp.specs.Aids.{noAid, named}
+use mathlib.Core.Bool.{cond}
+use Rattle.isdp.specs.Aids.{named}
 use Rattle.isdp.specs.declared.Aid.{Aid}
 use Rattle.places.specs.Places.{at}
 use Rattle.card.specs.Cards.{enabledAid}
@@ -20,6 +19,7 @@ use Rattle.event_file.specs.File.{verdictOf}
 use Rattle.event_file.specs.declared.Verdict.the-variants.{Accepted}
 use Rattle.month.specs.Month.{Counted, atFirst, tallied, fileCounted}
 use Rattle.totals.specs.Reports.{Report, onFile, MeetsLines}
+use Rattle.totals.specs.Examples.{told}
 use Rattle.totals.specs.RollBack as rollBack
 
 -- one event, a tick counted for this AID
@@ -71,25 +71,12 @@ countingAfter c (call ∷ calls) k = countingAfter (step c call .card) calls (co
 abbrev pub afterReport : Report
 afterReport c calls = countingAfter c calls (atFirst c)
 
--- the file of an enable that rolls back: two lines, F's and 02's, with so many minutes; fifteen ticks, twenty events, none refused
-abbrev pub told : ℕ → ℕ → Counted
-told first second =
-    record {
-      tally = record {
-        names = record { aids = named (aid 1) ∷ named (aid 2) ∷ replicate 62 noAid; count = 2; more = false };
-        ticks = 15;
-        events = 20;
-        refused = 0;
-      };
-      minutes = first ∷ second ∷ replicate 63 0;
-    }
-
--- the three beside each other: the minutes of the profile enabled, of the one last named, and of the one enabled after
+-- the file of an enable that rolls back, the three beside each other: the minutes of the profile enabled, of the one last named, and of the one enabled after
 pub record Beside : Type 0 where
   pub accepted : verdictOf rollBack.file ≡ Accepted
-  pub enabled : fileCounted rollBack.file ≡ told 5 10
-  pub last-named : onFile namedReport rollBack.file ≡ told 0 15
-  pub enabled-after : onFile afterReport rollBack.file ≡ told 6 9
+  pub enabled : fileCounted rollBack.file ≡ told 5 10 15 20
+  pub last-named : onFile namedReport rollBack.file ≡ told 0 15 15 20
+  pub enabled-after : onFile afterReport rollBack.file ≡ told 6 9 15 20
 
 pub record WrongReports : Type 0 where
   pub named : MeetsLines namedReport → ⊥

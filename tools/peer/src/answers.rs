@@ -48,7 +48,7 @@ pub fn put_explained(out: &mut String, card: &Card, answer: &Answer, response: &
     let _ = writeln!(out, "ticks to come {}\n", answer.ticks);
 }
 
-fn digits(bytes: &[u8]) -> String {
+pub fn digits(bytes: &[u8]) -> String {
     let mut out = String::new();
     put_digits(&mut out, bytes);
     out

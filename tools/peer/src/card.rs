@@ -194,6 +194,10 @@ impl Card {
         self.places.iter().position(|place| place.life_cycle == ENABLED).expect("a sound card has one ENABLED")
     }
 
+    pub fn enabled_aid(&self) -> Aid {
+        self.places[self.enabled()].aid
+    }
+
     pub fn is_fall_back(&self, index: usize) -> bool {
         index == self.fall_back as usize
     }
@@ -217,7 +221,7 @@ impl Card {
 
     fn issue(&mut self, kind: u8) -> Notification {
         self.last = self.last.wrapping_add(1);
-        Notification { kind, number: self.last, eid: self.eid, aid: self.places[self.enabled()].aid }
+        Notification { kind, number: self.last, eid: self.eid, aid: self.enabled_aid() }
     }
 
     /// The previous profile stays in its place until the confirmation: there must be one to return to.

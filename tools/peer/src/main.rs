@@ -1,22 +1,30 @@
 //! The independent peer of `teapot`: takes its arguments (docs/SCRIPT.md) and answers as it does.
-//! `peer read CAPACITY [FILE]` shows how the command reader takes each line's bytes.
-//! Thin: lines in, text out.
+//! `peer minutes` is that of `minutes` (docs/EVENTS.md); `peer read CAPACITY [FILE]` shows how the command
+//! reader takes each line's bytes. Thin: lines and files in, text out.
 
 mod answers;
 mod card;
+mod events;
 mod manager;
+mod minutes;
+#[cfg(test)]
+mod minutes_tests;
 mod read;
 mod script;
 mod status;
 #[cfg(test)]
 mod tests;
 
+use events::FILE_MOST;
+use minutes::put_report;
 use script::{Bad, Options, Script, LINE_MOST};
 use std::fs::File;
 use std::io::{self, ErrorKind, Read, Write};
 use std::process::ExitCode;
 
 const CHUNK: usize = 65_536;
+const EXPLAIN: &str = "explain";
+const ASK: &str = "ask";
 
 fn main() -> ExitCode {
     let arguments: Vec<String> = std::env::args().skip(1).collect();
@@ -24,6 +32,7 @@ fn main() -> ExitCode {
     let played = match arguments[..] {
         ["read", capacity] => readings(capacity, "-"),
         ["read", capacity, file] => readings(capacity, file),
+        ["minutes", ref arguments @ ..] => report(arguments),
         _ => play(&arguments),
     };
     match played {
@@ -43,36 +52,61 @@ fn input(file: &str) -> io::Result<Box<dyn Read>> {
     })
 }
 
-/// A line that cannot be read stops its own script and no other; a file that cannot be opened is told and passed over.
-/// Hands back whether every line could be read; where all could, a file that could not be opened is the error.
-fn play(arguments: &[&str]) -> io::Result<bool> {
+/// Takes the arguments from left to right: an option holds for the files named after it, and a file that cannot be
+/// opened is told and passed over. Hands back whether `take` could read each of them; where it could, a file that
+/// could not be opened is the error.
+fn each_input(
+    arguments: &[&str],
+    known: &[&str],
+    mut take: impl FnMut(Box<dyn Read>, Options) -> io::Result<bool>,
+) -> io::Result<bool> {
     let mut options = Options::default();
     let mut named = false;
     let mut all_read = true;
     let mut unopened = false;
     for argument in arguments {
-        match *argument {
-            "explain" => options.explained = true,
-            "ask" => options.asks = true,
-            file => {
-                named = true;
-                match input(file) {
-                    Ok(input) => all_read &= play_one(input, options)?,
-                    Err(error) => {
-                        eprintln!("{file}: {error}");
-                        unopened = true;
-                    }
-                }
+        if known.contains(argument) {
+            options.explained |= *argument == EXPLAIN;
+            options.asks |= *argument == ASK;
+            continue;
+        }
+        named = true;
+        match input(argument) {
+            Ok(input) => all_read &= take(input, options)?,
+            Err(error) => {
+                eprintln!("{argument}: {error}");
+                unopened = true;
             }
         }
     }
     if !named {
-        return play_one(input("-")?, options);
+        return take(input("-")?, options);
     }
     if unopened && all_read {
-        return Err(io::Error::new(ErrorKind::NotFound, "not every script could be opened"));
+        return Err(io::Error::new(ErrorKind::NotFound, "not every file could be opened"));
     }
     Ok(all_read)
+}
+
+/// A line that cannot be read stops its own script and no other.
+fn play(arguments: &[&str]) -> io::Result<bool> {
+    each_input(arguments, &[EXPLAIN, ASK], play_one)
+}
+
+/// A refused file is reported like any other.
+fn report(arguments: &[&str]) -> io::Result<bool> {
+    let mut file = Vec::with_capacity(FILE_MOST + 1);
+    let mut out = String::new();
+    each_input(arguments, &[EXPLAIN], |input, options| {
+        file.clear();
+        // One byte too many is enough to refuse a file, however long it is.
+        match input.take(FILE_MOST as u64 + 1).read_to_end(&mut file) {
+            Ok(_) => put_report(&mut out, &file, options.explained),
+            Err(_) => out.push_str("the read failed\n"),
+        }
+        put_out(&mut out)?;
+        Ok(true)
+    })
 }
 
 fn play_one(input: impl Read, options: Options) -> io::Result<bool> {

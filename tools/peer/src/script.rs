@@ -52,10 +52,14 @@ fn hex(word: &[u8]) -> Option<Vec<u8>> {
         return Some(Vec::new());
     }
     let digit = |byte: u8| (byte as char).to_digit(16).map(|digit| digit as u8);
-    if word.is_empty() || !word.len().is_multiple_of(2) {
+    if word.is_empty() {
         return None;
     }
-    word.chunks(2).map(|pair| Some(digit(pair[0])? << 4 | digit(pair[1])?)).collect()
+    let pairs = word.chunks_exact(2);
+    if !pairs.remainder().is_empty() {
+        return None;
+    }
+    pairs.map(|pair| Some(digit(pair[0])? << 4 | digit(pair[1])?)).collect()
 }
 
 fn number(word: &[u8], most: u32) -> Option<u32> {

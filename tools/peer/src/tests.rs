@@ -299,11 +299,21 @@ fn refusals_leave_the_card_and_steps_keep_it_sound() {
             assert!(new.is_sound());
             assert!(answer.status == 0x9000 || new == card);
             assert_eq!(answer.ticks, new.ticks_to_come());
+            assert!(is_told(&card, &new, &answer));
         }
-        let mut kept = Kept::of(card);
-        manager::lost(&mut kept);
-        assert!(kept.card().is_sound());
+        for report in [manager::tick, manager::lost] {
+            let mut kept = Kept::of(card);
+            let answer = report(&mut kept);
+            assert!(kept.card().is_sound());
+            assert!(is_told(&card, kept.card(), &answer));
+        }
     }
+}
+
+/// The report of minutes learns from the notifications alone which profile is enabled.
+fn is_told(before: &Card, after: &Card, answer: &manager::Answer) -> bool {
+    let told = answer.notification.map(|notification| notification.aid);
+    after.enabled_aid() == told.unwrap_or(before.enabled_aid())
 }
 
 #[test]

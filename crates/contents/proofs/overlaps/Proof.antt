@@ -1,25 +1,36 @@
--- `overlaps` meets its contract.
+-- `overlaps` meets its contract: the four numbers are those of the two entries.
+use Prim.Native.Nat.{ℕ}
+use mathlib.Core.Path.{_≡_, ap, _∙_}
+use mathlib.Core.Bool.{not}
 use borrow.Author.Needs.{needs}
+use Rattle.contents.specs.Contents.{apart}
 use Rattle.contents.proofs.overlaps.Statement.{statement}
 use Rattle.contents.proofs.overlaps.Tie as tie
-
-stop-at-requires : tie.Need-stop-at-requires
-stop-at-requires c κs = search needs
 
 start-at-requires : tie.Need-start-at-requires
 start-at-requires c κs = search needs
 
-stop-at-requires-2 : tie.Need-stop-at-requires-2
-stop-at-requires-2 c κs = search needs
+stop-at-requires : tie.Need-stop-at-requires
+stop-at-requires c κs = search needs
 
 start-at-requires-2 : tie.Need-start-at-requires-2
 start-at-requires-2 c κs = search needs
 
+stop-at-requires-2 : tie.Need-stop-at-requires-2
+stop-at-requires-2 c κs = search needs
+
+apart-requires : tie.Need-apart-requires
+apart-requires c κs = search needs
+
+alike : {a a′ b b′ c c′ d d′ : ℕ} → a ≡ a′ → b ≡ b′ → c ≡ c′ → d ≡ d′ → apart a b c d ≡ apart a′ b′ c′ d′
+alike p q r s = cc
+
 returns : tie.Need-returns
-returns c = let j = c .before .before .before in
-    rw (← j .stop-at .ensures, ← c .before .stop-at2 .ensures, ← c .before .before .start-at .ensures, ← c .start-at2 .ensures)
+returns c = let j = c .before in
+    let i = j .before .before in
+    ap not (c .apart .ensures ∙ alike (i .before .start-at .ensures) (i .stop-at .ensures) (j .before .start-at2 .ensures) (j .stop-at2 .ensures))
 
 pub overlaps-spec : {M : Type 1} → statement M
 overlaps-spec =
     tie.close
-    (tie.spec stop-at-requires start-at-requires stop-at-requires-2 start-at-requires-2 returns)
+    (tie.spec start-at-requires stop-at-requires start-at-requires-2 stop-at-requires-2 apart-requires returns)

@@ -41,8 +41,7 @@ returns c =
     let r1 = r2 .before in
     let f = now (r1 .before .before .args .f) in
     let e : take (length f) (drop 32 f) ≡ drop 32 f = take-all (length f) (drop 32 f) (omega (arith, length-drop 32 f)) in
-    c .fresh .ensures
-    ∙ rw (a .part-of .ensures, b .part-of2 .ensures, e, r1 .read-four .ensures, r2 .read-four2 .ensures, r3 .read-four3 .ensures, r4 .read-four4 .ensures)
+    rw (c .fresh .ensures, a .part-of .ensures, b .part-of2 .ensures, e, r1 .read-four .ensures, r2 .read-four2 .ensures, r3 .read-four3 .ensures, r4 .read-four4 .ensures)
 
 pub fresh-answer-spec : {M : Type 1} → statement M
 fresh-answer-spec =

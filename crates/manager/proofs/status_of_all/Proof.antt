@@ -9,7 +9,7 @@ use Rattle.manager.proofs.status_of_all.Tie as tie
 returns : tie.Need-returns
 unfolding wordOf
 returns c =
-    let w = c .before .before .before .before .before .write-status .ensures in
+    let w = c .before .before .before .before .before .write-information .ensures in
     let k = w .1 in
     let n = whole (w .0) (omega arith) in
     (record { answer = rw (c .answer .ensures, c .before .step-since .ensures, n); content = w .0 .content }, rw (c .answer .ensures, n) (omega arith))

@@ -31,7 +31,7 @@ unfolding wordOf
 returns-2 c =
     let e = c .before .before .before .before .before in
     let h = target (e .before .before) in
-    let w = e .write-one-status .ensures in
+    let w = e .write-information .ensures in
     let u = w .1 in
     let n = whole (w .0) (omega arith) in
     (record { answer = rw (h .there, c .answer .ensures, c .before .step-since .ensures, n, h .place); content = rw (h .there, h .place) (w .0 .content) }, rw (c .answer .ensures, n) (omega arith))

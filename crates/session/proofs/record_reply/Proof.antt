@@ -1,5 +1,5 @@
 -- `session::record_reply`: a record that cannot be read is a fault, any other is handed in.
-use Rattle.session.proofs.Silent.{record-silent, first-replied}
+use Rattle.session.proofs.Silent.{record-silent, first-replied, fault-replied}
 use borrow.Author.Needs.{needs}
 use Rattle.session.proofs.record_reply.Statement.{statement}
 use Rattle.session.proofs.record_reply.Tie as tie
@@ -10,8 +10,11 @@ record-at-requires c κs = search needs
 enum-known-reading : tie.Need-enum-known-reading
 enum-known-reading c = search needs
 
-fault-requires : tie.Need-fault-requires
-fault-requires c κs = search needs
+write-reason-requires : tie.Need-write-reason-requires
+write-reason-requires c κs = search needs
+
+stopped-requires : tie.Need-stopped-requires
+stopped-requires c κs = search needs
 
 enum-told : tie.Need-enum-told
 enum-told c = search needs
@@ -26,7 +29,10 @@ same-length : tie.Need-same-length
 same-length c = search needs
 
 returns : tie.Need-returns
-returns c = rw (← (c .before .before .before .before .before .before .before .record-at .ensures)) (rw (c .before .before .before .before .before .reading .given .1) (c .before .before .fault .ensures))
+returns c = let w = c .before .before .before in
+    let r = w .before .before .before in
+    let a = r .before .before .before .before .before .args in
+    rw (← (r .before .before .record-at .ensures)) (rw (r .reading .given .1) (fault-replied (a .turn .card) (a .turn .sound) (a .number) _ (c .stopped .ensures) (w .write-reason .ensures)))
 
 same-length-2 : tie.Need-same-length-2
 same-length-2 c = search needs
@@ -40,7 +46,8 @@ record-reply-spec =
     (tie.spec
     record-at-requires
     enum-known-reading
-    fault-requires
+    write-reason-requires
+    stopped-requires
     enum-told
     hand-in-requires
     first-reply-requires

@@ -4,9 +4,9 @@ use native.Mathlib.Omega.{arith}
 use denote.Ref.{now}
 use Rattle.byte_string.proofs.PutLaws.{wrote-none}
 use Rattle.script.proofs.Fits.{orders-fit}
-use Rattle.script.specs.Records.{recordAt}
+use Rattle.records.specs.Records.{recordAt}
 use Rattle.session.specs.declared.Turn.{Turn}
-use Rattle.session.proofs.Silent.{fresh-silent, first-replied, unused, record-unused, as-ordered}
+use Rattle.session.proofs.Silent.{fresh-silent, first-replied, fault-replied, unused, record-unused, as-ordered}
 use borrow.Author.Needs.{needs}
 use Rattle.session.proofs.take_line.Statement.{statement}
 use Rattle.session.proofs.take_line.Tie as tie
@@ -44,8 +44,11 @@ record-reply-requires c κs = search needs
 enum-known-order-4 : tie.Need-enum-known-order-4
 enum-known-order-4 c = search needs
 
-fault-requires : tie.Need-fault-requires
-fault-requires c κs = search needs
+write-reason-requires : tie.Need-write-reason-requires
+write-reason-requires c κs = search needs
+
+stopped-requires : tie.Need-stopped-requires
+stopped-requires c κs = search needs
 
 returns : tie.Need-returns
 returns c = let a = c .before .before .before .before .before .before .args in
@@ -81,8 +84,11 @@ same-length-4 : tie.Need-same-length-4
 same-length-4 c = search needs
 
 returns-5 : tie.Need-returns-5
-returns-5 c = let a = c .before .before .before .before .before .before .before .before .before .before .args in
-    as-ordered (a .turn .card) (a .turn .sound) (a .explain) (a .number) (now (a .s)) _ (sym (c .before .before .before .before .before .order4 .given .1) ∙ c .before .before .before .before .before .before .before .read-line .ensures) (c .before .before .fault .ensures, unused _ _ _ refl refl)
+returns-5 c = let w = c .before .before .before in
+    let o = w .before .before .before in
+    let a = o .before .before .before .before .before .args in
+    as-ordered (a .turn .card) (a .turn .sound) (a .explain) (a .number) (now (a .s)) _ (sym (o .order4 .given .1) ∙ o .before .before .read-line .ensures)
+    (fault-replied (a .turn .card) (a .turn .sound) (a .number) _ (c .stopped .ensures) (w .write-reason .ensures), unused _ _ _ refl refl)
 
 pub take-line-spec : {M : Type 1} → statement M
 take-line-spec =
@@ -99,7 +105,8 @@ take-line-spec =
     enum-known-order-3
     record-reply-requires
     enum-known-order-4
-    fault-requires
+    write-reason-requires
+    stopped-requires
     returns
     same-length
     returns-2

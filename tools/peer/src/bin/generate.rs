@@ -1,6 +1,7 @@
-//! `generate SEED CALLS [bad]`: writes one script of about CALLS calls, the same for the same seed.
+//! `generate SEED CALLS [bad | month]`: writes one script of about CALLS calls, the same for the same seed.
 //! It plays each line on the peer's own card as it writes it, so that most calls meet a card on
-//! which they matter; with `bad`, the script ends in a line that cannot be read.
+//! which they matter; with `bad`, the script ends in a line that cannot be read; with `month`, it is
+//! one fresh card and what an event file can hold.
 
 // The generator needs only part of each module it shares with the peer.
 #![allow(dead_code)]
@@ -75,6 +76,8 @@ struct Generator {
     aids: Vec<Vec<u8>>,
     out: String,
     calls: usize,
+    /// The script is to be an event file: no command says how long its buffer is.
+    is_month: bool,
 }
 
 impl Generator {
@@ -384,6 +387,7 @@ impl Generator {
         }
         let odd = self.random.number(0, 300);
         let length = match self.random.below(100) {
+            _ if self.is_month => String::new(),
             0..=2 => format!(" {}", self.random.pick(&[0, 1, 254, 255])),
             3..=6 => format!(" {}", self.random.pick(&[256, 257, 1024])),
             7 => format!(" {odd}"),
@@ -461,7 +465,10 @@ impl Generator {
     }
 
     fn set_fall_back(&mut self) {
-        let aid = self.target(|_, place| matches!(place.life_cycle, DISABLED | ENABLED));
+        // A fall-back that forbids disabling is the last profile of a month.
+        let forbidden = if self.is_month { DISABLING_FORBIDDEN } else { 0 };
+        let suits = |place: &Place| matches!(place.life_cycle, DISABLED | ENABLED) && place.policy & forbidden == 0;
+        let aid = self.target(|_, place| suits(place));
         self.store_data(5, tlv(&[0x4F], &aid));
     }
 
@@ -688,6 +695,35 @@ impl Generator {
         }
     }
 
+    fn chapters(&mut self, most: usize) {
+        while self.calls < most {
+            self.chapter(most);
+        }
+    }
+
+    /// From one fresh card on, with more ticks than a chapter has. Where nothing can be done any more the month
+    /// ends, or mostly another one is begun in its place.
+    fn month(&mut self, most: usize) {
+        loop {
+            self.out.clear();
+            self.calls = 0;
+            self.new_aids();
+            self.fresh();
+            while self.calls < most {
+                self.call();
+                if self.random.chance(15) {
+                    self.ticks();
+                }
+                if self.is_stuck() {
+                    break;
+                }
+            }
+            if self.calls >= most || self.random.chance(10) {
+                return;
+            }
+        }
+    }
+
     fn bad_line(&mut self) -> String {
         let eid = "00".repeat(16);
         let rest = " -".repeat(PLACES - 1);
@@ -759,20 +795,24 @@ fn main() -> ExitCode {
     let arguments: Vec<String> = std::env::args().skip(1).collect();
     let number = |index: usize| arguments.get(index).and_then(|word| word.parse::<u64>().ok());
     let (Some(seed), Some(calls)) = (number(0), number(1)) else {
-        eprintln!("usage: generate SEED CALLS [bad]");
+        eprintln!("usage: generate SEED CALLS [bad | month]");
         return ExitCode::from(2);
     };
+    let mode = arguments.get(2).map_or("", String::as_str);
     let mut generator = Generator {
         random: Random(seed),
         model: Script::new(Options::default()),
         aids: Vec::new(),
         out: String::new(),
         calls: 0,
+        is_month: mode == "month",
     };
-    while generator.calls < calls as usize {
-        generator.chapter(calls as usize);
+    if generator.is_month {
+        generator.month(calls as usize);
+    } else {
+        generator.chapters(calls as usize);
     }
-    if arguments.get(2).is_some_and(|word| word == "bad") {
+    if mode == "bad" {
         let line = generator.bad_line();
         generator.out.push_str(&line);
         generator.out.push_str("\ntick\n");

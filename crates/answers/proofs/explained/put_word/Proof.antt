@@ -1,7 +1,7 @@
 -- `explained::put_word`: the two bytes of the word, and what it means.
 use mathlib.Core.Path.{ap}
 use Prim.Native.Nat.{ℕ, _/_, _%_}
-use Rattle.answers.specs.Lines.{hex8}
+use Rattle.profiles.specs.Profiles.{hex8}
 use Rattle.answers.specs.Explained.{wordText}
 use Rattle.byte_string.proofs.PutLaws.{wrote-then, wrote-as}
 use borrow.Author.Needs.{needs}

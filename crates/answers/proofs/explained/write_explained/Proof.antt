@@ -1,7 +1,7 @@
 -- `explained::write_explained`: the parts one after the other.
 use Rattle.answers.proofs.Records.{wide}
 use Rattle.byte_string.proofs.PutLaws.{wrote-then}
-use Rattle.answers.proofs.Pieces.{wrote-size}
+use Rattle.profiles.proofs.Pieces.{wrote-size}
 use mathlib.Core.Path.{_≡_}
 use native.Mathlib.Omega.{arith}
 use lib.ListN.{length}

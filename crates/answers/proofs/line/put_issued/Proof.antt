@@ -1,6 +1,7 @@
 -- `line::put_issued`: the parts one after the other are KIND:NUMBER:AID.
 use mathlib.Core.Path.{ap}
-use Rattle.answers.specs.Lines.{hex8, issuedWord}
+use Rattle.profiles.specs.Profiles.{hex8}
+use Rattle.answers.specs.Lines.{issuedWord}
 use Rattle.byte_string.proofs.PutLaws.{wrote-then, wrote-as}
 use borrow.Author.Needs.{needs}
 use Rattle.answers.proofs.line.put_issued.Statement.{statement}

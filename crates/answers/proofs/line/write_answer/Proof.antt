@@ -1,7 +1,7 @@
 -- `line::write_answer`: the words one after the other, a space between them.
 use Rattle.answers.proofs.Records.{wide}
 use Rattle.byte_string.proofs.PutLaws.{wrote-then, wrote-as}
-use Rattle.answers.proofs.Pieces.{wrote-size}
+use Rattle.profiles.proofs.Pieces.{wrote-size}
 use mathlib.Core.Path.{_≡_, ap}
 use native.Mathlib.Omega.{arith}
 use lib.ListN.{length}

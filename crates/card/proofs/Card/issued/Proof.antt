@@ -3,9 +3,6 @@ use borrow.Author.Needs.{needs}
 use Rattle.card.proofs.Card.issued.Statement.{statement}
 use Rattle.card.proofs.Card.issued.Tie as tie
 
-kind-requires : tie.Need-kind-requires
-kind-requires c κs = search needs
-
 enabled-place-requires : tie.Need-enabled-place-requires
 enabled-place-requires c κs = search needs
 
@@ -13,9 +10,7 @@ profile-requires : tie.Need-profile-requires
 profile-requires c κs = search needs
 
 returns : tie.Need-returns
-returns c = rw (c .before .profile .ensures, c .before .before .enabled-place .ensures, c .before .before .before .kind .ensures)
+returns c = rw (c .before .profile .ensures, c .before .before .enabled-place .ensures)
 
 pub issued-spec : {M : Type 1} → statement M
-issued-spec =
-    tie.close
-    (tie.spec kind-requires enabled-place-requires profile-requires returns)
+issued-spec = tie.close (tie.spec enabled-place-requires profile-requires returns)

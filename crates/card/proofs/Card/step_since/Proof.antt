@@ -1,13 +1,90 @@
--- `Card::step_since`: the notification's promise is the only one used.
+-- `Card::step_since`: the one test decides, in code and definition alike, and the phase names the kind.
+use mathlib.Core.Path.{_≡_, ap, sym, _∙_}
+use borrow.Author.Tests.{eq-eqb, ne-eqb}
+use Rattle.isdp.specs.declared.Aid.{Aid}
+use Rattle.card.specs.Notifications.{kindOf, noticeSince}
+use Rattle.card.specs.Steps.{stepTold}
+use Rattle.card.specs.declared.Card.{Card}
+use Rattle.card.specs.declared.Phase.{Phase}
 use borrow.Author.Needs.{needs}
 use Rattle.card.proofs.Card.step_since.Statement.{statement}
 use Rattle.card.proofs.Card.step_since.Tie as tie
 
-noticed-requires : tie.Need-noticed-requires
-noticed-requires c κs = search needs
+of-kind : (d : Card) (deleted : Aid) {p : Phase} → d .phase ≡ p → stepTold (kindOf p) d deleted ≡ stepTold (kindOf (d .phase)) d deleted
+of-kind d deleted e = ap (λ (p : Phase). stepTold (kindOf p) d deleted) (sym e)
+
+silent-requires : tie.Need-silent-requires
+silent-requires c κs = search needs
 
 returns : tie.Need-returns
-returns c = rw (c .noticed .ensures)
+unfolding noticeSince
+returns c = let e = c .before in
+    let s = e .before .before in
+    rw (eq-eqb (s .args .self .last) (s .args .last) (e .if1 .taken), c .silent .ensures)
+
+enum-told : tie.Need-enum-told
+enum-told c = search needs
+
+step-told-requires : tie.Need-step-told-requires
+step-told-requires c κs = search needs
+
+enum-told-2 : tie.Need-enum-told-2
+enum-told-2 c = search needs
+
+step-told-requires-2 : tie.Need-step-told-requires-2
+step-told-requires-2 c κs = search needs
+
+enum-told-3 : tie.Need-enum-told-3
+enum-told-3 c = search needs
+
+step-told-requires-3 : tie.Need-step-told-requires-3
+step-told-requires-3 c κs = search needs
+
+enum-told-4 : tie.Need-enum-told-4
+enum-told-4 c = search needs
+
+step-told-requires-4 : tie.Need-step-told-requires-4
+step-told-requires-4 c κs = search needs
+
+returns-2 : tie.Need-returns-2
+unfolding noticeSince
+returns-2 c = let e = c .before .before .before in
+    let s = e .before .before in
+    rw (ne-eqb (s .args .self .last) (s .args .last) (e .if1 .left)) (c .step-told .ensures ∙ of-kind (s .args .self) (s .args .deleted) (c .before .enum-told .given .1))
+
+returns-3 : tie.Need-returns-3
+unfolding noticeSince
+returns-3 c = let e = c .before .before .before in
+    let s = e .before .before in
+    rw (ne-eqb (s .args .self .last) (s .args .last) (e .if1 .left)) (c .step-told2 .ensures ∙ of-kind (s .args .self) (s .args .deleted) (c .before .enum-told2 .given .1))
+
+returns-4 : tie.Need-returns-4
+unfolding noticeSince
+returns-4 c = let e = c .before .before .before in
+    let s = e .before .before in
+    rw (ne-eqb (s .args .self .last) (s .args .last) (e .if1 .left)) (c .step-told3 .ensures ∙ of-kind (s .args .self) (s .args .deleted) (c .before .enum-told3 .given .1))
+
+returns-5 : tie.Need-returns-5
+unfolding noticeSince
+returns-5 c = let e = c .before .before .before in
+    let s = e .before .before in
+    rw (ne-eqb (s .args .self .last) (s .args .last) (e .if1 .left)) (c .step-told4 .ensures ∙ of-kind (s .args .self) (s .args .deleted) (c .before .enum-told4 .given .1))
 
 pub step-since-spec : {M : Type 1} → statement M
-step-since-spec = tie.close (tie.spec noticed-requires returns)
+step-since-spec =
+    tie.close
+    (tie.spec
+    silent-requires
+    returns
+    enum-told
+    step-told-requires
+    enum-told-2
+    step-told-requires-2
+    enum-told-3
+    step-told-requires-3
+    enum-told-4
+    step-told-requires-4
+    returns-2
+    returns-3
+    returns-4
+    returns-5)

@@ -2,7 +2,7 @@
 use mathlib.Core.Path.{sym}
 use native.Mathlib.Omega.{arith}
 use Rattle.byte_string.proofs.PutLaws.{wrote-as, wrote-none}
-use Rattle.answers.proofs.Pieces.{spaces-end}
+use Rattle.profiles.proofs.Pieces.{spaces-end}
 use borrow.Author.Needs.{needs}
 use Rattle.report.proofs.cells.put_gap.Statement.{statement}
 use Rattle.report.proofs.cells.put_gap.Tie as tie

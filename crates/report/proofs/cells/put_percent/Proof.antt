@@ -1,7 +1,7 @@
 -- `cells::put_percent`: the pieces one after the other.
 use mathlib.Core.Path.{ap}
 use Rattle.byte_string.proofs.PutLaws.{wrote-then, wrote-as}
-use Rattle.answers.specs.Explained.{spaces}
+use Rattle.profiles.specs.Profiles.{spaces}
 use Rattle.report.specs.Report.{percentText}
 use borrow.Author.Needs.{needs}
 use Rattle.report.proofs.cells.put_percent.Statement.{statement}

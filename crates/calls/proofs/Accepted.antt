@@ -1,0 +1,25 @@
+-- An accepted call: every row is passed, so its answer is that of its step, with the word of success. Assumes nothing.
+use mathlib.Core.Path.{_≡_, ap, _∙_}
+use Prim.Native.Nat.{ℕ}
+use lib.ListN.{length}
+use Rattle.status.specs.Rows.{wordOf}
+use Rattle.status.specs.declared.Status.the-variants.{Done}
+use Rattle.isdp.specs.Aids.{noAid}
+use Rattle.isdp.specs.declared.Aid.{Aid}
+use Rattle.card.specs.Steps.{stepSince, stepTo}
+use Rattle.card.specs.Ticks.{ticksByPhase}
+use Rattle.card.specs.Answers.{Work, handed, answerAt, known}
+use Rattle.card.specs.declared.Card.{Card}
+use Rattle.card.specs.declared.Step.{Step}
+use Rattle.card.specs.declared.Answer.{Answer}
+
+-- what a step is answered with, the word of success being Done
+abbrev answered : ℕ → Step → Answer
+answered n s = answerAt (ticksByPhase (s .card)) Done s n
+
+taken : (c : Card) (w : Work) → wordOf (w .success) (w .rows) ≡ Done → answered (length (w .response)) (w .step) ≡ handed (known c w)
+taken c w p = rw p
+
+pub accepts : (c : Card) (w : Work) {d : Card} {gone : Aid} {s : Step} {r : Answer} → wordOf (w .success) (w .rows) ≡ Done → stepTo c d noAid ≡ w .step
+    → gone ≡ noAid → s ≡ stepSince (c .last) d gone → r ≡ answered (length (w .response)) s → r ≡ handed (known c w)
+accepts c w {d} p e g f h = h ∙ ap (answered (length (w .response))) (f ∙ ap (stepSince (c .last) d) g ∙ e) ∙ taken c w p

@@ -1,0 +1,97 @@
+-- `calls::finished`: the rows of the values, the target and its state, each passed or stopped at.
+use mathlib.Core.Path.{_≡_}
+use mathlib.Core.Bool.{Bool, true, false, _&&_}
+use lib.Dec.{ltb, eqb}
+use borrow.Author.Tests.{not-true, not-false}
+use Rattle.status.specs.Rows.{wordOf}
+use Rattle.isdp.specs.Aids.{aidOk}
+use Rattle.isdp.specs.Policy.{policyOk}
+use Rattle.isdp.specs.LifeCycle.{personalized}
+use Rattle.isdp.specs.declared.Isdp.{Isdp}
+use Rattle.card.specs.Cards.{profileOf}
+use Rattle.steps.specs.Asked.{Act.finished}
+use Rattle.steps.specs.Steps.{innerWork}
+use Rattle.steps.proofs.Targets.{Target, absent, found, read}
+use Rattle.calls.proofs.Accepted.{accepts}
+use borrow.Author.Needs.{needs}
+use Rattle.calls.proofs.finished.Statement.{statement}
+use Rattle.calls.proofs.finished.Tie as tie
+
+abbrev start : tie.Else1 → tie.Start
+start c = c .before .before .before .before
+
+abbrev finishable : Isdp → Bool
+finishable p = eqb (p .life) personalized && ltb 0 (p .used)
+
+right : (c : tie.Else1) → (aidOk (start c .args .aid .now) && policyOk (start c .args .policy)) ≡ true
+right c = rw (← (c .before .policy-ok .ensures), ← (c .before .before .aid-ok .ensures)) (not-false _ (c .if1 .left))
+
+abbrev asking : tie.After-known-told → tie.Else1
+asking c = c .before .before .before .before
+
+target : (c : tie.After-known-told) → Target (start (asking c) .args .card) (start (asking c) .args .aid .now) (c .before .t .given .0 .0)
+target c = found _ _ (start (asking c) .good .0) (c .before .before .before .place-of .ensures) (c .before .t .given .1)
+
+profile : (c : tie.After-profile) → profileOf (start (asking (c .before)) .args .card) (start (asking (c .before)) .args .aid .now) ≡ c .profile .result
+profile c = read (target (c .before)) (c .profile .ensures)
+
+returns : tie.Need-returns
+unfolding wordOf
+returns c =
+    let s = c .before .before .before .before .before in
+    let w : (aidOk (s .args .aid .now) && policyOk (s .args .policy)) ≡ false = rw (← (c .before .before .policy-ok .ensures), ← (c .before .before .before .aid-ok .ensures)) (not-true _ (c .before .if1 .taken)) in
+    rw w (c .refused .ensures)
+
+returns-2 : tie.Need-returns-2
+unfolding wordOf
+returns-2 c =
+    let o = c .before .before .before in
+    let s = start (o .before) in
+    rw (right (o .before), absent (s .args .card) (s .args .aid .now) (s .good .0) (o .place-of .ensures) (c .before .enum-told .given .1)) (c .refused2 .ensures)
+
+returns-3 : tie.Need-returns-3
+unfolding wordOf
+returns-3 c =
+    let p = c .before .before .before .before in
+    let k = p .before in
+    let n : finishable (p .profile .result) ≡ false = not-true _ (c .before .if2 .taken) in
+    rw (right (asking k), target k .there, profile p, n) (c .refused3 .ensures)
+
+returns-4 : tie.Need-returns-4
+unfolding wordOf
+returns-4 c =
+    let a = c .before .before .before in
+    let e = a .before .before in
+    let p = e .before .before .before in
+    let k = p .before in
+    let y : finishable (p .profile .result) ≡ true = not-false _ (e .if2 .left) in
+    let s = start (asking k) .args in
+    accepts (s .card) (innerWork (s .card) (s .aid .now) (finished (s .policy)))
+    (rw (right (asking k), target k .there, profile p, y))
+    (rw (a .rewritten .ensures, a .before .finish .ensures, profile p, target k .place))
+    (c .before .before .none .ensures)
+    (c .before .step-since .ensures)
+    (c .answer .ensures)
+
+pub finished-spec : {M : Type 1} → statement M
+finished-spec =
+    tie.close
+    (tie.spec
+    (λ c κs. search needs)
+    (λ c κs. search needs)
+    (λ c κs. search needs)
+    returns
+    (λ c κs. search needs)
+    (λ c. search needs)
+    (λ c. search needs)
+    (λ c κs. search needs)
+    returns-2
+    (λ c κs. search needs)
+    (λ c κs. search needs)
+    returns-3
+    (λ c κs. search needs)
+    (λ c κs. search needs)
+    (λ c κs. search needs)
+    (λ c κs. search needs)
+    (λ c κs. search needs)
+    returns-4)

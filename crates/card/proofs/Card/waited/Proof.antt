@@ -1,0 +1,19 @@
+-- `Card::waited`: the law of a phase that waits on.
+use mathlib.Core.Path.{_∙_}
+use Rattle.card.proofs.Waits.{waited-on}
+use borrow.Author.Needs.{needs}
+use Rattle.card.proofs.Card.waited.Statement.{statement}
+use Rattle.card.proofs.Card.waited.Tie as tie
+
+shorter-requires : tie.Need-shorter-requires
+shorter-requires c κs = search needs
+
+with-phase-requires : tie.Need-with-phase-requires
+with-phase-requires c κs = search needs
+
+returns : tie.Need-returns
+returns c = let s = c .before .before in
+    rw (c .with-phase .ensures, c .before .shorter .ensures) (waited-on (s .args .self) (s .pre))
+
+pub waited-spec : {M : Type 1} → statement M
+waited-spec = tie.close (tie.spec shorter-requires with-phase-requires returns)

@@ -1,0 +1,125 @@
+-- How long the table is, so that a caller's buffer is known to be enough. A number counts as one of 20 digits, as 64 bits have,
+-- and an AID as one of 16 bytes, as every record of the code has. Assumes nothing.
+use mathlib.Core.Path.{_≡_, refl}
+use Prim.Native.Nat.{ℕ, zero, suc, _+_, _*_, _/_, _≤_}
+use native.Mathlib.Omega.{arith}
+use mathlib.Core.List.{List, [], _∷_}
+use lib.ListN.{length, length-append, length-take, length-replicate}
+use Rattle.text.specs.Hex.{hexText}
+use Rattle.text.specs.Numbers.{digitsText, decimalText}
+use Rattle.choice.proofs.Branches.{by-lt, by-eq}
+use Rattle.isdp.specs.Aids.{aidOf}
+use Rattle.isdp.specs.LifeCycle.{selectable, personalized, disabled, enabled}
+use Rattle.isdp.specs.declared.Aid.{Aid}
+use Rattle.isdp.specs.declared.Isdp.{Isdp}
+use Rattle.card.specs.declared.Card.{Card}
+use Rattle.profiles.specs.Profiles.{aidText, spaces, leadOf, columnText, stateText, markText, policyText, nameCells, figureCells, rowText, placeText, rowsText, widestOf, headText, tableText, mostRow}
+
+-- the pieces
+pub hex-length : (s : List ℕ) → length (hexText s) ≡ length s * 2
+unfolding hexText
+hex-length [] = refl
+hex-length (b ∷ bs) = let e = hex-length bs in omega arith
+
+digits-length : (k n : ℕ) → length (digitsText k n) ≤ k + 1
+unfolding digitsText
+digits-length zero n = omega arith
+digits-length (suc k) n =
+    by-lt (λ (l : List ℕ). length l ≤ suc k + 1) n 10 (λ h. omega arith)
+    (λ h. simp length-append (omega (arith, digits-length k (n / 10))))
+
+pub decimal-length : (n : ℕ) → length (decimalText n) ≤ 20
+decimal-length n = digits-length 19 n
+
+pub aid-length : (a : Aid) → length (a .bytes) ≤ 16 → length (aidText a) ≤ 32
+aid-length a h = simp (hex-length, length-take) (omega arith)
+
+pub spaces-length : (n : ℕ) → length (spaces n) ≡ n
+unfolding spaces
+spaces-length n = length-replicate n 32
+
+-- the table
+lead-small : (n : ℕ) → leadOf n ≤ 6
+unfolding leadOf
+lead-small n =
+    by-lt (λ (k : ℕ). k ≤ 6) n 10 (λ h. omega arith)
+    (λ h. by-lt (λ (k : ℕ). k ≤ 6) n 100 (λ i. omega arith)
+    (λ i. by-lt (λ (k : ℕ). k ≤ 6) n 1000 (λ j. omega arith)
+    (λ j. by-lt (λ (k : ℕ). k ≤ 6) n 10000 (λ l. omega arith)
+    (λ l. by-lt (λ (k : ℕ). k ≤ 6) n 100000 (λ m. omega arith)
+    (λ m. by-lt (λ (k : ℕ). k ≤ 6) n 1000000 (λ o. omega arith) (λ o. omega arith))))))
+
+pub column-length : (n : ℕ) → length (columnText n) ≤ 26
+unfolding columnText
+column-length n = simp (length-append, spaces-length) (omega (arith, lead-small n, decimal-length n))
+
+state-length : (life : ℕ) → length (stateText life) ≤ 12
+unfolding stateText
+state-length life =
+    by-eq (λ (l : List ℕ). length l ≤ 12) life selectable (λ h. omega arith)
+    (λ h. by-eq (λ (l : List ℕ). length l ≤ 12) life personalized (λ i. omega arith)
+    (λ i. by-eq (λ (l : List ℕ). length l ≤ 12) life disabled (λ j. omega arith)
+    (λ j. by-eq (λ (l : List ℕ). length l ≤ 12) life enabled (λ k. omega arith)
+    (λ k. simp (length-append, hex-length) (omega arith)))))
+
+mark-length : (holder place : ℕ) → length (markText holder place) ≤ 9
+unfolding markText
+mark-length holder place = by-eq (λ (l : List ℕ). length l ≤ 9) place holder (λ h. omega arith) (λ h. omega arith)
+
+policy-length : (policy : ℕ) → length (policyText policy) ≤ 32
+unfolding policyText
+policy-length policy =
+    by-eq (λ (l : List ℕ). length l ≤ 32) policy 0 (λ h. omega arith)
+    (λ h. by-eq (λ (l : List ℕ). length l ≤ 32) policy 1 (λ i. omega arith)
+    (λ i. by-eq (λ (l : List ℕ). length l ≤ 32) policy 2 (λ j. omega arith)
+    (λ j. by-eq (λ (l : List ℕ). length l ≤ 32) policy 3 (λ k. omega arith)
+    (λ k. by-eq (λ (l : List ℕ). length l ≤ 32) policy 4 (λ m. omega arith)
+    (λ m. simp hex-length (omega arith))))))
+
+name-length : (p : Isdp) (place widest : ℕ) → length (aidOf p) ≤ widest → widest ≤ 16 → length (nameCells p place widest) ≤ 60
+unfolding nameCells
+name-length p place widest h k =
+    simp (length-append, hex-length, spaces-length) (omega (arith, column-length place))
+
+figure-length : (p : Isdp) (place holder : ℕ) → length (figureCells p place holder) ≤ 116
+unfolding figureCells
+figure-length p place holder =
+    simp length-append
+    (omega (
+      arith,
+      state-length (p .life),
+      column-length (p .quota),
+      column-length (p .used),
+      mark-length holder place,
+      policy-length (p .policy),
+    ))
+
+place-length : (p : Isdp) (place holder widest : ℕ) → length (aidOf p) ≤ widest → widest ≤ 16 → length (placeText p place holder widest) ≤ mostRow
+unfolding placeText rowText
+place-length p place holder widest h k =
+    by-eq (λ (l : List ℕ). length l ≤ mostRow) (p .aid .len) 0 (λ e. omega arith)
+    (λ e. simp length-append (omega (arith, name-length p place widest h k, figure-length p place holder)))
+
+rows-length : (holder widest place : ℕ) (l : List Isdp) → widestOf l ≤ widest → widest ≤ 16 → length (rowsText holder widest place l) ≤ length l * mostRow
+unfolding rowsText widestOf
+rows-length holder widest place [] h k = omega arith
+rows-length holder widest place (p ∷ ps) h k =
+    let e = place-length p place holder widest (omega arith) k in
+    let f = rows-length holder widest (suc place) ps (omega arith) k in
+    simp length-append (omega arith)
+
+head-length : (widest : ℕ) → widest ≤ 16 → length (headText widest) ≤ 93
+unfolding headText
+head-length widest h =
+    by-eq (λ (l : List ℕ). length l ≤ 93) widest 0 (λ e. omega arith)
+    (λ e. simp (length-append, spaces-length) (omega arith))
+
+pub table-length : (c : Card) → widestOf (c .places) ≤ 16 → length (tableText c) ≤ length (c .places) * mostRow + 93
+unfolding tableText
+table-length c h =
+    simp length-append
+    (omega (
+      arith,
+      head-length (widestOf (c .places)) h,
+      rows-length (c .fallback) (widestOf (c .places)) 0 (c .places) (omega arith) h,
+    ))

@@ -1,0 +1,59 @@
+-- `line::put_aid`: a length over sixteen takes the whole array, as `take` does.
+use mathlib.Core.Path.{_≡_, sym, ap}
+use native.Mathlib.Omega.{arith}
+use lib.ListN.{length}
+use lib.Seq.{length-take-le, take-all}
+use Rattle.text.specs.Hex.{hexText}
+use Rattle.byte_string.proofs.PutLaws.{wrote-as}
+use borrow.Author.Needs.{needs}
+use Rattle.profiles.proofs.cells.put_aid.Statement.{statement}
+use Rattle.profiles.proofs.cells.put_aid.Tie as tie
+
+cast-n : tie.Need-cast-n
+cast-n c = search needs
+
+slice-aggregate-put-hex : tie.Need-slice-aggregate-put-hex
+slice-aggregate-put-hex c = search needs
+
+put-hex-requires : tie.Need-put-hex-requires
+put-hex-requires c κs = search needs
+
+same-length : tie.Need-same-length
+same-length c = search needs
+
+returns : tie.Need-returns
+returns c = let s = c .before .before .before .before .before .before .before .before .before in
+    let n : length (s .args .aid .bytes) ≡ 16 = search needs in
+    wrote-as _ (ap hexText (sym (take-all (s .args .aid .len) (s .args .aid .bytes) (omega arith)))) (c .before .before .put-hex .ensures)
+
+array-share-prefix-bytes : tie.Need-array-share-prefix-bytes
+array-share-prefix-bytes c = let n : length (c .before .before .before .before .before .args .aid .bytes) ≡ 16 = search needs in omega arith
+
+slice-aggregate-put-hex-2 : tie.Need-slice-aggregate-put-hex-2
+slice-aggregate-put-hex-2 c = let s = c .before .before .before .before .before .before in
+    let n : length (s .args .aid .bytes) ≡ 16 = search needs in
+    sym (length-take-le _ (s .args .aid .bytes) (omega arith))
+
+put-hex-requires-2 : tie.Need-put-hex-requires-2
+put-hex-requires-2 c κs = search needs
+
+same-length-2 : tie.Need-same-length-2
+same-length-2 c = search needs
+
+returns-2 : tie.Need-returns-2
+returns-2 c = search needs
+
+pub put-aid-spec : {M : Type 1} → statement M
+put-aid-spec =
+    tie.close
+    (tie.spec
+    cast-n
+    slice-aggregate-put-hex
+    put-hex-requires
+    same-length
+    returns
+    array-share-prefix-bytes
+    slice-aggregate-put-hex-2
+    put-hex-requires-2
+    same-length-2
+    returns-2)

@@ -1,0 +1,30 @@
+-- `table::put_place`: a place that is not held has nothing to write.
+use mathlib.Core.Path.{refl}
+use Rattle.byte_string.proofs.PutLaws.{wrote-as, wrote-none, wrote-then}
+use Rattle.choice.proofs.Branches.{eq!, ne! }
+use Rattle.profiles.specs.Profiles.{rowText, placeText}
+use borrow.Author.Needs.{needs}
+use Rattle.profiles.proofs.put_place.Statement.{statement}
+use Rattle.profiles.proofs.put_place.Tie as tie
+
+returns : tie.Need-returns
+unfolding placeText
+returns c = wrote-as _ (eq! _ (c .if1 .taken) refl) (wrote-none _ _)
+
+put-name-cells-requires : tie.Need-put-name-cells-requires
+put-name-cells-requires c κs = search needs
+
+put-figure-cells-requires : tie.Need-put-figure-cells-requires
+put-figure-cells-requires c κs = search needs
+
+same-length : tie.Need-same-length
+same-length c = search needs
+
+returns-2 : tie.Need-returns-2
+unfolding placeText rowText
+returns-2 c = wrote-as _ (ne! _ (c .before .before .before .before .before .before .before .before .if1 .left) refl) (wrote-then (c .before .before .before .before .before .before .put-name-cells .ensures) (c .before .before .put-figure-cells .ensures))
+
+pub put-place-spec : {M : Type 1} → statement M
+put-place-spec =
+    tie.close
+    (tie.spec returns put-name-cells-requires put-figure-cells-requires same-length returns-2)

@@ -1,0 +1,40 @@
+-- `table::put_table`: the head, then the rows; a card of the code has a row for each of its places.
+use Rattle.byte_string.proofs.PutLaws.{wrote-then, wrote-as}
+use mathlib.Core.Path.{_≡_, ap}
+use Prim.Native.Nat.{ℕ, _≤_}
+use native.Mathlib.Omega.{arith}
+use lib.ListN.{length}
+use Rattle.isdp.specs.Sizes.{mostPlaces}
+use Rattle.card.proofs.Records.{full}
+use Rattle.profiles.specs.Profiles.{rowsText, widestOf, headText, tableText}
+use Rattle.profiles.proofs.Lengths.{table-length}
+use borrow.Author.Needs.{needs}
+use Rattle.profiles.proofs.put_table.Statement.{statement}
+use Rattle.profiles.proofs.put_table.Tie as tie
+
+widest-requires : tie.Need-widest-requires
+widest-requires c κs = search needs
+
+put-head-requires : tie.Need-put-head-requires
+put-head-requires c κs = search needs
+
+cast-put-rows : tie.Need-cast-put-rows
+cast-put-rows c = search needs
+
+put-rows-requires : tie.Need-put-rows-requires
+put-rows-requires c κs = search needs
+
+same-length : tie.Need-same-length
+same-length c = search needs
+
+returns : tie.Need-returns
+unfolding tableText
+returns c = let s = c .before .before .before .before .before .before .before .before .before .before .before .before in
+    let n : length (s .args .card .places) ≡ mostPlaces = full (s .args .card) _ (s .good .0) in
+    let wide = c .before .before .before .before .before .before .before .before .before .widest .ensures in
+    let h : widestOf (s .args .card .places) ≤ 16 = omega (arith, wide) in
+    (wrote-then (wrote-as _ (ap headText (wide .0)) (c .before .before .before .before .before .before .before .put-head .ensures)) (wrote-as _ (ap (λ (w : ℕ). rowsText (s .args .card .fallback) w 0 (s .args .card .places)) (wide .0)) (c .before .before .put-rows .ensures)), omega (arith, table-length (s .args .card) h))
+
+pub put-table-spec : {M : Type 1} → statement M
+put-table-spec =
+    tie.close (tie.spec widest-requires put-head-requires cast-put-rows put-rows-requires same-length returns)

@@ -1,0 +1,3 @@
+-- The profiles of a card as a table.
+pub mod Letters
+pub mod Profiles

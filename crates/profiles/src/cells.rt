@@ -1,0 +1,127 @@
+// The cells of the table: each as wide as its column, so that the rows stand under each other.
+use byte_string::put_byte;
+use byte_string::put_bytes;
+use isdp::Aid;
+use isdp::Isdp;
+use text::put_decimal;
+use text::put_hex;
+use text::put_hex_8;
+ghost use mathlib.Core.Path.{_≡_};
+ghost use Prim.Native.Nat.{_≤_};
+ghost use lib.ListN.{length};
+ghost use Rattle.byte_string.specs.Put.{Wrote};
+ghost use Rattle.isdp.specs.Aids.{aidOf};
+ghost use Rattle.profiles.specs.Profiles.{aidText, spaces, leadOf, columnText, stateText, markText, policyText};
+
+// An AID in hex, with its true length; a length over sixteen takes the whole array.
+pub fn put_aid(aid: Aid, buf: &mut [u8], at: usize) -> usize
+    ensures { λ r. ⌜ Wrote (now (buf .entry)) at (aidText aid) r (now (buf .exit)) ⌝ }
+{
+    let bytes = aid.bytes;
+    let n = aid.len as usize;
+    if n > 16 {
+        return put_hex(buf, at, &bytes);
+    }
+    put_hex(buf, at, &bytes[..n])
+}
+
+pub fn put_spaces(count: usize, buf: &mut [u8], at: usize) -> usize
+    ensures { λ r. ⌜ Wrote (now (buf .entry)) at (spaces count) r (now (buf .exit)) ⌝ }
+{
+    let mut i = 0;
+    let mut k = at;
+    while i < count {
+        k = put_byte(buf, k, b' ');
+        i += 1;
+    }
+    k
+}
+
+// The spaces before a number in a column of seven.
+fn lead(n: u64) -> usize
+    ensures { λ r. ⌜ r ≡ leadOf n ⌝ }
+{
+    if n < 10 {
+        return 6;
+    }
+    if n < 100 {
+        return 5;
+    }
+    if n < 1000 {
+        return 4;
+    }
+    if n < 10000 {
+        return 3;
+    }
+    if n < 100000 {
+        return 2;
+    }
+    if n < 1000000 {
+        return 1;
+    }
+    0
+}
+
+pub fn put_column(n: u64, buf: &mut [u8], at: usize) -> usize
+    ensures { λ r. ⌜ Wrote (now (buf .entry)) at (columnText n) r (now (buf .exit)) ⌝ }
+{
+    let a = put_spaces(lead(n), buf, at);
+    put_decimal(buf, a, n)
+}
+
+pub fn put_state(life: u8, buf: &mut [u8], at: usize) -> usize
+    ensures { λ r. ⌜ Wrote (now (buf .entry)) at (stateText life) r (now (buf .exit)) ⌝ }
+{
+    if life == Isdp::SELECTABLE {
+        return put_bytes(buf, at, b"SELECTABLE  ");
+    }
+    if life == Isdp::PERSONALIZED {
+        return put_bytes(buf, at, b"PERSONALIZED");
+    }
+    if life == Isdp::DISABLED {
+        return put_bytes(buf, at, b"DISABLED    ");
+    }
+    if life == Isdp::ENABLED {
+        return put_bytes(buf, at, b"ENABLED     ");
+    }
+    let a = put_hex_8(buf, at, life);
+    put_bytes(buf, a, b"          ")
+}
+
+pub fn put_mark(holder: usize, place: usize, buf: &mut [u8], at: usize) -> usize
+    ensures { λ r. ⌜ Wrote (now (buf .entry)) at (markText holder place) r (now (buf .exit)) ⌝ }
+{
+    if place == holder {
+        return put_bytes(buf, at, b"yes      ");
+    }
+    put_bytes(buf, at, b"         ")
+}
+
+pub fn put_policy(policy: u8, buf: &mut [u8], at: usize) -> usize
+    ensures { λ r. ⌜ Wrote (now (buf .entry)) at (policyText policy) r (now (buf .exit)) ⌝ }
+{
+    if policy == 0 {
+        return put_bytes(buf, at, b"none");
+    }
+    if policy == 1 {
+        return put_bytes(buf, at, b"disabling forbidden");
+    }
+    if policy == 2 {
+        return put_bytes(buf, at, b"deletion forbidden");
+    }
+    if policy == 3 {
+        return put_bytes(buf, at, b"disabling and deletion forbidden");
+    }
+    if policy == 4 {
+        return put_bytes(buf, at, b"deleted once disabled");
+    }
+    put_hex_8(buf, at, policy)
+}
+
+// The bytes of a place's AID, sixteen at the most.
+pub fn aid_size(p: Isdp) -> u8
+    ensures { λ r. ⌜ (r ≡ length (aidOf p)) × (r ≤ 16) ⌝ }
+{
+    let aid = p.aid;
+    aid.size() as u8
+}

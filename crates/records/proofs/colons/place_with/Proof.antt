@@ -1,0 +1,96 @@
+-- `colons::place_with` meets its contract: the state, then `sizes_at` after it.
+use mathlib.Core.Path.{refl, sym, _∙_}
+use Rattle.text.proofs.WordLists.{field-inside}
+use Rattle.records.specs.Colons.{placeWith}
+use borrow.Author.Needs.{needs}
+use Rattle.records.proofs.colons.place_with.Statement.{statement}
+use Rattle.records.proofs.colons.place_with.Tie as tie
+
+next-field-requires : tie.Need-next-field-requires
+next-field-requires c κs = search needs
+
+enum-known-from : tie.Need-enum-known-from
+enum-known-from c = search needs
+
+enum-told : tie.Need-enum-told
+enum-told c = search needs
+
+no-place-requires : tie.Need-no-place-requires
+no-place-requires c κs = search needs
+
+returns : tie.Need-returns
+unfolding placeWith
+returns c = rw (← (sym (c .before .enum-told .given .1) ∙ c .before .before .before .next-field .ensures)) (c .no-place .ensures)
+
+sub-hex-byte : tie.Need-sub-hex-byte
+sub-hex-byte c = let i = field-inside _ _ _ _ _ (sym (c .before .from .given .1) ∙ c .before .before .before .next-field .ensures) in search needs
+
+part-hex-byte-start : tie.Need-part-hex-byte-start
+part-hex-byte-start c = let i = field-inside _ _ _ _ _ (sym (c .before .from .given .1) ∙ c .before .before .before .next-field .ensures) in search needs
+
+part-hex-byte-end : tie.Need-part-hex-byte-end
+part-hex-byte-end c = let i = field-inside _ _ _ _ _ (sym (c .before .from .given .1) ∙ c .before .before .before .next-field .ensures) in search needs
+
+hex-byte-requires : tie.Need-hex-byte-requires
+hex-byte-requires c κs = search needs
+
+enum-known-life : tie.Need-enum-known-life
+enum-known-life c = search needs
+
+enum-told-2 : tie.Need-enum-told-2
+enum-told-2 c = search needs
+
+no-place-requires-2 : tie.Need-no-place-requires-2
+no-place-requires-2 c κs = search needs
+
+returns-2 : tie.Need-returns-2
+unfolding placeWith
+returns-2 c = rw (← (sym (c .before .before .before .before .before .before .from .given .1) ∙ c .before .before .before .before .before .before .before .before .next-field .ensures)) (rw (← (sym (c .before .enum-told2 .given .1) ∙ c .before .before .before .hex-byte .ensures)) (c .no-place2 .ensures))
+
+add-sizes-at : tie.Need-add-sizes-at
+add-sizes-at c = let i = field-inside _ _ _ _ _ (sym (c .before .before .before .before .before .before .from .given .1) ∙ c .before .before .before .before .before .before .before .before .next-field .ensures) in search needs
+
+sizes-at-requires : tie.Need-sizes-at-requires
+sizes-at-requires c κs = search needs
+
+enum-known-quota : tie.Need-enum-known-quota
+enum-known-quota c = search needs
+
+enum-told-3 : tie.Need-enum-told-3
+enum-told-3 c = search needs
+
+no-place-requires-3 : tie.Need-no-place-requires-3
+no-place-requires-3 c κs = search needs
+
+returns-3 : tie.Need-returns-3
+unfolding placeWith
+returns-3 c = rw (← (sym (c .before .before .before .before .before .before .before .before .before .before .from .given .1) ∙ c .before .before .before .before .before .before .before .before .before .before .before .before .next-field .ensures)) (rw (← (sym (c .before .before .before .before .before .life .given .1) ∙ c .before .before .before .before .before .before .before .hex-byte .ensures)) (rw (← (sym (c .before .enum-told3 .given .1) ∙ c .before .before .before .sizes-at .ensures)) (c .no-place3 .ensures)))
+
+returns-4 : tie.Need-returns-4
+unfolding placeWith
+returns-4 c = rw (← (sym (c .before .before .before .before .before .before .before .before .before .before .from .given .1) ∙ c .before .before .before .before .before .before .before .before .before .before .before .before .next-field .ensures)) (rw (← (sym (c .before .before .before .before .before .life .given .1) ∙ c .before .before .before .before .before .before .before .hex-byte .ensures)) (rw (← (sym (c .before .quota .given .1) ∙ c .before .before .before .sizes-at .ensures)) refl))
+
+pub place-with-spec : {M : Type 1} → statement M
+place-with-spec =
+    tie.close
+    (tie.spec
+    next-field-requires
+    enum-known-from
+    enum-told
+    no-place-requires
+    returns
+    sub-hex-byte
+    part-hex-byte-start
+    part-hex-byte-end
+    hex-byte-requires
+    enum-known-life
+    enum-told-2
+    no-place-requires-2
+    returns-2
+    add-sizes-at
+    sizes-at-requires
+    enum-known-quota
+    enum-told-3
+    no-place-requires-3
+    returns-3
+    returns-4)

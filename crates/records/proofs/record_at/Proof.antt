@@ -1,0 +1,103 @@
+-- `records::record_at` meets its contract: what `read_hex` leaves in sixteen zeros is the EID where it has sixteen bytes, by `eid-read`.
+use mathlib.Core.Path.{sym, _∙_}
+use Rattle.text.proofs.WordLists.{word-inside}
+use Rattle.choice.proofs.Branches.{eq!, ne! }
+use Rattle.records.proofs.Names.{record-as, eid-read}
+use Rattle.records.specs.Records.{recordAt}
+use borrow.Author.Needs.{needs}
+use Rattle.records.proofs.record_at.Statement.{statement}
+use Rattle.records.proofs.record_at.Tie as tie
+
+next-word-requires : tie.Need-next-word-requires
+next-word-requires c κs = search needs
+
+enum-known-from : tie.Need-enum-known-from
+enum-known-from c = search needs
+
+enum-told : tie.Need-enum-told
+enum-told c = search needs
+
+no-record-requires : tie.Need-no-record-requires
+no-record-requires c κs = search needs
+
+returns : tie.Need-returns
+unfolding recordAt
+returns c = rw (← (sym (c .before .enum-told .given .1) ∙ c .before .before .before .next-word .ensures)) (c .no-record .ensures)
+
+sub-read-hex : tie.Need-sub-read-hex
+sub-read-hex c = let i = word-inside _ _ _ _ (sym (c .before .from .given .1) ∙ c .before .before .before .next-word .ensures) in search needs
+
+part-read-hex-start : tie.Need-part-read-hex-start
+part-read-hex-start c = let i = word-inside _ _ _ _ (sym (c .before .from .given .1) ∙ c .before .before .before .next-word .ensures) in search needs
+
+part-read-hex-end : tie.Need-part-read-hex-end
+part-read-hex-end c = let i = word-inside _ _ _ _ (sym (c .before .from .given .1) ∙ c .before .before .before .next-word .ensures) in search needs
+
+slice-aggregate-read-hex : tie.Need-slice-aggregate-read-hex
+slice-aggregate-read-hex c = search needs
+
+read-hex-requires : tie.Need-read-hex-requires
+read-hex-requires c κs = search needs
+
+enum-told-2 : tie.Need-enum-told-2
+enum-told-2 c = search needs
+
+no-record-requires-2 : tie.Need-no-record-requires-2
+no-record-requires-2 c κs = search needs
+
+enum-told-3 : tie.Need-enum-told-3
+enum-told-3 c = search needs
+
+no-record-requires-3 : tie.Need-no-record-requires-3
+no-record-requires-3 c κs = search needs
+
+enum-known-n : tie.Need-enum-known-n
+enum-known-n c = search needs
+
+record-with-requires : tie.Need-record-with-requires
+record-with-requires c κs = search needs
+
+returns-2 : tie.Need-returns-2
+unfolding recordAt
+returns-2 c = rw (← (sym (c .before .before .before .before .before .before .before .before .before .before .from .given .1) ∙ c .before .before .before .before .before .before .before .before .before .before .before .before .next-word .ensures)) (rw (← (sym (c .before .before .before .n .given .1) ∙ c .before .before .before .before .before .before .read-hex .ensures .0)) (eq! _ (c .before .if1 .taken) (c .record-with .ensures ∙ record-as _ _ (eid-read _ _ _ (sym (c .before .before .before .n .given .1) ∙ c .before .before .before .before .before .before .read-hex .ensures .0) (c .before .if1 .taken) (c .before .before .before .before .before .before .read-hex .ensures .1)))))
+
+no-record-requires-4 : tie.Need-no-record-requires-4
+no-record-requires-4 c κs = search needs
+
+returns-3 : tie.Need-returns-3
+unfolding recordAt
+returns-3 c = rw (← (sym (c .before .before .before .before .before .before .before .before .from .given .1) ∙ c .before .before .before .before .before .before .before .before .before .before .next-word .ensures)) (rw (← (sym (c .before .enum-told2 .given .1) ∙ c .before .before .before .before .read-hex .ensures .0)) (c .no-record2 .ensures))
+
+returns-4 : tie.Need-returns-4
+unfolding recordAt
+returns-4 c = rw (← (sym (c .before .before .before .before .before .before .before .before .from .given .1) ∙ c .before .before .before .before .before .before .before .before .before .before .next-word .ensures)) (rw (← (sym (c .before .enum-told3 .given .1) ∙ c .before .before .before .before .read-hex .ensures .0)) (c .no-record3 .ensures))
+
+returns-5 : tie.Need-returns-5
+unfolding recordAt
+returns-5 c = rw (← (sym (c .before .before .before .before .before .before .before .before .before .before .from .given .1) ∙ c .before .before .before .before .before .before .before .before .before .before .before .before .next-word .ensures)) (rw (← (sym (c .before .before .before .n .given .1) ∙ c .before .before .before .before .before .before .read-hex .ensures .0)) (ne! _ (c .before .if1 .left) (c .no-record4 .ensures)))
+
+pub record-at-spec : {M : Type 1} → statement M
+record-at-spec =
+    tie.close
+    (tie.spec
+    next-word-requires
+    enum-known-from
+    enum-told
+    no-record-requires
+    returns
+    sub-read-hex
+    part-read-hex-start
+    part-read-hex-end
+    slice-aggregate-read-hex
+    read-hex-requires
+    enum-told-2
+    no-record-requires-2
+    enum-told-3
+    no-record-requires-3
+    enum-known-n
+    record-with-requires
+    returns-2
+    no-record-requires-4
+    returns-3
+    returns-4
+    returns-5)

@@ -1,0 +1,93 @@
+-- "`card EID CAPACITY VOLATILE LAST FALLBACK PHASE PLACE0 .. PLACE7` hands in any record, sound or not: EID 16 bytes; FALLBACK a
+-- place number 0-255", with a PLACE for each place of a card. The words are read from left to right, and the first that is wrong gives the reason.
+use Prim.Native.Nat.{ℕ, zero, suc}
+use mathlib.Core.List.{List, [], _∷_, _++_}
+use lib.ListN.{replicate}
+use Rattle.choice.specs.Choice.{pick, isSame}
+use Rattle.text.specs.Words.{part, wordAt, onWord}
+use Rattle.text.specs.Hex.{hexReadOf, spelled}
+use Rattle.isdp.specs.Sizes.{mostPlaces, eidSize}
+use Rattle.isdp.specs.Place.{vacant}
+use Rattle.isdp.specs.declared.Isdp.{Isdp}
+use Rattle.card.specs.Cards.{cardWith}
+use Rattle.card.specs.Fresh.{zeroCard}
+use Rattle.card.specs.declared.Phase.{Phase}
+use Rattle.records.specs.Arguments.{most32, most16, most8, onValue, valueAt}
+use Rattle.records.specs.Colons.{onRead, phaseWord, placeWord}
+use Rattle.records.specs.declared.arguments.Reason.{Reason}
+use Rattle.records.specs.declared.arguments.Reason.the-variants.{WordsMissing, BadHex, BadPlace, BadPhase}
+use Rattle.records.specs.declared.colons.Phased.{Phased}
+use Rattle.records.specs.declared.colons.Phased.the-variants as phased
+use Rattle.records.specs.declared.PhaseRead.{PhaseRead}
+use Rattle.records.specs.declared.PhaseRead.the-variants as phaseread
+use Rattle.records.specs.declared.Head.{Head}
+use Rattle.records.specs.declared.Head.the-variants as head
+use Rattle.records.specs.declared.Reading.{Reading}
+use Rattle.records.specs.declared.Reading.the-variants as reading
+use Rattle.records.specs.declared.Held.{Held}
+use Rattle.records.specs.declared.Record.{Record}
+
+abbrev pub onPhased {ℓ} : {X : Type ℓ} → Phased → X → (Phase → X) → X
+onPhased phased.Wrong x f = x
+onPhased (phased.Is phase) x f = f phase
+
+abbrev pub onPhase {ℓ} : {X : Type ℓ} → PhaseRead → (Reason → X) → (Phase → ℕ → X) → X
+onPhase (phaseread.Wrong why) g f = g why
+onPhase (phaseread.Is phase next) g f = f phase next
+
+abbrev pub onHead {ℓ} : {X : Type ℓ} → Head → (Reason → X) → (ℕ → ℕ → ℕ → ℕ → Phase → ℕ → X) → X
+onHead (head.Wrong why) g f = g why
+onHead (head.Is capacity volatile last fallback phase next) g f = f capacity volatile last fallback phase next
+
+abbrev pub onReading {ℓ} : {X : Type ℓ} → Reading → (Reason → X) → X → X
+onReading (reading.Wrong why) g x = g why
+onReading reading.Fine g x = x
+
+-- PHASE, and the place after it
+unfoldable pub phaseAt : List ℕ → ℕ → PhaseRead
+phaseAt s at =
+    onWord (wordAt s at) (phaseread.Wrong WordsMissing) λ a e.
+    onPhased (phaseWord (part s a e)) (phaseread.Wrong BadPhase) λ phase. phaseread.Is phase e
+
+-- CAPACITY VOLATILE LAST FALLBACK PHASE, and the place after them
+unfoldable pub headAt : List ℕ → ℕ → Head
+headAt s at =
+    onValue (valueAt most32 s at) head.Wrong λ capacity b.
+    onValue (valueAt most32 s b) head.Wrong λ volatile c.
+    onValue (valueAt most16 s c) head.Wrong λ last d.
+    onValue (valueAt most8 s d) head.Wrong λ fallback e.
+    onPhase (phaseAt s e) head.Wrong λ phase next. head.Is capacity volatile last fallback phase next
+
+abbrev pub notHeld : Reason → Held
+notHeld why = record { reading = reading.Wrong why; places = replicate mostPlaces vacant }
+
+-- n places more, where `before` was read
+unfoldable pub placesOn : ℕ → List ℕ → ℕ → List Isdp → Held
+placesOn zero s at before = record { reading = reading.Fine; places = before }
+placesOn (suc n) s at before =
+    onWord (wordAt s at) (notHeld WordsMissing) λ a e.
+    pick (placeWord (part s a e) .ok) (placesOn n s e (before ++ (placeWord (part s a e) .place ∷ []))) (notHeld BadPlace)
+
+abbrev pub noRecord : Reason → Record
+noRecord why = record { reading = reading.Wrong why; card = zeroCard }
+
+abbrev pub fine : List ℕ → ℕ → ℕ → ℕ → ℕ → Phase → List Isdp → Record
+fine eid capacity volatile last fallback phase places =
+    record {
+      reading = reading.Fine;
+      card = cardWith eid capacity volatile last fallback phase places;
+    }
+
+-- what stands after the EID
+unfoldable pub recordWith : List ℕ → ℕ → List ℕ → Record
+recordWith s at eid =
+    onHead (headAt s at) noRecord λ capacity volatile last fallback phase next.
+    onReading (placesOn mostPlaces s next [] .reading) noRecord
+    (fine eid capacity volatile last fallback phase (placesOn mostPlaces s next [] .places))
+
+-- the words after `card`
+unfoldable pub recordAt : List ℕ → ℕ → Record
+recordAt s at =
+    onWord (wordAt s at) (noRecord WordsMissing) λ a e.
+    onRead (hexReadOf (part s a e) eidSize) (noRecord BadHex) λ n.
+    pick (isSame n eidSize) (recordWith s e (spelled (part s a e))) (noRecord BadHex)

@@ -1,0 +1,206 @@
+// The words after the first of a line: byte strings, numbers, and the record that a `card` line hands in, sound or not.
+mod arguments;
+mod colons;
+
+pub use arguments::Bytes;
+pub use arguments::MOST;
+pub use arguments::Reason;
+pub use arguments::Value;
+pub use arguments::next_bytes;
+pub use arguments::next_value;
+use card::Card;
+use card::Phase;
+use colons::Phased;
+use colons::read_phase;
+use colons::read_place;
+use isdp::Isdp;
+use text::HexRead;
+use text::Word;
+use text::next_word;
+use text::read_hex;
+ghost use mathlib.Core.Path.{_≡_};
+ghost use Prim.Native.Nat.{_≤_};
+ghost use Rattle.isdp.specs.Sizes.{mostPlaces};
+ghost use mathlib.Core.List.{[]};
+ghost use Rattle.records.specs.Records.{phaseAt, headAt, notHeld, placesOn, noRecord, recordWith, recordAt};
+
+pub enum PhaseRead {
+    Is { phase: Phase, next: usize },
+    Wrong(Reason),
+}
+
+fn next_phase(s: &[u8], at: usize) -> PhaseRead
+    ensures { λ r. ⌜ r ≡ phaseAt (now (s .entry)) at ⌝ }
+{
+    let Word::Span { from, to } = next_word(s, at) else {
+        return PhaseRead::Wrong(Reason::WordsMissing);
+    };
+    let Phased::Is(phase) = read_phase(&s[from..to]) else {
+        return PhaseRead::Wrong(Reason::BadPhase);
+    };
+    PhaseRead::Is { phase, next: to }
+}
+
+// What stands between the EID and the places.
+pub enum Head {
+    Is {
+        capacity: u32,
+        volatile: u32,
+        last: u16,
+        fallback: u8,
+        phase: Phase,
+        next: usize,
+    },
+    Wrong(Reason),
+}
+
+fn head_at(s: &[u8], at: usize) -> Head
+    ensures { λ r. ⌜ r ≡ headAt (now (s .entry)) at ⌝ }
+{
+    match next_value(s, at, MOST) {
+        Value::Wrong(why) => Head::Wrong(why),
+        Value::Is {
+            n: capacity,
+            next: b,
+        } => match next_value(s, b, MOST) {
+            Value::Wrong(why) => Head::Wrong(why),
+            Value::Is {
+                n: volatile,
+                next: c,
+            } => match next_value(s, c, 65535) {
+                Value::Wrong(why) => Head::Wrong(why),
+                Value::Is { n: last, next: d } => match next_value(s, d, 255) {
+                    Value::Wrong(why) => Head::Wrong(why),
+                    Value::Is {
+                        n: fallback,
+                        next: e,
+                    } => match next_phase(s, e) {
+                        PhaseRead::Wrong(why) => Head::Wrong(why),
+                        PhaseRead::Is { phase, next } => Head::Is {
+                            capacity,
+                            volatile,
+                            last: last as u16,
+                            fallback: fallback as u8,
+                            phase,
+                            next,
+                        },
+                    },
+                },
+            },
+        },
+    }
+}
+
+pub enum Reading {
+    Fine,
+    Wrong(Reason),
+}
+
+pub struct Held {
+    pub reading: Reading,
+    pub places: [Isdp; Card::PLACES],
+}
+
+fn not_held(why: Reason) -> Held
+    ensures { λ r. ⌜ r ≡ notHeld why ⌝ }
+{
+    let none = Isdp::none();
+    let places = [none; Card::PLACES];
+    Held {
+        reading: Reading::Wrong(why),
+        places,
+    }
+}
+
+fn read_places(s: &[u8], start: usize) -> Held
+    ensures { λ r. ⌜ r ≡ placesOn mostPlaces (now (s .entry)) start [] ⌝ }
+{
+    let none = Isdp::none();
+    let mut places = [none; Card::PLACES];
+    let mut at = start;
+    let mut i = 0;
+    while i < Card::PLACES {
+        let Word::Span { from, to } = next_word(s, at) else {
+            return not_held(Reason::WordsMissing);
+        };
+        let placed = read_place(&s[from..to]);
+        if !placed.ok {
+            return not_held(Reason::BadPlace);
+        }
+        let place = placed.place;
+        places[i] = place;
+        at = to;
+        i += 1;
+    }
+    Held {
+        reading: Reading::Fine,
+        places,
+    }
+}
+
+// The card is the record of zeros where the line is wrong.
+pub struct Record {
+    pub reading: Reading,
+    pub card: Card,
+}
+
+fn no_record(why: Reason) -> Record
+    ensures { λ r. ⌜ r ≡ noRecord why ⌝ }
+{
+    let card = Card::zero();
+    Record {
+        reading: Reading::Wrong(why),
+        card,
+    }
+}
+
+// What stands after the EID.
+fn record_with(s: &[u8], at: usize, eid: [u8; 16]) -> Record
+    ensures { λ r. ⌜ r ≡ recordWith (now (s .entry)) at eid ⌝ }
+{
+    match head_at(s, at) {
+        Head::Wrong(why) => no_record(why),
+        Head::Is {
+            capacity,
+            volatile,
+            last,
+            fallback,
+            phase,
+            next,
+        } => {
+            let held = read_places(s, next);
+            let reading = held.reading;
+            match reading {
+                Reading::Wrong(why) => no_record(why),
+                Reading::Fine => {
+                    let places = held.places;
+                    let card = Card::with(eid, capacity, volatile, last, fallback, phase, places);
+                    Record {
+                        reading: Reading::Fine,
+                        card,
+                    }
+                }
+            }
+        }
+    }
+}
+
+// The record of the words after `card`.
+pub fn record_at(s: &[u8], at: usize) -> Record
+    ensures { λ r. ⌜ r ≡ recordAt (now (s .entry)) at ⌝ }
+{
+    let Word::Span { from, to } = next_word(s, at) else {
+        return no_record(Reason::WordsMissing);
+    };
+    let mut eid = [0u8; 16];
+    match read_hex(&s[from..to], &mut eid) {
+        HexRead::NoRoom => no_record(Reason::BadHex),
+        HexRead::Wrong => no_record(Reason::BadHex),
+        HexRead::Bytes(n) => {
+            if n == 16 {
+                return record_with(s, to, eid);
+            }
+            no_record(Reason::BadHex)
+        }
+    }
+}

@@ -1,0 +1,125 @@
+"""Builds event files as docs/EVENTS.md lays them out, from values or from a script of `teapot` (docs/SCRIPT.md)."""
+import re
+
+FRESH, EVENTS = 1, 2
+COMMAND, KEYED, STORED, FINISHED, TICK, LOST = range(1, 7)
+FILE_MOST = 65_536
+LINE_MOST = 4_096
+
+
+def number(value):
+    return value.to_bytes(4, "big")
+
+
+def event(kind, data=b""):
+    return bytes([kind]) + len(data).to_bytes(2, "big") + data
+
+
+def fresh(eid, aid, capacity, quota, used, volatile):
+    """The fresh card's inputs."""
+    return eid + b"".join(map(number, (capacity, quota, used, volatile))) + aid
+
+
+def contents(*entries):
+    """A table of contents of these sections, each a kind, a start and a length."""
+    return number(len(entries)) + b"".join(number(value) for entry in entries for value in entry)
+
+
+def event_file(inputs, events, listed=(FRESH, EVENTS), laid=(FRESH, EVENTS)):
+    """A file of both sections, listed and laid in these orders of their kinds."""
+    bodies = {FRESH: inputs, EVENTS: events}
+    start, starts = 4 + 12 * len(listed), {}
+    for kind in laid:
+        starts[kind] = start
+        start += len(bodies[kind])
+    entries = [(kind, starts[kind], len(bodies[kind])) for kind in listed]
+    return contents(*entries) + b"".join(bodies[kind] for kind in laid)
+
+
+class Unfit(Exception):
+    """A line of a script that no event file can hold."""
+
+    def __init__(self, line, reason):
+        super().__init__(f"line {line}: {reason}")
+        self.line = line
+
+
+def hex_bytes(word):
+    if word == b"-":
+        return b""
+    if len(word) % 2 or not re.fullmatch(rb"[0-9A-Fa-f]+", word):
+        raise ValueError("bad hex")
+    return bytes.fromhex(word.decode())
+
+
+def bounded(most):
+    def value(word):
+        if not re.fullmatch(rb"[0-9]+", word) or int(word) > most:
+            raise ValueError("bad number")
+        return int(word)
+
+    return value
+
+
+def eid_bytes(word):
+    eid = hex_bytes(word)
+    if len(eid) != 16:
+        raise ValueError("a file's EID has 16 bytes")
+    return eid
+
+
+BYTE, LONG = bounded(0xFF), bounded(0xFFFF_FFFF)
+
+# For each first word what the words after it are, and what they make.
+LINES = {
+    b"fresh": ([eid_bytes, hex_bytes, LONG, LONG, LONG, LONG], fresh),
+    b"command": ([BYTE, hex_bytes], lambda verdict, data: event(COMMAND, bytes([verdict]) + data)),
+    b"keyed": ([hex_bytes], lambda aid: event(KEYED, aid)),
+    b"stored": ([hex_bytes, LONG], lambda aid, n: event(STORED, number(n) + aid)),
+    b"finished": ([hex_bytes, BYTE], lambda aid, policy: event(FINISHED, bytes([policy]) + aid)),
+    b"tick": ([], lambda: event(TICK)),
+    b"lost": ([], lambda: event(LOST)),
+}
+
+
+def made_of(words, is_first):
+    """What a line's words make: the fresh card's inputs, or an event."""
+    if words[0] == b"card":
+        raise ValueError("a card handed in is no event")
+    if words[0] not in LINES:
+        raise ValueError("unknown word")
+    if is_first and words[0] != b"fresh":
+        raise ValueError("the first call is not fresh")
+    if not is_first and words[0] == b"fresh":
+        raise ValueError("a second fresh is no event")
+    kinds, make = LINES[words[0]]
+    if len(words) <= len(kinds):
+        raise ValueError("words missing")
+    if words[0] == b"command" and len(words) == 4:
+        raise ValueError("a command of a file has no LENGTH")
+    if len(words) > len(kinds) + 1:
+        raise ValueError("too many words")
+    return make(*[kind(word) for kind, word in zip(kinds, words[1:])])
+
+
+def read_script(text):
+    """The fresh card's inputs and the list of the events of a script, which has to hold these and nothing else."""
+    made, size = [], len(contents((0, 0, 0), (0, 0, 0)))
+    lines = text.split(b"\n")
+    for at, line in enumerate(lines, 1):
+        words = line.split(b" ")
+        words = [word for word in words if word]
+        try:
+            if len(line) > LINE_MOST:
+                raise ValueError("too long")
+            if not words or words[0].startswith(b"#"):
+                continue
+            made.append(made_of(words, not made))
+            size += len(made[-1])
+            if size > FILE_MOST:
+                raise ValueError(f"a file has at most {FILE_MOST} bytes")
+        except ValueError as error:
+            raise Unfit(at, error) from None
+    if not made:
+        raise Unfit(len(lines), "there is no fresh")
+    return made[0], made[1:]

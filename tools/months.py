@@ -1,0 +1,380 @@
+#!/usr/bin/env python3
+"""Writes months/: event files for `minutes`, each named for what it shows. What is to be reported of each is written here, from docs/EVENTS.md:
+how the ticks fall on the AIDs, how many events there are and how many are refused, or why the file is. The files are stored only if the peer
+reports all of them so, in both forms."""
+import fractions, math, shutil, sys
+
+sys.dont_write_bytecode = True
+from commands import *
+from engine import HERE, TOP, built, output
+from events import *
+from stories import *
+
+FOLDER = HERE / "months"
+MEANINGS = {
+    "contents wrong": "the file is too long, or its sections are not known ones that lie end to end",
+    "section missing": "the fresh card's inputs or the events are not listed",
+    "fresh inputs bad": "the fresh card's inputs are under 32 bytes, or no card is made of them",
+    "event cut short": "the events end within an event",
+    "event of unknown kind": "an event is of no kind that there is",
+    "event of wrong length": "an event has too few or too many bytes for its kind",
+}
+CONTENTS, MISSING, INPUTS, CUT, UNKNOWN, LENGTH = MEANINGS
+
+months = []
+
+
+def add(name, content, plain, explained):
+    months.append((f"{len(months) + 1:03}-{name}.events", content, plain, explained))
+
+
+def refused(name, content, reason):
+    add(name, content, f"refused: {reason}\n", f"refused: {reason}\n{MEANINGS[reason]}\nno event was run\n")
+
+
+def share(part, whole):
+    if whole == 0:
+        return "-"
+    tenths = math.floor(fractions.Fraction(1000 * part, whole) + fractions.Fraction(1, 2))
+    return f"{tenths // 10}.{tenths % 10}%"
+
+
+def reported(name, content, lines, events, no=0, rest=None):
+    """`lines` has the ticks of each AID, in order; `no` is how many of the events are refused."""
+    rows = [(aid(who).hex().upper(), count) for who, count in lines.items()] + ([] if rest is None else [("rest", rest)])
+    ticks = sum(count for _, count in rows)
+    plain = "".join(f"{who} {count}\n" for who, count in [*rows, ("ticks", ticks), ("events", events)])
+    explained = [f"{'AID':<32}{'minutes':>9}{'share':>8}"]
+    explained += [f"{who:<32}{count:>9}{share(count, ticks):>8}" for who, count in rows]
+    explained += [f"{who:<32}{count:>9}" for who, count in [("ticks", ticks), ("events", events), ("refused", no)]]
+    add(name, content, plain, "\n".join(explained) + "\n")
+
+
+# ---------------------------------------------------------------- what files are made of
+
+def laid(*entries, bodies):
+    return contents(*entries) + b"".join(bodies)
+
+
+ONE = inputs()
+SIZE = len(ONE)
+# Where the first body begins, and where the events do after the inputs.
+FIRST = 28
+SECOND = FIRST + SIZE
+TWO = b"".join(ticks(2))
+END = SECOND + len(TWO)
+WRAP = 1 << 32
+FINE = {1: 2}
+FULL = (FILE_MOST - SECOND) // 3
+
+
+def two(first, second, bodies=(ONE, TWO)):
+    return laid(first, second, bodies=bodies)
+
+
+# ---------------------------------------------------------------- the length of the file, and of its contents
+
+for size in range(4):
+    refused(f"{size}-bytes", bytes(size), CONTENTS)
+refused("4-bytes-no-section", bytes(4), MISSING)
+refused("5-bytes-no-section", bytes(5), CONTENTS)
+refused("count-1-and-no-more", number(1), CONTENTS)
+refused("count-1-contents-cut-by-one-byte", contents((FRESH, 16, 0))[:-1], CONTENTS)
+refused("count-1-contents-and-no-more", contents((FRESH, 16, 0)), MISSING)
+refused("count-2-contents-cut-by-one-byte", contents((FRESH, FIRST, 0), (EVENTS, FIRST, 0))[:-1], CONTENTS)
+refused("count-2-contents-and-no-more", contents((FRESH, FIRST, 0), (EVENTS, FIRST, 0)), INPUTS)
+refused("count-3-contents-pass-the-end", number(3) + of(ticks(2))[4:28], CONTENTS)
+refused("count-3-events-twice", laid((FRESH, 40, SIZE), (EVENTS, 40 + SIZE, 6), (EVENTS, 46 + SIZE, 0), bodies=(ONE, TWO)), CONTENTS)
+for title, count in {
+    "most": WRAP - 1,
+    # Each comes out at a right number in 32 bits: 4 + 12 * count at 28, twice, and at 0.
+    "wraps-to-the-contents": 0x4000_0002,
+    "wraps-twice-to-the-contents": 0x8000_0002,
+    "wraps-to-0": 0x1555_5555,
+    # Only its low byte, or its low half, is right.
+    "258": 258,
+    "65538": 65_538,
+}.items():
+    refused(f"count-{title}", number(count) + of(ticks(2))[4:], CONTENTS)
+refused("contents-fill-the-file", contents(*[(FRESH, FILE_MOST, 0)] * 5461), CONTENTS)
+filler = FILE_MOST - SECOND - 3 * (FULL - 1) - 3
+reported("65536-bytes", of(ticks(FULL - 1) + [event(KEYED, bytes(filler))]), {1: FULL - 1}, FULL, no=1)
+refused("65537-bytes", of(ticks(FULL - 1) + [event(KEYED, bytes(filler + 1))]), CONTENTS)
+reported("full-of-ticks", of(ticks(FULL)), {1: FULL}, FULL)
+
+# ---------------------------------------------------------------- section kinds
+
+for kind in (0, 3, 4, 256, 257, 0x1_0001, 0x0100_0000, 0x0100_0001, WRAP - 1):
+    refused(f"kind-{kind}-for-the-inputs", two((kind, FIRST, SIZE), (EVENTS, SECOND, 6)), CONTENTS)
+refused("kind-258-for-the-events", two((FRESH, FIRST, SIZE), (258, SECOND, 6)), CONTENTS)
+refused("inputs-twice", two((FRESH, FIRST, SIZE), (FRESH, SECOND, SIZE), bodies=(ONE, ONE)), CONTENTS)
+refused("inputs-twice-the-same", two((FRESH, FIRST, SIZE), (FRESH, FIRST, SIZE), bodies=(ONE,)), CONTENTS)
+refused("events-twice", two((EVENTS, FIRST, 6), (EVENTS, FIRST + 6, 6), bodies=(TWO, TWO)), CONTENTS)
+refused("events-twice-one-of-length-0", two((EVENTS, FIRST, 6), (EVENTS, FIRST + 6, 0), bodies=(TWO,)), CONTENTS)
+refused("unknown-kind-of-length-0", laid((FRESH, 40, SIZE), (EVENTS, 40 + SIZE, 6), (3, 46 + SIZE, 0), bodies=(ONE, TWO)), CONTENTS)
+refused("inputs-alone", laid((FRESH, 16, SIZE), bodies=(ONE,)), MISSING)
+refused("events-alone", laid((EVENTS, 16, 6), bodies=(TWO,)), MISSING)
+refused("events-alone-of-length-0", laid((EVENTS, 16, 0), bodies=()), MISSING)
+
+# ---------------------------------------------------------------- where sections lie
+
+for listed in ((FRESH, EVENTS), (EVENTS, FRESH)):
+    for order in ((FRESH, EVENTS), (EVENTS, FRESH)):
+        words = ["inputs" if kind == FRESH else "events" for kind in (listed[0], order[0])]
+        reported(f"{words[0]}-listed-first-{words[1]}-laid-first", event_file(ONE, TWO, listed, order), FINE, 2)
+for title, start, right in (
+    ("at-the-end-of-the-contents", FIRST, True),
+    ("at-the-end-of-the-file", SECOND, True),
+    ("before-the-contents", 0, False),
+    ("within-the-contents", 4, False),
+    ("one-byte-before-the-end-of-the-contents", FIRST - 1, False),
+    ("one-byte-after-the-end-of-the-contents", FIRST + 1, False),
+    ("amid-the-inputs", FIRST + 16, False),
+    ("one-byte-before-the-end-of-the-file", SECOND - 1, False),
+    ("one-byte-past-the-end-of-the-file", SECOND + 1, False),
+    ("far-past-the-end-of-the-file", WRAP - 1, False),
+):
+    content = two((FRESH, FIRST, SIZE), (EVENTS, start, 0), bodies=(ONE,))
+    if right:
+        reported(f"no-events-{title}", content, {1: 0}, 0)
+        reported(f"no-events-listed-first-{title}", two((EVENTS, start, 0), (FRESH, FIRST, SIZE), bodies=(ONE,)), {1: 0}, 0)
+    else:
+        refused(f"no-events-{title}", content, CONTENTS)
+refused("no-inputs-at-the-end-of-the-contents", two((FRESH, FIRST, 0), (EVENTS, FIRST, 6), bodies=(TWO,)), INPUTS)
+refused("no-inputs-at-the-end-of-the-file", two((FRESH, FIRST + 6, 0), (EVENTS, FIRST, 6), bodies=(TWO,)), INPUTS)
+refused("no-inputs-between-two-events", two((FRESH, FIRST + 3, 0), (EVENTS, FIRST, 6), bodies=(TWO,)), CONTENTS)
+refused("no-inputs-and-no-events-one-byte-left", two((FRESH, FIRST, 0), (EVENTS, FIRST, 0), bodies=(b"\0",)), CONTENTS)
+refused("no-inputs-at-the-end-no-events-at-the-front", two((FRESH, FIRST + 1, 0), (EVENTS, FIRST, 0), bodies=(b"\0",)), CONTENTS)
+
+GAP = b"\0"
+refused("gap-before-the-inputs", two((FRESH, FIRST + 1, SIZE), (EVENTS, SECOND + 1, 6), bodies=(GAP, ONE, TWO)), CONTENTS)
+refused("gap-between", two((FRESH, FIRST, SIZE), (EVENTS, SECOND + 1, 6), bodies=(ONE, GAP, TWO)), CONTENTS)
+refused("gap-between-inputs-short-by-one", two((FRESH, FIRST, SIZE), (EVENTS, SECOND + 1, 5)), CONTENTS)
+refused("one-byte-left-over", two((FRESH, FIRST, SIZE), (EVENTS, SECOND, 6), bodies=(ONE, TWO, GAP)), CONTENTS)
+refused("one-tick-left-over", two((FRESH, FIRST, SIZE), (EVENTS, SECOND, 3)), CONTENTS)
+refused("overlap-of-one-byte", two((FRESH, FIRST, SIZE + 1), (EVENTS, SECOND, 6)), CONTENTS)
+refused("overlap-of-one-byte-events-early", two((FRESH, FIRST, SIZE), (EVENTS, SECOND - 1, 7)), CONTENTS)
+refused("events-within-the-inputs", two((FRESH, FIRST, SIZE), (EVENTS, FIRST + 10, 6), bodies=(ONE,)), CONTENTS)
+refused("both-on-the-same-bytes", two((FRESH, FIRST, SIZE), (EVENTS, FIRST, SIZE), bodies=(ONE,)), CONTENTS)
+refused("inputs-from-the-contents-last-byte", two((FRESH, FIRST - 1, SIZE + 1), (EVENTS, SECOND, 6)), CONTENTS)
+refused("inputs-from-the-first-byte-of-the-file", two((FRESH, 0, SECOND), (EVENTS, SECOND, 6)), CONTENTS)
+refused("events-past-the-end-by-one-byte", two((FRESH, FIRST, SIZE), (EVENTS, SECOND, 7)), CONTENTS)
+refused("inputs-laid-last-past-the-end-by-one-byte", two((FRESH, FIRST + 6, SIZE + 1), (EVENTS, FIRST, 6), bodies=(TWO, ONE)), CONTENTS)
+refused("lengths-too-large-by-256", two((FRESH, FIRST, SIZE), (EVENTS, SECOND, 262)), CONTENTS)
+
+# A start plus a length that comes to 2^32, or over it to a number that would be right.
+refused("start-and-length-are-2-to-the-32", two((FRESH, FIRST, SIZE), (EVENTS, WRAP - 6, 6)), CONTENTS)
+refused("length-to-2-to-the-32", two((FRESH, FIRST, SIZE), (EVENTS, SECOND, WRAP - SECOND)), CONTENTS)
+refused("length-to-one-over-2-to-the-32", two((FRESH, FIRST, SIZE), (EVENTS, SECOND, WRAP - SECOND + 1)), CONTENTS)
+refused("start-wraps", two((FRESH, FIRST, SIZE), (EVENTS, WRAP - 1, END + 1)), CONTENTS)
+refused("start-wraps-into-the-contents", two((FRESH, WRAP - 1, SECOND + 1), (EVENTS, SECOND, 6)), CONTENTS)
+refused("events-past-the-end-come-round-to-it", two((FRESH, FIRST, 1000), (EVENTS, FIRST + 1000, WRAP + END - FIRST - 1000)), CONTENTS)
+refused("inputs-past-the-end-come-round-to-it", two((EVENTS, FIRST, 1000), (FRESH, FIRST + 1000, WRAP + END - FIRST - 1000)), CONTENTS)
+refused("both-lengths-most", two((FRESH, FIRST, WRAP - 1), (EVENTS, SECOND, WRAP - 1)), CONTENTS)
+
+# ---------------------------------------------------------------- the fresh card's inputs
+
+LONGEST = "A0000005591010FFFFFFFF8900001000"
+for size in (1, 15, 31, 32, 36):
+    refused(f"inputs-of-{size}-bytes", of(ticks(2), ONE[:size]), INPUTS)
+reported("inputs-of-37-bytes", of(ticks(2), ONE[:37]), FINE, 2)
+reported("inputs-of-48-bytes", of(ticks(2), inputs(LONGEST)), {LONGEST: 2}, 2)
+refused("inputs-of-49-bytes", of(ticks(2), inputs(LONGEST + "00")), INPUTS)
+refused("inputs-of-293-bytes", of(ticks(2), inputs("A0" * 261)), INPUTS)
+refused("inputs-capacity-0", of(ticks(2), inputs(capacity=0, quota=0, used=0)), INPUTS)
+reported("inputs-capacity-1", of(ticks(2), inputs(capacity=1, quota=1, used=1)), FINE, 2)
+reported("inputs-capacity-1048576", of(ticks(2), inputs(capacity=1_048_576, quota=1_048_576, used=1_048_576)), FINE, 2)
+refused("inputs-capacity-1048577", of(ticks(2), inputs(capacity=1_048_577)), INPUTS)
+refused("inputs-capacity-most", of(ticks(2), inputs(capacity=WRAP - 1)), INPUTS)
+refused("inputs-quota-0", of(ticks(2), inputs(quota=0, used=0)), INPUTS)
+reported("inputs-quota-capacity", of(ticks(2), inputs(quota=1000)), FINE, 2)
+refused("inputs-quota-over-capacity", of(ticks(2), inputs(quota=1001)), INPUTS)
+refused("inputs-quota-most", of(ticks(2), inputs(quota=WRAP - 1)), INPUTS)
+reported("inputs-used-quota", of(ticks(2), inputs(used=100)), FINE, 2)
+refused("inputs-used-over-quota", of(ticks(2), inputs(used=101)), INPUTS)
+refused("inputs-used-most", of(ticks(2), inputs(used=WRAP - 1)), INPUTS)
+reported("inputs-volatile-most", of(ticks(2), inputs(volatile=WRAP - 1)), FINE, 2)
+reported("inputs-eid-and-aid-of-zeros", of(ticks(2), fresh(bytes(16), bytes(5), 1000, 100, 0, 0)), {"0000000000": 2}, 2)
+
+# ---------------------------------------------------------------- events
+
+refused("one-byte-of-an-event", of([b"\5"]), CUT)
+refused("one-byte-after-an-event", of(ticks() + [b"\5"]), CUT)
+refused("two-bytes-after-an-event", of(ticks() + [b"\5\0"]), CUT)
+refused("length-one-more-than-is-left", of(ticks() + [b"\2\0\6" + aid(1)]), CUT)
+refused("length-256-more-than-is-left", of(ticks() + [b"\2\1\5" + aid(1)]), CUT)
+refused("length-most", of(ticks() + [b"\2\xFF\xFF" + aid(1)]), CUT)
+refused("length-of-the-first-event-covers-all-but-one-byte", of([b"\2\0\3"] + ticks() + [b"\0"]), CUT)
+reported("length-of-the-first-event-covers-all", of([b"\2\0\3"] + ticks()), {1: 0}, 1, no=1)
+refused("event-of-zeros", of([bytes(3)]), UNKNOWN)
+for kind in (0, 7, 8, 129, 255):
+    refused(f"event-of-kind-{kind}", of(ticks() + [event(kind, aid(1))] + ticks()), UNKNOWN)
+refused("unknown-kind-last", of(ticks(5) + [event(7)]), UNKNOWN)
+for what, kind, *sizes in (("command", COMMAND, 0), ("stored", STORED, 0, 1, 3), ("finished", FINISHED, 0), ("tick", TICK, 1, 256), ("lost", LOST, 1, 256)):
+    for size in sizes:
+        refused(f"{what}-of-{size}-bytes", of(ticks() + [event(kind, bytes(size))] + ticks()), LENGTH)
+refused("wrong-length-first", of([event(TICK, b"\0")] + ticks(3)), LENGTH)
+refused("wrong-length-last", of(ticks(3) + [event(LOST, b"\0")]), LENGTH)
+for what, kind, size in (("command", COMMAND, 1), ("keyed", KEYED, 0), ("stored", STORED, 4), ("finished", FINISHED, 1)):
+    reported(f"{what}-event-of-{size}-bytes", of(ticks() + [event(kind, bytes(size))] + ticks()), FINE, 3, no=1)
+for size in (1, 3, 4, 255, 256, 262, 300, 60_000):
+    reported(f"command-of-{size}-bytes", of(ticks() + [event(COMMAND, bytes([0]) + bytes([0x80]) * size)] + ticks()), FINE, 3, no=1)
+# A creation of 261 bytes, the most a command may have: 49 protocols, an AID of six bytes and Le. With one byte more it is refused, and so is
+# all that leans on it.
+LONG = "A00000000202"
+creation = create(aid=LONG, params=tlv("C9", "81020370" * 49) + ef(50), le="00")
+assert len(creation) == 2 * 261
+after = keyed(LONG) + stored(LONG) + finished(LONG) + enables(LONG) + ticks(3)
+reported("command-of-261-bytes-accepted", of(ticks() + command(creation) + after), {1: 1, LONG: 3}, 9)
+reported("command-of-262-bytes-refused", of(ticks() + command(creation + "00") + after), {1: 4}, 9, no=5)
+for size in (0, 4, 17, 300):
+    name = "A0" * size
+    reported(f"inner-calls-with-an-aid-of-{size}-bytes", of(ticks() + keyed(name) + stored(name) + finished(name) + ticks()), FINE, 5, no=3)
+for name in ("A000000002", LONGEST):
+    reported(f"aid-of-{len(name) // 2}-bytes", of(profile(name) + enables(name) + ticks(2)), {1: 0, name: 2}, 7)
+blocks = [block for n in (WRAP - 1, 51, 50, 1, WRAP - 50) for block in stored(2, n)]
+reported("stored-of-numbers-that-do-not-fit", of(makes(2) + keyed(2) + blocks + finished(2) + enables(2) + ticks()), {1: 0, 2: 1}, 10, no=4)
+wrong = [one for policy in (5, 6, 7, 8, 255) for one in finished(2, policy)]
+reported("policies-that-are-wrong", of(makes(2) + keyed(2) + stored(2) + wrong + finished(2, 3) + enables(2) + ticks(2)), {1: 0, 2: 2}, 12, no=5)
+
+# ---------------------------------------------------------------- two refusals in one file: the first of the table is told
+
+BAD = ONE[:31]
+FAULTS = {"cut-short": [b"\5\0"], "unknown-kind": [event(7)], "wrong-length": [event(TICK, b"\0")]}
+REASONS = {"cut-short": CUT, "unknown-kind": UNKNOWN, "wrong-length": LENGTH}
+refused("contents-wrong-and-section-missing", laid((3, 16, 6), bodies=(TWO,)), CONTENTS)
+refused("contents-wrong-and-events-missing", laid((FRESH, 16, SIZE), bodies=(ONE, GAP)), CONTENTS)
+refused("contents-wrong-and-inputs-bad", of(ticks(2), BAD) + GAP, CONTENTS)
+refused("section-missing-and-inputs-bad", laid((FRESH, 16, 31), bodies=(BAD,)), MISSING)
+for title, fault in FAULTS.items():
+    body = b"".join(ticks() + fault)
+    refused(f"contents-wrong-and-{title}", of([body]) + GAP, CONTENTS)
+    refused(f"section-missing-and-{title}", laid((EVENTS, 16, len(body)), bodies=(body,)), MISSING)
+    refused(f"inputs-bad-and-{title}", of([body], BAD), INPUTS)
+for one, other in (("unknown-kind", "cut-short"), ("wrong-length", "cut-short"), ("wrong-length", "unknown-kind")):
+    refused(f"{one}-early-and-{other}-late", of(FAULTS[one] + ticks(3) + FAULTS[other]), REASONS[other])
+refused("unknown-kind-early-and-wrong-length-late", of(FAULTS["unknown-kind"] + ticks(3) + FAULTS["wrong-length"]), UNKNOWN)
+refused("wrong-length-unknown-kind-and-cut-short", of(FAULTS["wrong-length"] + FAULTS["unknown-kind"] + FAULTS["cut-short"]), CUT)
+refused("cut-short-within-an-event-of-unknown-kind", of(ticks() + [b"\7\0\1"]), CUT)
+refused("cut-short-within-a-tick-of-wrong-length", of(ticks() + [b"\5\0\1"]), CUT)
+refused("unknown-kind-of-a-length-that-would-be-wrong", of(ticks() + [event(0), event(7, bytes(300))]), UNKNOWN)
+refused("every-refusal-at-once", laid((FRESH, 16, 31), bodies=(BAD, *FAULTS["wrong-length"], *FAULTS["unknown-kind"], *FAULTS["cut-short"])), CONTENTS)
+
+# ---------------------------------------------------------------- for whom a tick counts
+
+reported("no-events", of([]), {1: 0}, 0)
+reported("one-tick", of(ticks()), {1: 1}, 1)
+reported("ticks-before-any-enable", of(ticks(3) + profile(2) + ticks(4)), {1: 7}, 11)
+reported("a-profile-never-enabled-has-no-line", of(profile(2) + profile(3) + enables(3) + ticks(2)), {1: 0, 3: 2}, 11)
+reported("a-refused-enable-has-no-line", of(makes(2) + enables(2) + ticks(5)), {1: 5}, 7, no=1)
+reported("enable-confirmed", of(profile(2) + enables(2) + ticks(9) + confirms(1) + ticks(20)), {1: 0, 2: 29}, 35)
+reported("nine-ticks-of-a-trial", of(profile(2) + enables(2) + ticks(9)), {1: 0, 2: 9}, 14)
+reported("tenth-tick-of-a-trial", of(profile(2) + enables(2) + ticks(10)), {1: 0, 2: 10}, 15)
+reported("eleventh-tick-after-a-trial", of(profile(2) + enables(2) + ticks(11)), {1: 1, 2: 10}, 16)
+reported("roll-back", of(profile(2) + enables(2) + ticks(50)), {1: 40, 2: 10}, 55)
+reported("roll-back-late-confirmation", of(profile(2) + enables(2) + ticks(10) + confirms(1) + ticks(2) + confirms(2) + ticks(30)), {1: 32, 2: 10}, 49, no=1)
+reported("roll-back-twice", of(profile(2) + (enables(2) + ticks(25)) * 2), {1: 30, 2: 20}, 56)
+reported("second-enable-in-a-trial", of(profile(2) + profile(3) + enables(2) + ticks(5) + enables(3) + ticks(10)), {1: 5, 2: 10}, 25, no=1)
+reported("disable-confirmed", of(profile(2) + enables(2) + confirms(1) + ticks(3) + disables(2) + confirms(2) + ticks(4)), {1: 4, 2: 3}, 15)
+# Enabled 02, asked for 01: ten minutes of 01, ten of 02 again, then 01 for good.
+reported("disable-rolled-back-and-fallen", of(profile(2) + enables(2) + confirms(1) + disables(2) + ticks(35)), {1: 25, 2: 10}, 42)
+reported("lost-network", of(profile(2) + enables(2) + confirms(1) + ticks(3) + lost() + ticks(15)), {1: 15, 2: 3}, 25)
+reported("lost-network-on-the-fall-back", of(ticks(2) + lost() + ticks(3)), {1: 5}, 6)
+reported("lost-network-in-a-trial", of(profile(2) + enables(2) + lost() + ticks(3)), {1: 0, 2: 3}, 9)
+reported("lost-network-twice", of(profile(2) + enables(2) + confirms(1) + lost() + lost() + ticks(3) + confirms(2) + lost() + ticks(2)), {1: 5, 2: 0}, 15)
+# 03 is the fall-back and was never enabled by a command: a tick enables it, and in the next file a lost network does.
+reported("back-then-fallen", of(profile(2) + profile(3) + falls_to(3) + enables(2) + ticks(45)), {1: 10, 2: 10, 3: 25}, 55)
+reported("back-confirmed-not-fallen", of(profile(2) + profile(3) + falls_to(3) + enables(2) + ticks(19) + confirms(2) + ticks(30)), {1: 39, 2: 10}, 60)
+reported("twentieth-tick", of(profile(2) + profile(3) + falls_to(3) + enables(2) + ticks(20)), {1: 10, 2: 10, 3: 0}, 30)
+reported("first-enabled-by-a-lost-network", of(profile(3) + falls_to(3) + ticks(2) + lost() + ticks(12)), {1: 2, 3: 12}, 20)
+reported("fall-back-moved", of(profile(2) + enables(2) + confirms(1) + falls_to(2) + lost() + ticks(3) + enables(1) + ticks(2)), {1: 2, 2: 3}, 14)
+reported("a-line-with-no-tick", of(profile(2) + profile(3) + enables(2) + confirms(1) + enables(3) + confirms(2) + ticks(4)), {1: 0, 2: 0, 3: 4}, 16)
+reported("lines-in-the-order-of-enabling", of(profile(9) + profile(3) + enables(9) + ticks() + confirms(1) + enables(3) + ticks(2)), {1: 0, 9: 1, 3: 2}, 14)
+bound = profile(2, 1) + profile(3) + enables(2) + confirms(1) + ticks(2)
+reported("policy-forbids-disabling", of(bound + enables(3) + disables(2) + ticks(3)), {1: 0, 2: 5}, 17, no=2)
+reported("policy-forbids-disabling-and-rolls-back", of(profile(2, 1) + enables(2) + ticks(13)), {1: 3, 2: 10}, 18)
+
+# ---------------------------------------------------------------- deleted, and created again
+
+gone = profile(2) + enables(2) + ticks(2) + confirms(1) + enables(1) + confirms(2) + deletes(2)
+reported("a-deleted-aid-keeps-its-line", of(gone + ticks(3)), {1: 3, 2: 2}, 14)
+reported("created-again-and-not-enabled", of(gone + ticks(3) + profile(2)), {1: 3, 2: 2}, 18)
+other = profile(3) + enables(3) + ticks(4) + confirms(3)
+reported("created-again-adds-to-its-line", of(gone + other + profile(2) + enables(2) + ticks(5)), {1: 0, 2: 7, 3: 4}, 31)
+self_gone = profile(2, 4) + enables(2) + confirms(1) + ticks(6) + enables(1) + confirms(2)
+reported("deleted-at-confirmation", of(self_gone + enables(2) + ticks()), {1: 1, 2: 6}, 16, no=1)
+reported("deleted-at-confirmation-and-created-again", of(self_gone + profile(2) + enables(2) + ticks(2)), {1: 0, 2: 8}, 21)
+reported("not-deleted-where-it-rolls-back", of(profile(2, 4) + enables(2) + confirms(1) + ticks() + enables(1) + ticks(12)), {1: 10, 2: 3}, 20)
+kept = profile(2, 2) + enables(2) + ticks(3) + confirms(1) + enables(1) + confirms(2) + deletes(2)
+reported("deleted-by-master-delete", of(kept + master(2, 0) + master(2, 2) + master(2, 1) + deletes(2) + ticks()), {1: 1, 2: 3}, 17, no=4)
+reported("master-delete-without-its-verdict", of(profile(2) + master(2, 0) + master(2, 2) + enables(2) + ticks(2)), {1: 0, 2: 2}, 9, no=2)
+reported("master-delete-with-its-verdict", of(profile(2) + master(2, 1) + enables(2) + ticks(2)), {1: 2}, 8, no=1)
+
+# ---------------------------------------------------------------- AIDs that are nearly the same
+
+# One is the beginning of the next, and zeros follow it: only their lengths tell them apart.
+zeros = ["A000000001" + "00" * more for more in range(1, 12)]
+longer = profile(zeros[0]) + enables(zeros[0]) + ticks(2) + confirms(1) + profile(zeros[1]) + enables(zeros[1]) + ticks(3)
+reported("aids-one-byte-longer", of(longer), {1: 0, zeros[0]: 2, zeros[1]: 3}, 16)
+reported("aids-of-every-length", of(ticks(20) + parade(zeros, stay=2)), {1: 20, **dict.fromkeys(zeros, 2)}, 108)
+last = [LONGEST[:-2] + f"{byte:02X}" for byte in (0x00, 0x01, 0x80)]
+reported("aids-that-differ-in-the-last-byte", of(parade(last)), {1: 0, **dict.fromkeys(last, 1)}, 21)
+first = [f"{byte:02X}" + LONGEST[2:] for byte in (0xA0, 0xA1, 0x20)]
+reported("aids-that-differ-in-the-first-byte", of(parade(first)), {1: 0, **dict.fromkeys(first, 1)}, 21)
+
+# ---------------------------------------------------------------- sixty-four lines and the rest
+
+def line_each(last, count=1):
+    return {1: 0, **dict.fromkeys(range(2, last + 1), count)}
+
+
+def through(last, stay=1):
+    return parade(range(2, last + 1), stay=stay)
+
+
+reported("63-aids", of(through(63)), line_each(63), 434)
+reported("64-aids", of(through(64)), line_each(64), 441)
+reported("64-aids-the-65th-not-finished", of(through(64) + makes(65) + enables(65) + ticks(3)), {**line_each(64), 64: 4}, 446, no=1)
+reported("65-aids-the-rest-with-no-tick", of(through(64) + profile(65) + enables(65) + confirms(64)), line_each(64), 447, rest=0)
+reported("65-aids", of(through(65)), line_each(64), 448, rest=1)
+reported("65-aids-the-rest-with-many-ticks", of(through(65) + ticks(1000)), line_each(64), 1448, rest=1001)
+reported("65-aids-the-last-rolled-back", of(through(64) + profile(65) + enables(65) + ticks(14)), {**line_each(64), 64: 5}, 460, rest=10)
+falls = through(64) + profile(65) + falls_to(65) + ticks(2) + lost() + ticks(3)
+reported("65-aids-the-last-enabled-by-a-lost-network", of(falls), {**line_each(64), 64: 3}, 452, rest=3)
+reported("65-aids-then-the-fall-back-again", of(through(65) + lost() + ticks(7)), {**line_each(64), 1: 7}, 456, rest=1)
+reported("65-aids-then-the-second-created-again", of(through(65) + parade([2], 65, 5)), {**line_each(64), 2: 6}, 459, rest=1)
+reported("65-aids-then-the-64th-created-again", of(through(65) + parade([64], 65, 5) + ticks()), {**line_each(64), 64: 7}, 460, rest=1)
+reported("66-aids", of(through(66)), line_each(64), 455, rest=2)
+reported("66-aids-then-the-65th-created-again", of(through(66) + parade([65], 66, 4)), line_each(64), 465, rest=6)
+reported("200-aids", of(through(200)), line_each(64), 1393, rest=136)
+
+# ---------------------------------------------------------------- shares, and the month of the examples
+
+reported("shares-of-a-third", shared(2, 1), {1: 2, 2: 1}, 9)
+# 6.25 and 93.75 are halves of a tenth: both go up.
+reported("shares-of-a-sixteenth", shared(15, 1), {1: 15, 2: 1}, 22)
+reported("shares-of-a-two-thousandth", shared(1999, 1), {1: 1999, 2: 1}, 2006)
+reported("shares-under-a-two-thousandth", shared(2000, 1), {1: 2000, 2: 1}, 2007)
+reported("month", (TOP / "examples/month.events").read_bytes(), {1: 15, 2: 25, 3: 10}, 67, no=2)
+
+
+def main():
+    assert len(dict.fromkeys(name[4:] for name, *_ in months)) == len(months), "a name stands twice"
+    shutil.rmtree(FOLDER, ignore_errors=True)
+    FOLDER.mkdir()
+    peer, wrong = built("peer"), 0
+    for name, content, *wanted in months:
+        (FOLDER / name).write_bytes(content)
+        for form, want in zip(([], ["explain"]), wanted):
+            got = output(peer, "minutes", *form, FOLDER / name).decode()
+            if got != want:
+                wrong += 1
+                print(f"{name}: wanted\n{want}got\n{got}")
+    if wrong:
+        shutil.rmtree(FOLDER)
+        sys.exit(f"months: {wrong} differ; nothing is stored")
+    size = sum(len(content) for _, content, *_ in months)
+    print(f"months: {len(months)} event files, {size} bytes, all reported as written by hand")
+
+
+main()
