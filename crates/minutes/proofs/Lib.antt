@@ -1,0 +1,2 @@
+-- The law that a file's text has room.
+pub mod Within
