@@ -3,7 +3,7 @@ use Prim.Native.Nat.{ℕ}
 use mathlib.Core.List.{List, [], _++_}
 use mathlib.Core.Bool.{Bool}
 use Rattle.choice.specs.Choice.{pick}
-use Rattle.answers.specs.Letters.{text}
+use Rattle.profiles.specs.Letters.{text}
 use Rattle.event_file.specs.declared.Refusal.{Refusal}
 use Rattle.event_file.specs.declared.Refusal.the-variants.{ContentsWrong, SectionMissing, FreshBad, CutShort, UnknownKind, WrongLength}
 
