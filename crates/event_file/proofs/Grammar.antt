@@ -5,14 +5,20 @@ use mathlib.Core.Path.{_≡_, refl, sym, ap, _∙_}
 use mathlib.Core.List.{List, _++_}
 use mathlib.Core.Bool.{false}
 use native.Mathlib.Omega.{arith}
-use lib.ListN.{length, take, drop, length-append, take-append-drop}
+use lib.ListN.{length, take, drop, length-append, take-append-drop, replicate, getD-replicate, length-replicate, List·getD-eq-default}
 use lib.Seq.{take-at, drop-at, drop-drop, length-take-le}
 use Rattle.byte_string.specs.Bytes.{fourAt, fourBytes, partOf}
+use Rattle.choice.specs.Choice.{pick, isSame}
+use Rattle.choice.proofs.Branches.{on-lt}
 use Rattle.status.specs.StatusWords.{isDone}
+use Rattle.status.specs.Rows.{wordOf}
+use Rattle.card.specs.Answers.{accepted}
+use Rattle.card.specs.Fresh.{freshOutcome}
 use Rattle.tlv.specs.Encoding.{Bytes}
 use Rattle.contents.specs.Contents.{freshKind, eventsKind, sectionOf}
 use Rattle.contents.specs.declared.Section.{Section}
 use Rattle.contents.proofs.TwoSections.{two-sections}
+use Rattle.events.specs.Kinds.{kindOf}
 use Rattle.events.specs.Events.{Event, eventsOf, checkedOf}
 use Rattle.events.specs.Written.{encodeEvents}
 use Rattle.events.specs.declared.Checked.the-variants as checked
@@ -20,9 +26,9 @@ use Rattle.events.proofs.Written.{bytes-drop, bytes-take, events-back, events-w
 use Rattle.demands.specs.Inputs.{Inputs, freshOf}
 use Rattle.event_file.specs.Inputs.{inputsOf, freshAnswer, freshBad}
 use Rattle.event_file.specs.File.{partIn, bodyOf}
-use Rattle.event_file.specs.Grammar.{encodeInputs, fileOf, written, CanBeWritten, ReadBack, WrittenBack}
+use Rattle.event_file.specs.Grammar.{encodeInputs, fileOf, written, CanBeWritten, ReadBack, WrittenBack, GrammarMet}
 use Rattle.event_file.proofs.Opening.{checked-stop, not-bad}
-use Rattle.event_file.proofs.Accepted.{accepted}
+use Rattle.event_file.proofs.Accepted as file
 use Rattle.event_file.proofs.Bodies.{four-back, four-from, four-on, file-holds, file-laid}
 
 inputs-same : {e e′ a a′ : List ℕ} {c c′ q q′ u u′ v v′ : ℕ} → e ≡ e′ → c ≡ c′ → q ≡ q′ → u ≡ u′ → v ≡ v′ → a ≡ a′
@@ -97,7 +103,7 @@ four-small f w at =
 pub written-back : WrittenBack
 unfolding freshAnswer
 written-back s w e =
-    let a = accepted s e in
+    let a = file.accepted s e in
     let f = bodyOf s freshKind in
     let b = bodyOf s eventsKind in
     let fw : Bytes f = bytes-take (partIn (sectionOf s freshKind) .len) (drop (partIn (sectionOf s freshKind) .start) s) (bytes-drop (partIn (sectionOf s freshKind) .start) s w) in
@@ -123,4 +129,25 @@ written-back s w e =
         events = v .1;
       };
       size = a .size;
+    }
+
+bytes-same : (n v : ℕ) → v < 256 → Bytes (replicate n v)
+bytes-same n v h i =
+    on-lt i n
+    (λ k. let e = getD-replicate n i v 0 k in omega arith)
+    (λ k. let e = List·getD-eq-default (replicate n v) 0 {n = i} (omega (arith, length-replicate n v)) in omega arith)
+
+pub grammar-met : GrammarMet
+unfolding freshOutcome wordOf accepted kindOf pick isSame
+grammar-met =
+    record {
+      eid-16 = refl;
+      eid-octets = bytes-same 16 0xE1 (omega arith);
+      aid-octets = bytes-same 5 0xA0 (omega arith);
+      capacity-four = omega arith;
+      quota-four = omega arith;
+      used-four = omega arith;
+      volatile-four = omega arith;
+      taken = refl;
+      events = (record { known = refl; right = refl; short = omega arith; octets = bytes-same 0 0 (omega arith) }, tt);
     }

@@ -2,9 +2,9 @@
 -- in either order. What is written is accepted and read as what was written, and every accepted file was so written.
 use Prim.Native.Nat.{ℕ, _+_, _≤_, _<_}
 use mathlib.Core.Path.{_≡_}
-use mathlib.Core.List.{List, _++_}
+use mathlib.Core.List.{List, [], _∷_, _++_}
 use mathlib.Core.Bool.{Bool, true, false}
-use lib.ListN.{length}
+use lib.ListN.{length, replicate}
 use Rattle.byte_string.specs.Bytes.{fourBytes}
 use Rattle.status.specs.StatusWords.{isDone}
 use Rattle.tlv.specs.Encoding.{Bytes}
@@ -67,3 +67,11 @@ pub record WrittenFrom (s : List ℕ) (x : Inputs) (es : List Event) : Type 0 wh
 
 abbrev pub WrittenBack : Type 0
 WrittenBack = (s : List ℕ) → Bytes s → verdictOf s ≡ Accepted → WrittenFrom s (inputsOf (bodyOf s freshKind)) (fileEvents s)
+
+-- the hypotheses can be met: inputs with this quota, so many used bytes and an AID of so many bytes, the capacity 100; and one tick
+abbrev pub sample : ℕ → ℕ → ℕ → Inputs
+sample quota used n =
+    record { eid = replicate 16 0xE1; capacity = 100; quota = quota; used = used; volatile = 7; aid = replicate n 0xA0 }
+
+abbrev pub GrammarMet : Type 0
+GrammarMet = CanBeWritten (sample 50 0 5) (record { kind = 5; bytes = [] } ∷ [])

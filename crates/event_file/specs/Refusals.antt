@@ -11,7 +11,7 @@ use Rattle.card.specs.declared.Card.{Card}
 use Rattle.contents.specs.Examples.{entry}
 use Rattle.events.specs.Events.{Event, eventsOf}
 use Rattle.event_file.specs.File.{Row, table, verdictOf, openedOf}
-use Rattle.event_file.specs.Grammar.{encodeInputs, fileOf}
+use Rattle.event_file.specs.Grammar.{encodeInputs, fileOf, sample}
 use Rattle.event_file.specs.declared.Refusal.{Refusal}
 use Rattle.event_file.specs.declared.Refusal.the-variants.{ContentsWrong, SectionMissing, FreshBad, CutShort, UnknownKind, WrongLength}
 use Rattle.event_file.specs.declared.Verdict.{Verdict}
@@ -49,11 +49,8 @@ pub record Refusing : Type 0 where
   pub no-card : (s : List ℕ) (r : Refusal) → verdictOf s ≡ Refused r → cardRun s ≡ zeroCard
   pub none-run : (s : List ℕ) (r : Refusal) → verdictOf s ≡ Refused r → eventsRun s ≡ []
 
--- inputs with this quota, so many used bytes and an AID of so many bytes; the capacity is 100
 abbrev pub inputs : ℕ → ℕ → ℕ → List ℕ
-inputs quota used n =
-    encodeInputs
-    (record { eid = replicate 16 0xE1; capacity = 100; quota = quota; used = used; volatile = 7; aid = replicate n 0xA0 })
+inputs quota used n = encodeInputs (sample quota used n)
 
 abbrev pub good : List ℕ
 good = inputs 50 0 5
