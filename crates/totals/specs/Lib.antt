@@ -3,3 +3,4 @@ pub mod Reports
 pub mod Examples
 pub mod RollBack
 pub mod WrongReports
+pub mod Written
