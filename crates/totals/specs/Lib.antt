@@ -1,4 +1,4 @@
--- Issue 12, theorem 6: wrong reports, and the file that refutes them.
+-- Issue 12: the report without the program's table, wrong reports (theorem 6), and the months that show them.
 pub mod Reports
 pub mod Examples
 pub mod RollBack

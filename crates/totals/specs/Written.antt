@@ -59,7 +59,7 @@ reportSaid explain c calls =
     ++ restSaid explain c calls
     ++ totalsSaid explain c calls
 
--- so is what is written of a file that is accepted
+-- and that is what is written of a file that is accepted
 abbrev pub WhatIsWritten : Type 0
 WhatIsWritten =
     (explain : Bool) (s : List ℕ) → verdictOf s ≡ Accepted → accountText explain s ≡ reportSaid explain (fileCard s) (fileCalls s)

@@ -14,7 +14,6 @@ use Rattle.manager.specs.Calls.{Call, asked}
 use Rattle.manager.specs.Manager.{step}
 use Rattle.demands.specs.Change.{taken, isTick}
 use Rattle.tally.specs.Lines.{lineOf, minuteOn}
-use Rattle.demands.specs.Examples.{aid}
 use Rattle.event_file.specs.File.{verdictOf}
 use Rattle.event_file.specs.declared.Verdict.the-variants.{Accepted}
 use Rattle.month.specs.Month.{Counted, atFirst, tallied, fileCounted}
