@@ -1,4 +1,4 @@
--- A share is rounded, by the laws of division; the reports of the page compute to the same bytes.
+-- The reports of the page compute to the same bytes; a share is rounded, by the laws of division.
 use mathlib.Core.Path.{refl}
 use Prim.Native.Nat.{ℕ, _+_, _*_}
 use native.Mathlib.Nat.{div-mul-le-self, lt-div-mul-add}
@@ -10,10 +10,6 @@ use Rattle.isdp.specs.Aids.{padded}
 use Rattle.profiles.specs.Profiles.{spaces, leadOf, columnText}
 use Rattle.report.specs.Report.{figureText, shareLead, percentText, shareText, plainText, minutesText, totalText, aidLine, linesText, restText, headText, refusedText, totalsText, reportText}
 use Rattle.report.specs.Statements.{Rounded, Shown}
-
-pub rounded : Rounded
-rounded minutes ticks h =
-    (div-mul-le-self (minutes * 2000 + ticks) (ticks * 2), lt-div-mul-add {a = minutes * 2000 + ticks} {b = ticks * 2} (omega arith))
 
 pub shown : Shown
 unfolding reportText totalsText refusedText headText restText linesText aidLine totalText minutesText plainText shareText percentText shareLead figureText columnText leadOf spaces digitsText hexText glyphOf pick isBelow isSame padded
@@ -27,3 +23,7 @@ shown =
       half-a-tenth = refl;
       under-half = refl;
     }
+
+pub rounded : Rounded
+rounded minutes ticks h =
+    (div-mul-le-self (minutes * 2000 + ticks) (ticks * 2), lt-div-mul-add {a = minutes * 2000 + ticks} {b = ticks * 2} (omega arith))

@@ -25,8 +25,9 @@ use Rattle.records.specs.declared.arguments.Reason.{Reason}
 use Rattle.records.specs.declared.Reading.{Reading}
 use Rattle.records.specs.declared.Reading.the-variants as reading
 use Rattle.script.specs.declared.Order.{Order}
-use Rattle.session.specs.Reasons.{reasonLine, mostFault}
-use Rattle.session.specs.Session.{recordOutcome, answerText, firstReply, faultReply, answerTo, Reply, replyBy, lineOf, mostText, Replied, Used}
+use Rattle.replies.specs.Reasons.{reasonLine, mostFault}
+use Rattle.replies.specs.Replies.{recordOutcome, answerText, firstReply, faultReply, answerTo, Reply, replyBy, lineOf, mostText}
+use Rattle.session.specs.Session.{Replied, Used}
 use Rattle.session.specs.declared.Turn.{Turn}
 use Rattle.session.proofs.Spelled.{replied}
 

@@ -20,7 +20,8 @@ use Rattle.manager.specs.Calls.{callOf}
 use Rattle.manager.specs.Manager.{Served}
 use Rattle.manager.specs.declared.Call as declared
 use Rattle.answers.specs.Explained.{mostExplained}
-use Rattle.session.specs.Session.{mostBytes, mostRoom, bytesOf, partIn, laid, callIn, answerText, replyOf, answerTo, mostText, Replied}
+use Rattle.replies.specs.Replies.{mostBytes, mostRoom, bytesOf, partIn, laid, callIn, answerText, replyOf, answerTo, mostText}
+use Rattle.session.specs.Session.{Replied}
 use Rattle.session.specs.declared.Turn.{Turn}
 
 -- read back, from the buffer itself and from a longer one that it is the front of

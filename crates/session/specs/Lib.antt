@@ -1,3 +1,2 @@
--- What a line of a script makes of a card, and the text that answers it.
-pub mod Reasons
+-- A session as the code hands it out.
 pub mod Session

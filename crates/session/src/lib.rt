@@ -31,7 +31,8 @@ ghost use Rattle.manager.specs.Calls.{callOf};
 ghost use Rattle.manager.specs.Manager.{Served};
 ghost use Rattle.records.specs.Records.{onReading, recordAt};
 ghost use Rattle.answers.specs.Explained.{mostExplained};
-ghost use Rattle.session.specs.Session.{mostBytes, mostRoom, bytesOf, partIn, laid, callIn, recordOutcome, answerText, replyOf, firstReply, silentReply, faultReply, answerTo, firstTurn, lineOf, mostText, Replied, Used};
+ghost use Rattle.replies.specs.Replies.{mostBytes, mostRoom, bytesOf, partIn, laid, callIn, recordOutcome, answerText, replyOf, firstReply, silentReply, faultReply, answerTo, lineOf, mostText};
+ghost use Rattle.session.specs.Session.{firstTurn, Replied, Used};
 
 // Where a session stands: its card, whether that card is known to be sound, up to where the lent buffer is filled, and whether the run
 // goes on. Soundness is asked where a card is handed in, and kept: every call leaves a sound card sound. Where it is not known, each

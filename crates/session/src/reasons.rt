@@ -6,7 +6,7 @@ use text::put_decimal;
 ghost use Prim.Native.Nat.{_≤_};
 ghost use lib.ListN.{length};
 ghost use Rattle.byte_string.specs.Put.{Wrote};
-ghost use Rattle.session.specs.Reasons.{reasonText, reasonLine, mostFault};
+ghost use Rattle.replies.specs.Reasons.{reasonText, reasonLine, mostFault};
 
 fn put_reason(reason: Reason, buf: &mut [u8], at: usize) -> usize
     ensures { λ r. ⌜ Wrote (now (buf .entry)) at (reasonText reason) r (now (buf .exit)) ⌝ }

@@ -5,7 +5,8 @@ use native.Mathlib.Omega.{arith}
 use mathlib.Core.List.{List}
 use lib.ListN.{length}
 use Rattle.byte_string.proofs.PutLaws.{after-fits}
-use Rattle.session.specs.Session.{Reply, mostText, Replied}
+use Rattle.replies.specs.Replies.{Reply, mostText}
+use Rattle.session.specs.Session.{Replied}
 use Rattle.session.specs.declared.Turn.{Turn}
 
 pub written-whole : (old : List ℕ) (at : ℕ) (x : Reply) (r : Turn) (new : List ℕ) → Replied old at x r new → at + mostText ≤ length old → r .filled ≡ at + length (x .text)

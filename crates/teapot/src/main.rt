@@ -18,7 +18,7 @@ use session::take_line;
 ghost use mathlib.Core.Path.{_≡_};
 ghost use Prim.Native.Nat.{_+_, _≤_, _<_};
 ghost use lib.ListN.{length};
-ghost use Rattle.session.specs.Session.{mostText};
+ghost use Rattle.replies.specs.Replies.{mostText};
 
 // The bytes collected before they are written out, and the room that is kept for the answer of one line: no answer is longer, which
 // `make_room` promises.

@@ -2,3 +2,4 @@
 pub mod Reports
 pub mod RollBack
 pub mod WrongReports
+pub mod Written

@@ -1,5 +1,6 @@
--- Issue 12, theorem 6: wrong reports, and the file that refutes them.
+-- Document 02, 2026-01: the report without the program's table, wrong reports refuted, and the months that show them.
 pub mod Reports
 pub mod Examples
 pub mod RollBack
 pub mod WrongReports
+pub mod Written

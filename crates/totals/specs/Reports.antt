@@ -1,4 +1,4 @@
--- A report of any make, and what it means that its lines say what they should: theorem 3 of it, on every file that is accepted.
+-- A report of any make, and what it means that its lines say what they should: `LinesSay` of it, on every file that is accepted.
 use Prim.Native.Nat.{ℕ, _<_}
 use mathlib.Core.Path.{_≡_}
 use mathlib.Core.List.{List}

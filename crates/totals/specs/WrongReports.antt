@@ -1,5 +1,5 @@
--- Issue 12, theorem 6: the buyer's present engine, which counts a tick for the profile last named by an accepted enable, and one that counts a tick
--- for the profile enabled after it. Each is the month's count with one thing changed, and neither meets theorem 3.
+-- Document 02, 2026-01: the buyer's present engine, which counts a tick for the profile last named by an accepted enable, and one that counts a tick
+-- for the profile enabled after it. Each is the month's count with one thing changed, and neither meets `MeetsLines`.
 use Prim.Native.Nat.{ℕ}
 use mathlib.Core.Path.{_≡_}
 use mathlib.Core.List.{List, [], _∷_}
@@ -14,7 +14,6 @@ use Rattle.manager.specs.Calls.{Call, asked}
 use Rattle.manager.specs.Manager.{step}
 use Rattle.demands.specs.Change.{taken, isTick}
 use Rattle.tally.specs.Lines.{lineOf, minuteOn}
-use Rattle.demands.specs.Examples.{aid}
 use Rattle.event_file.specs.File.{verdictOf}
 use Rattle.event_file.specs.declared.Verdict.the-variants.{Accepted}
 use Rattle.month.specs.Month.{Counted, atFirst, tallied, fileCounted}

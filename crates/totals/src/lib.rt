@@ -1,1 +1,2 @@
-// No code: reports that count otherwise than the month's, and the theorems that refute them. Statements stand in specs/, proofs in proofs/.
+// No code: what is written of a file, said without the program's table, and reports that count otherwise refuted. Statements stand in specs/, proofs
+// in proofs/.

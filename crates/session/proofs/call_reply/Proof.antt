@@ -6,7 +6,7 @@ use native.Mathlib.Omega.{arith}
 use denote.Ref.{now}
 use Rattle.byte_string.specs.Put.{put}
 use Rattle.byte_string.specs.declared.Part.{Part}
-use Rattle.session.specs.Session.{bytesOf, partIn, callIn, answerTo}
+use Rattle.replies.specs.Replies.{bytesOf, partIn, callIn, answerTo}
 use Rattle.session.proofs.Spelled.{word-fits, word-is, word-size, answer-is, response-left, response-is, response-size, response-fits, text-short, replied}
 use borrow.Author.Needs.{needs}
 use Rattle.session.proofs.call_reply.Statement.{statement}

@@ -4,7 +4,7 @@ use mathlib.Core.List.{[]}
 use borrow.Author.Tests.{not-true, not-false}
 use Rattle.status.specs.Rows.{wordOf}
 use Rattle.card.specs.Answers.{handed}
-use Rattle.session.specs.Session.{recordWork}
+use Rattle.replies.specs.Replies.{recordWork}
 use Rattle.card.proofs.Outcomes.{checked, stopped}
 use borrow.Author.Needs.{needs}
 use Rattle.session.proofs.hand_in.Statement.{statement}

@@ -6,7 +6,7 @@ use lib.ListN.{length}
 use Rattle.byte_string.specs.Put.{put}
 use Rattle.text.specs.Hex.{spelledIn}
 use Rattle.byte_string.specs.Bytes.{partOf}
-use Rattle.session.specs.Session.{mostBytes}
+use Rattle.replies.specs.Replies.{mostBytes}
 use borrow.Author.Needs.{needs}
 use Rattle.session.proofs.spell.Statement.{statement}
 use Rattle.session.proofs.spell.Tie as tie

@@ -1,5 +1,5 @@
 -- `reasons::put_reason`: the fault tells which text it is.
-use Rattle.session.specs.Reasons.{reasonText}
+use Rattle.replies.specs.Reasons.{reasonText}
 use borrow.Author.Needs.{needs}
 use Rattle.session.proofs.reasons.put_reason.Statement.{statement}
 use Rattle.session.proofs.reasons.put_reason.Tie as tie

@@ -9,7 +9,7 @@ use Rattle.records.specs.declared.arguments.Reason.{Reason}
 use Rattle.records.specs.declared.arguments.Reason.the-variants.{TooLong, UnknownWord, WordsMissing, TooManyWords, BadHex, BadNumber, BadPlace, BadPhase}
 use Rattle.profiles.specs.Letters.{text}
 use Rattle.profiles.proofs.Lengths.{decimal-length}
-use Rattle.session.specs.Reasons.{reasonText, reasonLine, mostFault}
+use Rattle.replies.specs.Reasons.{reasonText, reasonLine, mostFault}
 
 reason-length : (r : Reason) → length (reasonText r) ≤ 14
 unfolding reasonText

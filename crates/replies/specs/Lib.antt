@@ -1,0 +1,3 @@
+-- What a script is answered, line by line.
+pub mod Reasons
+pub mod Replies

@@ -1,0 +1,156 @@
+-- A session with a script: what a line makes of the card, and the text that answers it. "Each call writes SW RESPONSE NOTIFICATION
+-- TICKS"; with `explain` it writes for a person instead; a line that cannot be read is named, and the run stops there.
+use Prim.Native.Nat.{ℕ, suc, _+_, _*_}
+use mathlib.Core.Path.{_≡_}
+use mathlib.Core.List.{List, [], _∷_, _++_}
+use mathlib.Core.Bool.{Bool, true, false, cond, _&&_}
+use lib.ListN.{length}
+use Rattle.text.specs.Hex.{spelledIn}
+use Rattle.status.specs.StatusWords.{isDone}
+use Rattle.status.specs.declared.Status.the-variants.{Done}
+use Rattle.isdp.specs.Aids.{noAid}
+use Rattle.card.specs.Steps.{stepTo}
+use Rattle.card.specs.Answers.{Outcome, Work, handed, outcome}
+use Rattle.card.specs.Fresh.{zeroCard, freshOutcome}
+use Rattle.card.specs.declared.Card.{Card}
+use Rattle.card.specs.declared.Answer.{Answer}
+use Rattle.byte_string.specs.declared.Part.{Part}
+use Rattle.byte_string.specs.Bytes.{partOf}
+use Rattle.manager.specs.Calls.{Call, callOf}
+use Rattle.manager.specs.Manager.{step, onSound}
+use Rattle.manager.specs.declared.Call as declared
+use Rattle.manager.specs.declared.Call.the-variants as code
+use Rattle.script.specs.Orders.{orderOf}
+use Rattle.records.specs.Records.{onReading, recordAt}
+use Rattle.records.specs.declared.arguments.Reason.{Reason}
+use Rattle.script.specs.declared.Order.{Order}
+use Rattle.script.specs.declared.Order.the-variants as order
+use Rattle.answers.specs.Lines.{answerLine}
+use Rattle.answers.specs.Explained.{explainedText, mostExplained}
+use Rattle.replies.specs.Reasons.{reasonLine}
+
+-- a byte string of a line has at most so many bytes: two digits each, in a line of 4,096
+abbrev pub mostBytes : ℕ
+mostBytes = 2048
+
+-- the largest response buffer that a line may ask for
+abbrev pub mostRoom : ℕ
+mostRoom = 1024
+
+-- the bytes that a part of the line spells, once the line's order was read: its words are hex then
+abbrev pub bytesOf : List ℕ → Part → List ℕ
+bytesOf s p = spelledIn (partOf s p) mostBytes
+
+-- the part that a call names; two calls name none
+abbrev pub partIn : declared.Call → Part
+partIn (code.Command verdict bytes) = bytes
+partIn (code.Keyed aid) = aid
+partIn (code.Stored aid n) = aid
+partIn (code.Finished aid policy) = aid
+partIn code.Tick = record { start = 0; len = 0 }
+partIn code.Lost = record { start = 0; len = 0 }
+
+-- the same call over the first n bytes of a buffer
+abbrev pub laid : ℕ → declared.Call → declared.Call
+laid n (code.Command verdict bytes) = code.Command verdict (record { start = 0; len = n })
+laid n (code.Keyed aid) = code.Keyed (record { start = 0; len = n })
+laid n (code.Stored aid k) = code.Stored (record { start = 0; len = n }) k
+laid n (code.Finished aid policy) = code.Finished (record { start = 0; len = n }) policy
+laid n code.Tick = code.Tick
+laid n code.Lost = code.Lost
+
+-- the call that a line asks for: over the bytes that its word spells
+abbrev pub callIn : List ℕ → ℕ → declared.Call → Call
+callIn s room x = callOf (bytesOf s (partIn x)) room (laid (length (bytesOf s (partIn x))) x)
+
+-- `card` hands in any record: 6F 00 where it is not sound, else 90 00 and its ticks
+abbrev pub recordWork : Card → Work
+recordWork c = record { rows = []; success = Done; step = stepTo c c noAid; response = [] }
+
+abbrev pub recordOutcome : Card → Outcome
+recordOutcome c = outcome c (recordWork c)
+
+-- what a line comes to: the card and whether it is known to be sound, the text, whether the run goes on, and what is left at the front
+-- of the two buffers that are lent for a call's bytes and its response
+pub record Reply : Type 0 where
+  pub card : Card
+  pub sound : Bool
+  pub text : List ℕ
+  pub goes : Bool
+  pub bytes : List ℕ
+  pub response : List ℕ
+
+-- an answer on one line, or for a person
+abbrev pub answerText : Bool → Answer → List ℕ → List ℕ
+answerText explain a response = cond explain (explainedText a response) (answerLine a response)
+
+-- the reply of an outcome; `bytes` were spelled for it
+abbrev pub replyOf : Bool → Bool → List ℕ → Outcome → Reply
+replyOf explain found bytes o =
+    record {
+      card = o .card;
+      sound = found;
+      text = answerText explain (handed o) (o .response);
+      goes = true;
+      bytes = bytes;
+      response = o .response;
+    }
+
+-- of a call that hands in a card: sound exactly where it is accepted
+abbrev pub firstReply : Bool → Outcome → Reply
+firstReply explain o = replyOf explain (isDone (o .status)) [] o
+
+-- nothing is said, or a fault, and the card stays
+abbrev pub silentReply : Card → Bool → Reply
+silentReply c found = record { card = c; sound = found; text = []; goes = true; bytes = []; response = [] }
+
+abbrev pub faultReply : Card → Bool → ℕ → Reason → Reply
+faultReply c found n reason = record { card = c; sound = found; text = reasonLine n reason; goes = false; bytes = []; response = [] }
+
+-- what an order comes to where `answer` answers the calls on the card; `found` says whether the card is known to be sound
+abbrev pub replyBy : (Call → Outcome) → Card → Bool → Bool → ℕ → List ℕ → Order → Reply
+replyBy answer c found explain n s order.Nothing = silentReply c found
+replyBy answer c found explain n s (order.Fresh eid aid capacity quota used volatile) =
+    firstReply explain (freshOutcome (bytesOf s eid) (bytesOf s aid) capacity quota used volatile)
+replyBy answer c found explain n s (order.Call x room) = replyOf explain found (bytesOf s (partIn x)) (answer (callIn s room x))
+replyBy answer c found explain n s (order.Record at) =
+    onReading (recordAt s at .reading) (faultReply c found n) (firstReply explain (recordOutcome (recordAt s at .card)))
+replyBy answer c found explain n s (order.Wrong reason) = faultReply c found n reason
+
+-- a call on a card known to be sound, or on one that has to be asked
+abbrev pub answerTo : Bool → Card → Call → Outcome
+answerTo found c call = cond found (onSound c call) (step c call)
+
+-- line n of a script, on a card
+unfoldable pub lineOf : Card → Bool → Bool → ℕ → List ℕ → Reply
+lineOf c found explain n s = replyBy (answerTo found c) c found explain n s (orderOf s)
+
+-- what a script is answered, line by line from line n on; a line that cannot be read ends it. Before line n what is known of the
+-- card's soundness may be forgotten: `keep n` says whether it is kept.
+unfoldable pub scriptOf : (ℕ → Bool) → Card → Bool → Bool → ℕ → List (List ℕ) → List ℕ
+scriptOf keep c found explain n [] = []
+scriptOf keep c found explain n (s ∷ rest) =
+    lineOf c (keep n && found) explain n s .text
+    ++ cond (lineOf c (keep n && found) explain n s .goes)
+    (scriptOf keep (lineOf c (keep n && found) explain n s .card) (lineOf c (keep n && found) explain n s .sound) explain (suc n) rest)
+    []
+
+-- the same with nothing kept: the manager is asked at every call, and asks each time whether the card is sound
+unfoldable pub askedLine : Card → Bool → ℕ → List ℕ → Reply
+askedLine c explain n s = replyBy (step c) c false explain n s (orderOf s)
+
+unfoldable pub askedScript : Card → Bool → ℕ → List (List ℕ) → List ℕ
+askedScript c explain n [] = []
+askedScript c explain n (s ∷ rest) =
+    askedLine c explain n s .text
+    ++ cond (askedLine c explain n s .goes) (askedScript (askedLine c explain n s .card) explain (suc n) rest) []
+
+-- every script is answered as if soundness were asked at every call, wherever it is kept and wherever it is forgotten
+abbrev pub AskedOnce : Type 0
+AskedOnce =
+    (keep : ℕ → Bool) (explain : Bool) (lines : List (List ℕ)) →
+    scriptOf keep zeroCard false explain 1 lines ≡ askedScript zeroCard explain 1 lines
+
+-- no text of a line is longer: two digits for each byte of the largest response buffer, and what stands beside them
+abbrev pub mostText : ℕ
+mostText = mostRoom * 2 + mostExplained
