@@ -1,6 +1,6 @@
 -- docs/EVENTS.md, 'What is refused' and 'For a person who has to sign it': what is written of a refused file.
 use Prim.Native.Nat.{ℕ}
-use mathlib.Core.List.{List, [], _++_}
+use mathlib.Core.List.{List, _++_}
 use mathlib.Core.Bool.{Bool}
 use Rattle.choice.specs.Choice.{pick}
 use Rattle.profiles.specs.Letters.{text}

@@ -1,4 +1,5 @@
--- What is written of a file, whole: of a refused one the refusal alone, of any other the report of its month and nothing else.
+-- What is written of a file, whole: of a refused one the refusal alone, of any other the report of its month and nothing else. Both hold by the
+-- definition of `accountText`: they say how it is to be read.
 use Prim.Native.Nat.{ℕ}
 use mathlib.Core.Path.{_≡_}
 use mathlib.Core.List.{List}

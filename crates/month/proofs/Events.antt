@@ -8,7 +8,7 @@ use mathlib.Core.Bool.{Bool, true, false, not, cond}
 use lib.ListN.{length}
 use Rattle.status.specs.StatusWords.{isDone}
 use Rattle.card.specs.declared.Card.{Card}
-use Rattle.manager.specs.Calls.{Call, Call.Command, Call.Keyed, Call.Stored, Call.Finished, Call.Tick, Call.Lost}
+use Rattle.manager.specs.Calls.{Call}
 use Rattle.manager.specs.Manager.{step, answers}
 use Rattle.demands.specs.Change.{ticksAmong}
 use Rattle.month.specs.Month.{Counted, atFirst, counted, counting}

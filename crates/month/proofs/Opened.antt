@@ -1,14 +1,13 @@
 -- A file that was opened: refused, nothing is counted; accepted, it may be counted, and the count of its card and its events is the file's.
 -- By the verdict, which the opened file carries.
-use Prim.Native.Nat.{ℕ, _≤_, min}
-use mathlib.Core.Path.{_≡_, refl, ap, sym, _∙_, subst}
+use Prim.Native.Nat.{ℕ, _≤_}
+use mathlib.Core.Path.{_≡_, refl, ap, sym, _∙_}
 use mathlib.Core.List.{List}
-use lib.ListN.{length, take, drop, length-take, length-drop}
+use lib.ListN.{length, drop, length-take, length-drop}
 use native.Mathlib.Omega.{arith}
 use Rattle.byte_string.specs.Bytes.{partOf}
 use Rattle.byte_string.specs.declared.Part.{Part}
-use Rattle.card.specs.declared.Card.{Card}
-use Rattle.contents.specs.Contents.{mostFile, eventsKind}
+use Rattle.contents.specs.Contents.{eventsKind}
 use Rattle.events.specs.Events.{eventsOf, callsOf}
 use Rattle.event_file.specs.File.{bodyOf, verdictOf, openedBy, openedOf}
 use Rattle.event_file.specs.declared.Opened.{Opened}

@@ -3,7 +3,7 @@
 -- notification: without one the enabled profile is as it was, and with one it is the one that is named (demands: `calls-notify`).
 use Prim.Native.Nat.{ℕ, _+_, _≤_, _<_}
 use mathlib.Core.Path.{_≡_, refl, ap, sym, _∙_, subst}
-use mathlib.Core.List.{List, [], _∷_}
+use mathlib.Core.List.{List, []}
 use mathlib.Core.Bool.{Bool, true, false, cond}
 use lib.ListN.{length, drop, length-replicate}
 use native.Mathlib.Omega.{arith}
@@ -13,7 +13,7 @@ use Rattle.isdp.specs.declared.Isdp.{Isdp}
 use Rattle.places.specs.Places.{at}
 use Rattle.card.specs.Cards.{enabledPlace, enabledAid}
 use Rattle.card.specs.Sound.{sound}
-use Rattle.card.specs.Noticed.{JustOpened, Noticed, silently, told}
+use Rattle.card.specs.Noticed.{JustOpened, silently, told}
 use Rattle.card.specs.Notifications.{codeOf}
 use Rattle.card.specs.Answers.{Outcome, handed}
 use Rattle.card.specs.declared.Answer.{Answer}

@@ -1,6 +1,5 @@
 // A month counted: the events of a file run through the manager, a tick for the profile that was enabled before it (docs/EVENTS.md).
 // Soundness is made by fresh and kept by every call, so it is not asked at any event.
-
 use byte_string::part_of;
 use card::Card;
 use event_file::Verdict;

@@ -8,7 +8,7 @@ use lib.ListN.{length}
 use native.Mathlib.Omega.{arith}
 use borrow.Author.Needs.{needs}
 use Rattle.byte_string.proofs.PutLaws.{length-put}
-use Rattle.events.proofs.Turns.{right-first, next-event, none-left}
+use Rattle.events.proofs.Turns.{next-event, none-left}
 use Rattle.status.specs.StatusWords.{isDone}
 use Rattle.manager.specs.Calls.{callOf}
 use Rattle.demands.specs.Change.{isTick}
