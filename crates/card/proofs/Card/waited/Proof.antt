@@ -1,5 +1,4 @@
 -- `Card::waited`: the law of a phase that waits on.
-use mathlib.Core.Path.{_∙_}
 use Rattle.card.proofs.Waits.{waited-on}
 use borrow.Author.Needs.{needs}
 use Rattle.card.proofs.Card.waited.Statement.{statement}
