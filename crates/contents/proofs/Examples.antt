@@ -2,7 +2,8 @@
 use mathlib.Core.Path.{refl}
 use Rattle.contents.specs.Below.{someBelow, firstBelow, sumBelow}
 use Rattle.contents.specs.Contents.{contentsWrong, sectionOf}
-use Rattle.contents.specs.Examples.{entry, listing, three, ContentsExamples, LaidMet}
+use Rattle.contents.specs.Written.{entry, listing}
+use Rattle.contents.specs.Examples.{three, ContentsExamples, LaidMet}
 use Rattle.contents.proofs.Laid.{end-to-end}
 
 pub contents-examples : ContentsExamples

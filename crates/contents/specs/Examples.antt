@@ -7,14 +7,8 @@ use mathlib.Core.Bool.{true, false}
 use Rattle.byte_string.specs.Bytes.{fourBytes}
 use Rattle.contents.specs.Contents.{contentsWrong, sectionOf}
 use Rattle.contents.specs.Statements.{Laid}
+use Rattle.contents.specs.Written.{entry, listing}
 use Rattle.contents.specs.declared.Section.the-variants.{Body, Missing}
-
-abbrev pub entry : ℕ → ℕ → ℕ → List ℕ
-entry kind start len = fourBytes kind ++ fourBytes start ++ fourBytes len
-
--- two sections listed, and the bodies
-abbrev pub listing : List ℕ → List ℕ → List ℕ → List ℕ
-listing first second bodies = fourBytes 2 ++ first ++ second ++ bodies
 
 abbrev pub three : List ℕ
 three = 0xA1 ∷ 0xA2 ∷ 0xA3 ∷ []

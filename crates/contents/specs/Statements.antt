@@ -9,7 +9,7 @@ use lib.Dec.{leb, ltb}
 use Rattle.contents.specs.Below.{countBelow}
 use Rattle.contents.specs.Contents.{isKnown, sections, kindAt, startAt, stopAt, contentsEnd, contentsWrong}
 
--- does the place p of the file lie in the body of section i?
+-- the place p of the file lies in the body of section i
 abbrev pub holds : List ℕ → ℕ → ℕ → Bool
 holds s p i = leb (startAt s i) p && ltb p (stopAt s i)
 

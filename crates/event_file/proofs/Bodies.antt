@@ -14,7 +14,7 @@ use Rattle.events.proofs.Written.{bytes-drop}
 use Rattle.byte_string.specs.Bytes.{fourAt, fourBytes, partOf}
 use Rattle.byte_string.specs.declared.Part.{Part}
 use Rattle.contents.specs.Contents.{mostFile}
-use Rattle.contents.specs.Examples.{entry, listing}
+use Rattle.contents.specs.Written.{entry, listing}
 use Rattle.contents.proofs.TwoSections.{Lists, Chain, TwoSections, Accepted, two-accepted}
 use Rattle.event_file.specs.Grammar.{fileOf}
 

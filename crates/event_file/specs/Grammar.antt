@@ -9,7 +9,7 @@ use Rattle.byte_string.specs.Bytes.{fourBytes}
 use Rattle.status.specs.StatusWords.{isDone}
 use Rattle.tlv.specs.Encoding.{Bytes}
 use Rattle.contents.specs.Contents.{freshKind}
-use Rattle.contents.specs.Examples.{entry, listing}
+use Rattle.contents.specs.Written.{entry, listing}
 use Rattle.events.specs.Events.{Event}
 use Rattle.events.specs.Written.{encodeEvents, AllWritable}
 use Rattle.demands.specs.Inputs.{Inputs, freshOf}
@@ -22,7 +22,7 @@ abbrev pub encodeInputs : Inputs → List ℕ
 encodeInputs x =
     x .eid ++ (fourBytes (x .capacity) ++ (fourBytes (x .quota) ++ (fourBytes (x .used) ++ (fourBytes (x .volatile) ++ x .aid))))
 
--- the file of two bodies: are the inputs listed first, and are they laid first? The contents end at byte 28
+-- the file of two bodies: whether the inputs are listed first, and whether they are laid first; the contents end at byte 28
 abbrev pub fileOf : Bool → Bool → List ℕ → List ℕ → List ℕ
 fileOf true true f b = listing (entry 1 28 (length f)) (entry 2 (28 + length f) (length b)) (f ++ b)
 fileOf false true f b = listing (entry 2 (28 + length f) (length b)) (entry 1 28 (length f)) (f ++ b)

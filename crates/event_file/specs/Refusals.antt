@@ -8,7 +8,7 @@ use lib.ListN.{length, replicate}
 use Rattle.byte_string.specs.Bytes.{fourBytes, partOf}
 use Rattle.card.specs.Fresh.{zeroCard}
 use Rattle.card.specs.declared.Card.{Card}
-use Rattle.contents.specs.Examples.{entry}
+use Rattle.contents.specs.Written.{entry}
 use Rattle.events.specs.Events.{Event, eventsOf}
 use Rattle.event_file.specs.File.{Row, table, verdictOf, openedOf}
 use Rattle.event_file.specs.Grammar.{encodeInputs, fileOf, sample}
