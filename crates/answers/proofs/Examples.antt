@@ -22,7 +22,7 @@ use Rattle.card.specs.declared.Notification.{Notification}
 use Rattle.card.specs.declared.Phase.the-variants.{Trial}
 use Rattle.profiles.specs.Letters.{text}
 use Rattle.answers.specs.Lines.{issuedWord, noticeWord, answerLine}
-use Rattle.profiles.specs.Profiles.{spaces, leadOf, columnText, stateText, markText, policyText, nameCells, figureCells, rowText, placeText, rowsText, widestOf, headText, tableText}
+use Rattle.profiles.specs.Profiles.{spaces, leadOf, columnText, stateText, fallBackText, provisioningText, policyText, nameCells, figureCells, roleCells, rowText, placeText, rowsText, widestOf, headText, tableText}
 use Rattle.answers.specs.Explained.{meaningOf, wordText, responseText, kindText, issuedText, noticeText, openText, trialText, phaseText, explainedText}
 
 abbrev aid-01 : List ℕ
@@ -31,11 +31,12 @@ aid-01 = 0xA0 ∷ 0x00 ∷ 0x00 ∷ 0x00 ∷ 0x01 ∷ []
 abbrev aid-02 : List ℕ
 aid-02 = 0xA0 ∷ 0x00 ∷ 0x00 ∷ 0x00 ∷ 0x02 ∷ []
 
--- a card with the profile `aid-01` and, at place 2, the profile `aid-02`, which was enabled just now
+-- a card with the profile `aid-01`, which has the mark, and, at place 2, the profile `aid-02`, which was enabled just now; one of no sound
+-- card, with a mark of 0A, at place 3
 abbrev changed : Card
 changed =
     cardWith (replicate 16 0) 1048576 0 1 0 (Trial 0 10 1)
-    (made aid-01 disabled 65536 4096 ∷ vacant ∷ profile (named aid-02) enabled 2000 0 4 ∷ [])
+    (profile (named aid-01) disabled 65536 4096 0 1 ∷ vacant ∷ profile (named aid-02) enabled 2000 0 4 0 ∷ profile (named aid-02) enabled 2000 0 4 0x0A ∷ [])
 
 abbrev answered : Status → Card → Notification → ℕ → Answer
 answered word card notification ticks =
@@ -61,13 +62,14 @@ response-line = refl
 pub enabled-explained : explainedText (answered Done changed first-number 20) []
     ≡ text "90 00 done\n"
     ++ text "notification 1: changed, A000000002 enabled\n"
-    ++ text "  place  AID         state           quota     used  fall-back  policy\n"
-    ++ text "      0  A000000001  DISABLED        65536     4096  yes        none\n"
-    ++ text "      2  A000000002  ENABLED          2000        0             deleted once disabled\n"
+    ++ text "  place  AID         state           quota     used  fall-back  provisioning  policy\n"
+    ++ text "      0  A000000001  DISABLED        65536     4096  yes        yes           none\n"
+    ++ text "      2  A000000002  ENABLED          2000        0                           deleted once disabled\n"
+    ++ text "      3  A000000002  ENABLED          2000        0             0A            deleted once disabled\n"
     ++ text "phase trial: previous at place 0, ticks left 10, number 1\n"
     ++ text "ticks to come 20\n"
     ++ text "\n"
-unfolding explainedText wordText meaningOf responseText noticeText issuedText kindText tableText widestOf headText rowsText placeText rowText nameCells figureCells columnText leadOf spaces stateText markText policyText phaseText trialText openText hexText glyphOf digitsText pick isBelow isSame padded
+unfolding explainedText wordText meaningOf responseText noticeText issuedText kindText tableText widestOf headText rowsText placeText rowText nameCells figureCells roleCells columnText leadOf spaces stateText fallBackText provisioningText policyText phaseText trialText openText hexText glyphOf digitsText pick isBelow isSame padded
 enabled-explained = refl
 
 pub unsound-explained : explainedText (answered Unsound zeroCard silent 0) []

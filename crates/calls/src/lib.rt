@@ -8,6 +8,7 @@ use isdp::Isdp;
 use isdp::aid_ok;
 use isdp::forbids_deletion;
 use isdp::forbids_disabling;
+use isdp::mark_ok;
 use isdp::policy_ok;
 use places::Found;
 use status::Status;
@@ -142,8 +143,7 @@ pub fn set_fall_back(card: Card, aid: &[u8]) -> Answer
         return card.refused(Status::NotHeld);
     };
     let p = card.profile(t);
-    let may = (p.life == Isdp::DISABLED) | (p.life == Isdp::ENABLED);
-    if !may {
+    if !p.may_be_fall_back() {
         return card.refused(Status::StateWrong);
     }
     let after = card.with_fallback(t);
@@ -196,11 +196,11 @@ pub fn stored(card: Card, aid: &[u8], n: u32) -> Answer
         .answer(Status::Done, 0)
 }
 
-// PERSONALIZED to DISABLED, with its policy.
-pub fn finished(card: Card, aid: &[u8], policy: u8) -> Answer
-    ensures { λ r. ⌜ r ≡ handed (known card (innerWork card (now (aid .entry)) (finished policy))) ⌝ }
+// PERSONALIZED to DISABLED, with its policy and its mark.
+pub fn finished(card: Card, aid: &[u8], policy: u8, mark: u8) -> Answer
+    ensures { λ r. ⌜ r ≡ handed (known card (innerWork card (now (aid .entry)) (finished policy mark))) ⌝ }
 {
-    if !(aid_ok(aid) & policy_ok(policy)) {
+    if !(aid_ok(aid) & (policy_ok(policy) & mark_ok(mark))) {
         return card.refused(Status::DataWrong);
     }
     let Found::At(t) = card.place_of(aid) else {
@@ -211,7 +211,7 @@ pub fn finished(card: Card, aid: &[u8], policy: u8) -> Answer
     if !done {
         return card.refused(Status::StateWrong);
     }
-    let after = card.rewritten(t, p.finish(policy));
+    let after = card.rewritten(t, p.finish(policy, mark));
     after
         .step_since(card.last, Aid::none())
         .answer(Status::Done, 0)

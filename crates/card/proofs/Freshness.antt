@@ -14,7 +14,7 @@ use Rattle.status.proofs.Tables.{passed}
 use Rattle.isdp.specs.Sizes.{mostPlaces, eidSize, mostCapacity}
 use Rattle.isdp.specs.Aids.{aidOk, noAid}
 use Rattle.isdp.specs.LifeCycle.{enabled, isEnabled}
-use Rattle.isdp.specs.Place.{vacant, made, isFor, zeros, placeOk, clash}
+use Rattle.isdp.specs.Place.{vacant, isFor, zeros, placeOk, clash}
 use Rattle.isdp.specs.declared.Isdp.{Isdp}
 use Rattle.isdp.proofs.Bools.{and-l, and-r}
 use Rattle.isdp.proofs.Alike.{clash-none}
@@ -22,7 +22,7 @@ use Rattle.isdp.proofs.Placed.{made-ok}
 use Rattle.places.specs.Places.{quotas, allOf, anyOf, countOf, distinct}
 use Rattle.card.specs.Sound.{sound}
 use Rattle.card.specs.Steps.{stepTo}
-use Rattle.card.specs.Fresh.{zeroCard, freshCard, freshOk, freshOutcome}
+use Rattle.card.specs.Fresh.{zeroCard, freshProfile, freshCard, freshOk, freshOutcome}
 use Rattle.card.proofs.Sounds.{Sound, whole}
 use Rattle.card.proofs.Outcomes.{took, accepted-card}
 
@@ -46,11 +46,11 @@ distinct-two : (p : Isdp) (ps : List Isdp) → anyOf (clash p) ps ≡ false → 
 unfolding distinct
 distinct-two p ps e f = rw (e, f)
 
-one-on : (aid : List ℕ) (quota used : ℕ) → countOf isEnabled (made aid enabled quota used ∷ replicate (mostPlaces - 1) vacant) ≡ 1
+one-on : (aid : List ℕ) (quota used : ℕ) → countOf isEnabled (freshProfile aid quota used ∷ replicate (mostPlaces - 1) vacant) ≡ 1
 unfolding countOf
 one-on aid quota used = refl
 
-room-of : (aid : List ℕ) (quota used k : ℕ) → quota ≤ k → quotas (made aid enabled quota used ∷ replicate (mostPlaces - 1) vacant) ≤ k
+room-of : (aid : List ℕ) (quota used k : ℕ) → quota ≤ k → quotas (freshProfile aid quota used ∷ replicate (mostPlaces - 1) vacant) ≤ k
 unfolding quotas
 room-of aid quota used k h = omega arith
 
@@ -62,11 +62,11 @@ fresh-parts eid aid capacity quota used volatile f =
     let h2 = and-r (leb 1 capacity) _ h1 in
     let h3 = and-r (leb capacity mostCapacity) _ h2 in
     let h4 = and-r (leb 1 quota) _ h3 in
-    let p = made aid enabled quota used in
+    let p = freshProfile aid quota used in
     record {
       sizes = record { named = eqb-true (length eid) eidSize (and-l _ _ f); full = refl; numbered = omega arith; some = leb-true 1 capacity (and-l _ _ h1); most = leb-true capacity mostCapacity (and-l _ _ h2) };
       placed = record {
-        each = all-two (placeOk capacity) p (replicate (mostPlaces - 1) vacant) (made-ok aid enabled quota used a capacity refl (and-l _ _ h3) (and-l _ _ h4) (and-r (leb quota capacity) _ h4)) (rest-ok capacity);
+        each = all-two (placeOk capacity) p (replicate (mostPlaces - 1) vacant) (made-ok aid enabled quota used a capacity 1 refl refl (and-l _ _ h3) (and-l _ _ h4) (and-r (leb quota capacity) _ h4)) (rest-ok capacity);
         apart = distinct-two p (replicate (mostPlaces - 1) vacant) (rest-clash p) rest-apart;
         room = room-of aid quota used capacity (leb-true quota capacity (and-l _ _ h4));
       };

@@ -11,6 +11,7 @@ use lib.Seq.{getD-set-other}
 use lib.Dec.{eqb}
 use borrow.Author.Tests.{eqb-false, not-true}
 use Rattle.isdp.specs.LifeCycle.{disabled, isEnabled, isFinished}
+use Rattle.isdp.specs.Provisioning.{mayBeFallBack}
 use Rattle.isdp.specs.Policy.{onceDisabled}
 use Rattle.isdp.specs.Place.{vacant, placeOk}
 use Rattle.isdp.specs.declared.Isdp.{Isdp}
@@ -25,10 +26,10 @@ use Rattle.card.specs.Clock.{dropped, confirmIn, confirmOf}
 use Rattle.card.specs.declared.Card.{Card}
 use Rattle.card.specs.declared.Phase.{Phase}
 use Rattle.card.specs.declared.Phase.the-variants.{Quiet, Trial, Back, Fallen}
-use Rattle.card.proofs.Sounds.{Sound, Phased, parts, whole, choose, resized, rephased, nonzero}
+use Rattle.card.proofs.Sounds.{Sound, Phased, parts, whole, choose, resized, rephased, nonzero, resort-done}
 
 -- one place is set anew, with a phase that holds of the new card
-pub sets : (c : Card) (i : ℕ) (x : Isdp) (p : Phase) → Sound c → placeOk (c .capacity) x ≡ true → isEnabled x ≡ isEnabled (at (c .places) i) → distinct (set (c .places) i x) ≡ true → quotas (set (c .places) i x) ≤ c .capacity → isFinished (at (set (c .places) i x) (c .fallback) .life) ≡ true → Phased p (withChange c (c .last) p (set (c .places) i x)) → Sound (withChange c (c .last) p (set (c .places) i x))
+pub sets : (c : Card) (i : ℕ) (x : Isdp) (p : Phase) → Sound c → placeOk (c .capacity) x ≡ true → isEnabled x ≡ isEnabled (at (c .places) i) → distinct (set (c .places) i x) ≡ true → quotas (set (c .places) i x) ≤ c .capacity → mayBeFallBack (at (set (c .places) i x) (c .fallback)) ≡ true → Phased p (withChange c (c .last) p (set (c .places) i x)) → Sound (withChange c (c .last) p (set (c .places) i x))
 sets c i x p s o v d q f h =
     record {
       sizes = resized c (c .last) p (set (c .places) i x) (s .sizes) (s .sizes .numbered) (length-set (c .places) i x);
@@ -56,13 +57,13 @@ module _ (c : Card) (i : ℕ) (x : Isdp) (s : Sound c) (n : at (c .places) i .li
   phase-kept Quiet h = tt
   phase-kept (Trial r l m) h = (h .0, rw (other r (rw (h .1))) (h .1))
   phase-kept (Back l m) h = h
-  phase-kept (Fallen l m) h = (h .0, rw (other (c .fallback) (s .roles .resort)) (h .1))
+  phase-kept (Fallen l m) h = (h .0, rw (other (c .fallback) (resort-done c s)) (h .1))
 
   pub rewrites : Sound (rewritten c i x)
   rewrites =
       sets c i x (c .phase) s o (v ∙ sym off-before) (set-alike x (c .places) i a ∙ s .placed .apart)
       (let r = set-quotas x (c .places) i (within (c .places) i n) in let w = s .placed .room in omega arith)
-      (rw (other (c .fallback) (s .roles .resort)) (s .roles .resort))
+      (rw (other (c .fallback) (resort-done c s)) (s .roles .resort))
       (phase-kept (c .phase) (s .phased))
 
 -- deletion of a DISABLED profile that is not the fall-back, where no change is open
@@ -75,8 +76,8 @@ deletes c i s o h n =
     (rw (getD-set-other l i (c .fallback) vacant vacant (λ q. eqb-false i (c .fallback) n (sym q))) (s .roles .resort))
     (rw o tt)
 
--- another fall-back that is DISABLED or ENABLED, where no change is open
-pub refalls : (c : Card) (i : ℕ) → Sound c → c .phase ≡ Quiet → isFinished (at (c .places) i .life) ≡ true → Sound (withFallback c i)
+-- another profile that may be the fall-back, where no change is open
+pub refalls : (c : Card) (i : ℕ) → Sound c → c .phase ≡ Quiet → mayBeFallBack (at (c .places) i) ≡ true → Sound (withFallback c i)
 refalls c i s o d =
     let z = s .sizes in
     let p = s .placed in

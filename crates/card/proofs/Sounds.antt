@@ -10,13 +10,14 @@ use lib.Dec.{ltb, leb, eqb}
 use borrow.Author.Tests.{eq-eqb, ne-eqb, eqb-true, eqb-false, le-leb, leb-true, ltb-true}
 use Rattle.isdp.specs.Sizes.{mostPlaces, eidSize, mostCapacity, wait, lastNumber}
 use Rattle.isdp.specs.LifeCycle.{disabled, enabled, isEnabled, isFinished}
+use Rattle.isdp.specs.Provisioning.{mayBeFallBack}
 use Rattle.isdp.specs.Place.{placeOk}
 use Rattle.isdp.specs.declared.Isdp.{Isdp}
 use Rattle.isdp.proofs.Bools.{and-l, and-r, both}
 use Rattle.places.specs.Places.{at, quotas, allOf, countOf, distinct, enableAt}
-use Rattle.places.proofs.Lives.{enable-lives, lives-length, lives-quotas, lives-distinct, enable-one, enable-at, enable-ok, enable-done, within}
+use Rattle.places.proofs.Lives.{enable-lives, lives-length, lives-quotas, lives-distinct, enable-one, enable-at, enable-ok, enable-resort, within}
 use Rattle.card.specs.Cards.{isQuiet, onFallback, withChange, withPhase}
-use Rattle.card.specs.Sound.{sized, sizesOk, placesOk, rolesOk, openOk, phaseIn, phaseOk, sound}
+use Rattle.card.specs.Sound.{sized, sizesOk, placesOk, rolesOk, openOk, phaseIn, phaseOk, sound, FallBackMarked}
 use Rattle.card.specs.Clock.{nextOf, moved, tickIn, tickOf, lostOf}
 use Rattle.card.specs.declared.Card.{Card}
 use Rattle.card.specs.declared.Phase.{Phase}
@@ -50,7 +51,7 @@ pub record Places (c : Card) : Type 0 where
 
 pub record Roles (c : Card) : Type 0 where
   pub one : countOf isEnabled (c .places) ≡ 1
-  pub resort : isFinished (at (c .places) (c .fallback) .life) ≡ true
+  pub resort : mayBeFallBack (at (c .places) (c .fallback)) ≡ true
 
 pub record Sound (c : Card) : Type 0 where
   pub sizes : Sizes c
@@ -160,7 +161,7 @@ moves c i p s n h =
     record {
       sizes = resized c (nextOf (c .last)) p (enableAt (c .places) i) (s .sizes) (next-small (c .last) (s .sizes .numbered)) (lives-length r);
       placed = record { each = enable-ok (c .capacity) (c .places) i (ne-eqb _ _ n) (z .each); apart = lives-distinct r ∙ z .apart; room = rw (lives-quotas r) (z .room) };
-      roles = record { one = enable-one (c .places) i k; resort = enable-done (c .places) i (c .fallback) k (s .roles .resort) };
+      roles = record { one = enable-one (c .places) i k; resort = enable-resort (c .places) i (c .fallback) k (s .roles .resort) };
       phased = h;
     }
 
@@ -178,13 +179,23 @@ less l n m h o = let k = ltb-true 1 l h in record { low = omega arith; high = le
 pub nonzero : (v w : ℕ) → v ≡ suc w → v ≡ 0 → ⊥
 nonzero v w e z = omega arith
 
-pub done-nonzero : (v : ℕ) → isFinished v ≡ true → v ≡ 0 → ⊥
+done-nonzero : (v : ℕ) → isFinished v ≡ true → v ≡ 0 → ⊥
 done-nonzero v d z = false≢true (rw z at d)
+
+-- the fall-back is DISABLED or ENABLED and has the mark; so it has a life cycle
+pub resort-done : (c : Card) → Sound c → isFinished (at (c .places) (c .fallback) .life) ≡ true
+resort-done c s = and-l _ _ (s .roles .resort)
+
+pub fall-back-marked : FallBackMarked
+fall-back-marked c e = eqb-true _ _ (and-r (isFinished (at (c .places) (c .fallback) .life)) _ (parts c e .roles .resort))
+
+pub resort-nonzero : (c : Card) → Sound c → at (c .places) (c .fallback) .life ≡ 0 → ⊥
+resort-nonzero c s = done-nonzero (at (c .places) (c .fallback) .life) (resort-done c s)
 
 -- the fall-back is enabled
 pub falls : (c : Card) → Sound c → Sound (moved c (c .fallback) (Fallen wait (nextOf (c .last))))
 falls c s =
-    let n = done-nonzero (at (c .places) (c .fallback) .life) (s .roles .resort) in
+    let n = resort-nonzero c s in
     moves c (c .fallback) (Fallen wait (nextOf (c .last))) s n
     (fresh (nextOf (c .last)), enable-at (c .places) (c .fallback) (within (c .places) (c .fallback) n))
 

@@ -1,5 +1,5 @@
--- Document 01, 'The card': "A fresh card has one profile, ENABLED and fall-back, empty policy, Quiet, last number 0."
--- "Inputs that break the sizes, or used over quota, give 6A 80 and a record of zeros in Quiet".
+-- Document 01, 'The card': "A fresh card has one profile, ENABLED and fall-back, empty policy, Quiet, last number 0." Its mark: request 2026-02,
+-- "the fresh profile has it". "Inputs that break the sizes, or used over quota, give 6A 80 and a record of zeros in Quiet".
 use Prim.Native.Nat.{ℕ, _-_}
 use mathlib.Core.List.{List, [], _∷_}
 use mathlib.Core.Bool.{Bool, not, _&&_}
@@ -9,8 +9,9 @@ use Rattle.status.specs.Rows.{row, wordOf}
 use Rattle.status.specs.declared.Status.the-variants.{DataWrong, Done}
 use Rattle.isdp.specs.Sizes.{mostPlaces, eidSize, mostCapacity}
 use Rattle.isdp.specs.Aids.{aidOk, noAid}
-use Rattle.isdp.specs.LifeCycle.{enabled}
+use Rattle.isdp.specs.LifeCycle.{enabled, withMark}
 use Rattle.isdp.specs.Place.{vacant, made}
+use Rattle.isdp.specs.declared.Isdp.{Isdp}
 use Rattle.card.specs.Cards.{cardWith}
 use Rattle.card.specs.Steps.{stepTo}
 use Rattle.card.specs.Answers.{Outcome, settle}
@@ -21,9 +22,13 @@ use Rattle.card.specs.declared.Phase.the-variants.{Quiet}
 abbrev pub zeroCard : Card
 zeroCard = cardWith (replicate eidSize 0) 0 0 0 0 Quiet (replicate mostPlaces vacant)
 
+-- the one profile of a fresh card
+abbrev pub freshProfile : List ℕ → ℕ → ℕ → Isdp
+freshProfile aid quota used = withMark (made aid enabled quota used) 1
+
 abbrev pub freshCard : List ℕ → List ℕ → ℕ → ℕ → ℕ → ℕ → Card
 freshCard eid aid capacity quota used volatile =
-    cardWith eid capacity volatile 0 0 Quiet (made aid enabled quota used ∷ replicate (mostPlaces - 1) vacant)
+    cardWith eid capacity volatile 0 0 Quiet (freshProfile aid quota used ∷ replicate (mostPlaces - 1) vacant)
 
 abbrev pub freshOk : List ℕ → List ℕ → ℕ → ℕ → ℕ → Bool
 freshOk eid aid capacity quota used =

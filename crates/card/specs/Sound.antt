@@ -1,10 +1,12 @@
 -- Document 01, 'The card': "A sound card keeps the sizes, codings and rules above, ..", clause by clause.
 use Prim.Native.Nat.{ℕ}
+use mathlib.Core.Path.{_≡_}
 use mathlib.Core.Bool.{Bool, true, _&&_}
 use lib.ListN.{length}
 use lib.Dec.{leb, eqb}
 use Rattle.isdp.specs.Sizes.{mostPlaces, eidSize, mostCapacity, wait, lastNumber}
-use Rattle.isdp.specs.LifeCycle.{disabled, enabled, isEnabled, isFinished}
+use Rattle.isdp.specs.LifeCycle.{disabled, enabled, isEnabled}
+use Rattle.isdp.specs.Provisioning.{mayBeFallBack}
 use Rattle.isdp.specs.Place.{placeOk}
 use Rattle.places.specs.Places.{at, quotas, allOf, countOf, distinct}
 use Rattle.card.specs.declared.Card.{Card}
@@ -25,10 +27,10 @@ placesOk c =
     allOf (placeOk (c .capacity)) (c .places)
     && (distinct (c .places) && leb (quotas (c .places)) (c .capacity))
 
--- roles: one profile ENABLED, the fall-back DISABLED or ENABLED
+-- roles: one profile ENABLED, the fall-back DISABLED or ENABLED; request 2026-02: "a sound card's fall-back has it", the mark
 abbrev pub rolesOk : Card → Bool
 rolesOk c =
-    eqb (countOf isEnabled (c .places)) 1 && isFinished (at (c .places) (c .fallback) .life)
+    eqb (countOf isEnabled (c .places)) 1 && mayBeFallBack (at (c .places) (c .fallback))
 
 -- "ticks left 1 to 10 in an open phase", which "holds its one outstanding notification number, the last one issued"
 abbrev pub openOk : ℕ → ℕ → ℕ → Bool
@@ -49,3 +51,7 @@ phaseOk c = phaseIn (c .phase) c
 -- four groups; a new clause goes into one of them
 unfoldable pub sound : Card → Bool
 sound c = sizesOk c && (placesOk c && (rolesOk c && phaseOk c))
+
+-- "a sound card's fall-back has it"
+abbrev pub FallBackMarked : Type 0
+FallBackMarked = (c : Card) → sound c ≡ true → at (c .places) (c .fallback) .mark ≡ 1

@@ -43,7 +43,7 @@ impl Card {
         let bytes = pad(eid);
         let none = Isdp::none();
         let mut places = [none; Card::PLACES];
-        places[0] = Isdp::made(aid, Isdp::ENABLED, quota, used);
+        places[0] = Isdp::made(aid, Isdp::ENABLED, quota, used).with_mark(1);
         Card::with(bytes, capacity, volatile, 0, 0, Phase::Quiet, places)
     }
 

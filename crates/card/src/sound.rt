@@ -33,8 +33,7 @@ impl Card {
     {
         let places = self.places;
         let p = self.profile(self.fallback);
-        (places::count_enabled(places) == 1)
-            & ((p.life == Isdp::DISABLED) | (p.life == Isdp::ENABLED))
+        (places::count_enabled(places) == 1) & p.may_be_fall_back()
     }
 
     fn phase_ok(self) -> bool

@@ -48,7 +48,7 @@ sparesAct a aid setFallBack = true
 sparesAct a aid (status life fallback) = true
 sparesAct a aid keyed = true
 sparesAct a aid (stored n) = not (sameBytes aid a)
-sparesAct a aid (finished policy) = not (sameBytes aid a)
+sparesAct a aid (finished policy mark) = not (sameBytes aid a)
 
 abbrev pub spares : List ℕ → Asked → Bool
 spares a unread = true
@@ -101,7 +101,7 @@ module _ (a : List ℕ) (i u : ℕ) (c : Card) (b : isFor a (at (c .places) i) �
   act-rows aid (status life fallback) n = rw (profile aid)
   act-rows aid keyed n = rw (profile aid)
   act-rows aid (stored m) n = rw (profile-other aid n)
-  act-rows aid (finished policy) n = rw (profile-other aid n)
+  act-rows aid (finished policy mark) n = rw (profile-other aid n)
 
   pub rows-near : (x : Asked) → spares a x ≡ true → cardRows (reuseAt i u c) x ≡ cardRows c x
   rows-near unread n = refl
@@ -162,7 +162,7 @@ module _ (a : List ℕ) (i u : ℕ) (c : Card) (b : isFor a (at (c .places) i) �
   act-near aid (status life fallback) n = apart u refl b
   act-near aid keyed n = rw (place-reuse i u c aid) (alive-case (placeOf c aid) personalized (eqb (placeOf c aid) i) refl)
   act-near aid (stored m) n = rw (profile-other aid n, place-reuse i u c aid) (other-near (placeOf c aid) _ (c .phase) (elsewhere aid n))
-  act-near aid (finished policy) n = rw (profile-other aid n, place-reuse i u c aid) (other-near (placeOf c aid) _ (c .phase) (elsewhere aid n))
+  act-near aid (finished policy mark) n = rw (profile-other aid n, place-reuse i u c aid) (other-near (placeOf c aid) _ (c .phase) (elsewhere aid n))
 
   pub card-near : (x : Asked) → spares a x ≡ true → Near a i (stepOf c x .card) (stepOf (reuseAt i u c) x .card)
   unfolding tickStep lostStep confirmStep confirmOf
@@ -191,7 +191,7 @@ module _ (a : List ℕ) (i u : ℕ) (c : Card) (b : isFor a (at (c .places) i) �
   act-response aid (status life fallback) = rw (place-reuse i u c aid) (one-reuse i u c (placeOf c aid) life fallback)
   act-response aid keyed = refl
   act-response aid (stored n) = refl
-  act-response aid (finished policy) = refl
+  act-response aid (finished policy mark) = refl
 
   pub response-near : (x : Asked) → responseOf (reuseAt i u c) x ≡ responseOf c x
   unfolding confirmStep
@@ -214,7 +214,7 @@ act-notice c aid setFallBack = refl
 act-notice c aid (status life fallback) = refl
 act-notice c aid keyed = refl
 act-notice c aid (stored n) = refl
-act-notice c aid (finished policy) = refl
+act-notice c aid (finished policy mark) = refl
 
 pub step-notice : (c : Card) (x : Asked) → stepOf c x .notification ≡ noticeSince (c .last) (stepOf c x .card)
 unfolding tickStep lostStep confirmStep

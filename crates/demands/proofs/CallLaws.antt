@@ -44,9 +44,9 @@ module _ (c : Card) where
   unfolding step wordOf
   stored-works aid n = refl
 
-  finished-works : (aid : List ℕ) (policy : ℕ) → outcome c (innerWork c aid (finished policy)) ≡ step c (Finished aid policy)
+  finished-works : (aid : List ℕ) (policy mark : ℕ) → outcome c (innerWork c aid (finished policy mark)) ≡ step c (Finished aid policy mark)
   unfolding step wordOf
-  finished-works aid policy = refl
+  finished-works aid policy mark = refl
 
   tick-works : outcome c (askedWork c tick) ≡ step c Tick
   unfolding step wordOf
@@ -71,7 +71,7 @@ every-call =
       get-data = lifted field.getData (λ c verdict. GetDataAnswers c) (λ c verdict. call-laws .get-data c);
       keyed = λ aid c e. subst (KeyedAnswers c aid) (keyed-works c aid) (call-laws .keyed c aid e);
       stored = λ aid n c e. subst (StoredAnswers c aid n) (stored-works c aid n) (call-laws .stored c aid n e);
-      finished = λ aid policy c e. subst (FinishedAnswers c aid policy) (finished-works c aid policy) (call-laws .finished c aid policy e);
+      finished = λ aid policy mark c e. subst (FinishedAnswers c aid policy mark) (finished-works c aid policy mark) (call-laws .finished c aid policy mark e);
       tick = λ c e. subst (TickAnswers c) (tick-works c) (call-laws .tick c e);
       lost = λ c e. subst (LostAnswers c) (lost-works c) (call-laws .lost c e);
     }

@@ -18,7 +18,7 @@ use Rattle.card.specs.Clock.{nextOf, tickIn, tickOf}
 use Rattle.card.specs.declared.Card.{Card}
 use Rattle.card.specs.declared.Phase.{Phase}
 use Rattle.card.specs.declared.Phase.the-variants.{Quiet, Trial, Back, Fallen}
-use Rattle.card.proofs.Sounds.{Phased, Sound, parts, choose, tick-sound, nonzero, done-nonzero}
+use Rattle.card.proofs.Sounds.{Phased, Sound, parts, choose, tick-sound, nonzero, resort-nonzero}
 use Rattle.steps.proofs.Opens.{only}
 use Rattle.manager.specs.Calls.{Call, Call.Command, Call.Keyed, Call.Stored, Call.Finished, Call.Tick, Call.Lost, asked}
 use Rattle.manager.specs.Manager.{step, run}
@@ -75,7 +75,7 @@ module _ (g p f : ℕ) where
       choose (Ticked g p f (suc k)) (onFallback c) _ _
       (λ e. ends refl (rw b at e) (rw (eq-eqb p f (only (c .places) p (c .fallback) (s .roles .one) v e ∙ b)) (omega arith)))
       (λ e. goes (fallen wait (nextOf (c .last)) (ne-eqb p f (λ q. false≢true (sym e ∙ ap (λ (i : ℕ). isEnabled (at (c .places) i)) (b ∙ sym q) ∙ v))) refl (omega arith)
-      (rw (← b) (eq-eqb _ _ (enable-at (c .places) (c .fallback) (within (c .places) (c .fallback) (done-nonzero _ (s .roles .resort))))))))))
+      (rw (← b) (eq-eqb _ _ (enable-at (c .places) (c .fallback) (within (c .places) (c .fallback) (resort-nonzero c s)))))))))
 
   from-fallen : (k : ℕ) (c : Card) (l n : ℕ) → eqb p f ≡ false → Sound c → c .phase ≡ Fallen l n → l + k ≡ 30 → Holds c f → Ticked g p f (suc k) (tickOf c)
   unfolding tickOf
@@ -167,7 +167,7 @@ module _ (g p f : ℕ) where
   led k c (Command verdict s room) w = led-other k c (Command verdict s room) refl _ refl w
   led k c (Keyed aid) w = led-other k c (Keyed aid) refl _ refl w
   led k c (Stored aid n) w = led-other k c (Stored aid n) refl _ refl w
-  led k c (Finished aid policy) w = led-other k c (Finished aid policy) refl _ refl w
+  led k c (Finished aid policy mark) w = led-other k c (Finished aid policy mark) refl _ refl w
   led k c Tick w = led-tick k c w
   led k c Lost w = led-other k c Lost refl _ refl w
 

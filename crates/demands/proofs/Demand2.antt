@@ -19,7 +19,7 @@ use Rattle.card.specs.Notifications.{noticeSince}
 use Rattle.card.specs.Answers.{refused, accepted}
 use Rattle.card.specs.Fresh.{freshOutcome}
 use Rattle.card.specs.declared.Card.{Card}
-use Rattle.card.proofs.Sounds.{parts, done-nonzero}
+use Rattle.card.proofs.Sounds.{parts, resort-done, fall-back-marked, resort-nonzero}
 use Rattle.card.proofs.Freshness.{fresh-sound}
 use Rattle.manager.specs.Table.{table}
 use Rattle.manager.specs.Manager.{step, run, answers, work}
@@ -86,14 +86,15 @@ makes eid aid capacity quota used volatile e = fresh-sound eid aid capacity quot
 pub standing : (c : Card) → sound c ≡ true → Standing c
 standing c s =
     let w = parts c s in
-    let n = done-nonzero (at (c .places) (c .fallback) .life) (w .roles .resort) in
+    let n = resort-nonzero c w in
     let k = within (c .places) (c .fallback) n in
     record {
       still-sound = s;
       one-enabled = w .roles .one;
       one-fallback = k;
       fallback-held = placed (c .capacity) (at (c .places) (c .fallback)) (ne-eqb _ _ n) (all-at (placeOk (c .capacity)) (c .places) (c .fallback) k (w .placed .each)) .there;
-      fallback-finished = w .roles .resort;
+      fallback-finished = resort-done c w;
+      fallback-marked = fall-back-marked c s;
     }
 
 pub from-fresh : FromFresh

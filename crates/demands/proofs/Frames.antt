@@ -89,7 +89,7 @@ act-same c aid keyed o p =
     rewritten-same c (placeOf c aid) _ (rw (eqb-true (profileOf c aid .life) selectable (not-false _ (p .state)))) refl
 act-same c aid (stored n) o p =
     rewritten-same c (placeOf c aid) _ refl refl
-act-same c aid (finished policy) o p =
+act-same c aid (finished policy mark) o p =
     rewritten-same c (placeOf c aid) _ (rw (eqb-true (profileOf c aid .life) personalized (and-l (eqb (profileOf c aid .life) personalized) _ (not-false _ (p .state))))) refl
 
 asked-same : (c : Card) (a : Asked) → isQuiet (c .phase) ≡ false → isTicking a ≡ false → isConfirmation a ≡ false → Passed c a → Unmoved c (stepOf c a .card)
@@ -124,7 +124,7 @@ only-tick : (c : Card) (call : Call) → isTick call ≡ false → isTicking (as
 only-tick c (Command verdict s room) e = field-ticks verdict s (fieldOf s (c .capacity))
 only-tick c (Keyed aid) e = refl
 only-tick c (Stored aid n) e = refl
-only-tick c (Finished aid policy) e = refl
+only-tick c (Finished aid policy mark) e = refl
 only-tick c Tick e = absurd (false≢true (sym e))
 only-tick c Lost e = refl
 

@@ -77,7 +77,7 @@ module _ (c : Card) where
   act-capacity aid (status life fallback) = refl
   act-capacity aid keyed = refl
   act-capacity aid (stored n) = refl
-  act-capacity aid (finished policy) = refl
+  act-capacity aid (finished policy mark) = refl
 
   asks-capacity : (a : Asked) → As (stepOf c a .card)
   unfolding tickStep lostStep confirmStep tickOf lostOf confirmOf
@@ -107,7 +107,7 @@ module _ (c : Card) (s : Sound c) (ms : List Made) (t : Tally ms (c .places)) wh
   act-tally aid (status life fallback) h = t
   act-tally aid keyed h = alike-tally ms _ (c .places) (placeOf c aid) refl refl t
   act-tally aid (stored n) h = alike-tally ms _ (c .places) (placeOf c aid) refl refl t
-  act-tally aid (finished policy) h = alike-tally ms _ (c .places) (placeOf c aid) refl refl t
+  act-tally aid (finished policy mark) h = alike-tally ms _ (c .places) (placeOf c aid) refl refl t
 
   -- the response to a confirmation names the profile that it deletes
   gone-named : (p : Isdp) → held p ≡ true → afterConfirm (deletedResponse (p .aid)) ms ≡ without (aidOf p) ms

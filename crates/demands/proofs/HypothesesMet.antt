@@ -14,10 +14,11 @@ use Rattle.status.specs.Rows.{wordOf}
 use Rattle.status.specs.declared.Status.the-variants.{Done}
 use Rattle.isdp.specs.Sizes.{mostPlaces, eidSize}
 use Rattle.isdp.specs.Aids.{padded}
-use Rattle.isdp.specs.LifeCycle.{disabled, enabled}
+use Rattle.isdp.specs.LifeCycle.{disabled, enabled, withMark}
 use Rattle.isdp.specs.Place.{vacant, made, isFor, clash, zeros, placeOk}
 use Rattle.isdp.proofs.Bools.{and-l, and-r}
 use Rattle.places.specs.Places.{quotas, allOf, anyOf, countOf, distinct, allOff, enableAt}
+use Rattle.card.specs.Cards.{cardWith}
 use Rattle.card.specs.Sound.{phaseOk, sound}
 use Rattle.card.specs.Clock.{tickOf}
 use Rattle.card.specs.Ticks.{stepsIn, ticksToCome}
@@ -89,15 +90,8 @@ demand-2-met =
 -- F enabled and on trial, the profile before it not the fall-back
 abbrev trial : Card
 trial =
-    record {
-      eid = eid;
-      capacity = 1000;
-      volatile = 0;
-      last = 1;
-      fallback = 0;
-      phase = Trial 1 10 1;
-      places = made (aidEnding 1) enabled 100 0 ∷ made (aidEnding 2) disabled 100 1 ∷ replicate (mostPlaces - 2) vacant;
-    }
+    cardWith eid 1000 0 1 0 (Trial 1 10 1)
+    (withMark (made (aidEnding 1) enabled 100 0) 1 ∷ made (aidEnding 2) disabled 100 1 ∷ replicate (mostPlaces - 2) vacant)
 
 pub ticks-met : TicksMet
 unfolding step wordOf accepted tickStep tickOf ticksToCome stepsIn enableAt allOff sound phaseOk allOf placeOk zeros padded distinct anyOf clash isFor countOf quotas sameBytes

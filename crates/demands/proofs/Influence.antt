@@ -62,7 +62,7 @@ call-spares : (a : List ℕ) (c : Card) (call : Call) → not (fills a call) ≡
 call-spares a c (Command verdict s room) n = field-spares a verdict s (fieldOf s (c .capacity))
 call-spares a c (Keyed aid) n = refl
 call-spares a c (Stored aid m) n = n
-call-spares a c (Finished aid policy) n = n
+call-spares a c (Finished aid policy mark) n = n
 call-spares a c Tick n = refl
 call-spares a c Lost n = refl
 
@@ -71,7 +71,7 @@ asked-same : (i u : ℕ) (c : Card) (call : Call) → asked (reuseAt i u c) call
 asked-same i u c (Command verdict s room) = refl
 asked-same i u c (Keyed aid) = refl
 asked-same i u c (Stored aid n) = refl
-asked-same i u c (Finished aid policy) = refl
+asked-same i u c (Finished aid policy mark) = refl
 asked-same i u c Tick = refl
 asked-same i u c Lost = refl
 
@@ -79,7 +79,7 @@ values-same : (i u : ℕ) (c : Card) (call : Call) → valuesWrong (reuseAt i u 
 values-same i u c (Command verdict s room) = refl
 values-same i u c (Keyed aid) = refl
 values-same i u c (Stored aid n) = refl
-values-same i u c (Finished aid policy) = refl
+values-same i u c (Finished aid policy mark) = refl
 values-same i u c Tick = refl
 values-same i u c Lost = refl
 

@@ -50,7 +50,7 @@ step-named : (c : Card) (call : Call) → sound c ≡ true → isQuiet (c .phase
 step-named c (Command verdict s room) k o e = other-named c (Command verdict s room) k o refl e
 step-named c (Keyed aid) k o e = other-named c (Keyed aid) k o refl e
 step-named c (Stored aid n) k o e = other-named c (Stored aid n) k o refl e
-step-named c (Finished aid policy) k o e = other-named c (Finished aid policy) k o refl e
+step-named c (Finished aid policy mark) k o e = other-named c (Finished aid policy mark) k o refl e
 step-named c Tick k o e = rw (tick-step c k) (tick-named c)
 step-named c Lost k o e = other-named c Lost k o refl e
 

@@ -86,7 +86,7 @@ module _ (c : Card) (s : sound c ≡ true) where
   acts aid (stored n) p =
       let e = other-life (placeOf c aid) personalized refl (eqb-true _ _ (not-false _ (p .state))) in
       rewrites (placeOf c aid) _ e e
-  acts aid (finished policy) p =
+  acts aid (finished policy mark) p =
       rewrites (placeOf c aid) _ refl (other-life (placeOf c aid) personalized refl (eqb-true _ _ (and-l (eqb (profileOf c aid .life) personalized) _ (not-false _ (p .state)))))
 
   asks : (a : Asked) → Passed c a → Noticed c (stepOf c a)

@@ -1,4 +1,4 @@
--- A step touches AID, quota, used and policy of no other profile. Tick, lost, enable and disable change life cycles alone; every
+-- A step touches AID, quota, used, policy and mark of no other profile. Tick, lost, enable and disable change life cycles alone; every
 -- other step sets one place: the target's, a free one, or at confirmation the previous one. Assumes nothing.
 use mathlib.Core.Path.{_≡_, refl, ap, sym, _∙_}
 use Prim.Native.Nat.{ℕ, zero, suc, _<_}
@@ -68,7 +68,7 @@ pub free-other : (l : List Isdp) (i : ℕ) → held (at l i) ≡ true → seek i
 free-other l i h = not-found isFree l i (held-within l i h) (rw h)
 
 same : (p : Isdp) → AsItWas p p
-same p = record { aid = refl; quota = refl; used = refl; policy = refl }
+same p = record { aid = refl; quota = refl; used = refl; policy = refl; mark = refl }
 
 equal : (p q : Isdp) → q ≡ p → AsItWas p q
 equal p q e = rw e (same p)
@@ -81,6 +81,7 @@ lively {l} {m} j r =
       quota = ap (λ (x : Isdp). x .quota) e;
       used = ap (λ (x : Isdp). x .used) e;
       policy = ap (λ (x : Isdp). x .policy) e;
+      mark = ap (λ (x : Isdp). x .mark) e;
     }
 
 cleared : (l : List Isdp) (i : ℕ) → at (set l i vacant) i ≡ vacant
@@ -104,7 +105,7 @@ module _ (c : Card) (j : ℕ) where
   act aid (status life fallback) n = same _
   act aid keyed n = sets-other _ _ (eqb-false _ _ n)
   act aid (stored m) n = sets-other _ _ (eqb-false _ _ n)
-  act aid (finished policy) n = sets-other _ _ (eqb-false _ _ n)
+  act aid (finished policy mark) n = sets-other _ _ (eqb-false _ _ n)
 
   apart : (i : ℕ) → (eqb i j && dropped c i) ≡ false → dropped c i ≡ true → i ≡ j → ⊥
   apart i n d e = false≢true (sym n ∙ (rw (eq-eqb i j e, d)))

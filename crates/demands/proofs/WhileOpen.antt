@@ -22,7 +22,7 @@ values-same : (c : Card) (call : Call) → valuesWrong c call ≡ valuesWrong (w
 values-same c (Command verdict s room) = refl
 values-same c (Keyed aid) = refl
 values-same c (Stored aid n) = refl
-values-same c (Finished aid policy) = refl
+values-same c (Finished aid policy mark) = refl
 values-same c Tick = refl
 values-same c Lost = refl
 
@@ -58,7 +58,7 @@ allowed-while-open =
     record {
       keyed-allowed = λ aid. status-same (on aid keyed) (λ c. refl);
       stored-allowed = λ aid n. status-same (on aid (stored n)) (λ c. refl);
-      finished-allowed = λ aid policy. status-same (on aid (finished policy)) (λ c. refl);
+      finished-allowed = λ aid policy mark. status-same (on aid (finished policy mark)) (λ c. refl);
       status-of-all-allowed = λ life fallback. status-same (statusOfAll life fallback) (λ c. refl);
       status-of-one-allowed = λ aid life fallback. status-same (on aid (status life fallback)) (λ c. refl);
       get-data-allowed = status-same getData (λ c. refl);

@@ -10,7 +10,7 @@ use borrow.Author.Tests.{le-leb, lt-leb}
 use Rattle.byte_string.specs.Bytes.{sameBytes}
 use Rattle.status.specs.StatusWords.{isDone}
 use Rattle.status.specs.declared.Status.{Status}
-use Rattle.status.specs.declared.Status.the-variants.{NotHeld, Done}
+use Rattle.status.specs.declared.Status.the-variants.{StateWrong, NotHeld, Done}
 use Rattle.status.specs.Rows.{wordOf}
 use Rattle.isdp.specs.Aids.{padded, noAid}
 use Rattle.isdp.specs.Place.{isFor, clash, zeros, placeOk}
@@ -44,9 +44,9 @@ use Rattle.manager.proofs.Kept.{step-sound, run-sound}
 use Rattle.manager.specs.Manager.{step, run}
 use Rattle.demands.specs.Change.{isTick, confirms, ticksAmong, staysOpen, Opens, Opens.enables, tableWord}
 use Rattle.demands.specs.Inputs.{freshOf}
-use Rattle.demands.specs.Examples.{aid, inputs, getStatus, setFallBack, enable, confirm, create, load, ticks}
+use Rattle.demands.specs.Examples.{aid, inputs, getStatus, setFallBack, enable, confirm, create, loadWith, load, ticks}
 use Rattle.demands.specs.Engines.{Engine, reached, remembered, cardAfter, answerAfter, Answered, MeetsDemand3}
-use Rattle.demands.specs.WrongEngines.{Refuted, refusesAll, fixedAnswer, leavesEveryCard, Along, larger, Exemplary, RefusesAll, FixedAnswer, LeavesEveryCard, isCommand, firstThen, FirstThenOnly9000, idle, NotTheSecondChange, inventsTicks, OnlyTheCount, thirtyWhileOpen, rollBackAsksPolicy, previousDeletedAtEnable, secondEnableRestartsWait, lateConfirmationTaken, Caught}
+use Rattle.demands.specs.WrongEngines.{Refuted, refusesAll, fixedAnswer, leavesEveryCard, Along, larger, Exemplary, RefusesAll, FixedAnswer, LeavesEveryCard, isCommand, firstThen, FirstThenOnly9000, idle, NotTheSecondChange, inventsTicks, OnlyTheCount, thirtyWhileOpen, rollBackAsksPolicy, previousDeletedAtEnable, secondEnableRestartsWait, lateConfirmationTaken, ignoresMark, IgnoringMark, Caught}
 
 -- a change that this engine opens, and calls after each of which it is still open
 record Open (e : Engine) (past : List Call) (opening : Call) (wanted : List ℕ) (calls : List Call) : Type 0 where
@@ -85,6 +85,9 @@ record Runs : Type 0 where
   late-number : (isTick (confirm 1) || confirms (cardAfter lateConfirmationTaken inputs (load 2 0 ++ enable 2 ∷ ticks 10)) (confirm 1)) ≡ false
   late-open : isQuiet (cardAfter lateConfirmationTaken inputs (load 2 0 ++ enable 2 ∷ ticks 10) .phase) ≡ false
   late-quiet : isQuiet (cardAfter lateConfirmationTaken inputs (load 2 0 ++ enable 2 ∷ (ticks 10 ++ confirm 1 ∷ [])) .phase) ≡ true
+  unmarked-taken : answerAfter ignoresMark inputs (loadWith 2 0 0) (setFallBack 2) .status ≡ Done
+  unmarked-unsound : sound (answerAfter ignoresMark inputs (loadWith 2 0 0) (setFallBack 2) .card) ≡ false
+  unmarked-refused : step (cardAfter ignoresMark inputs (loadWith 2 0 0)) (setFallBack 2) .status ≡ StateWrong
 
 runs : Runs
 unfolding reached remembered ticksAmong staysOpen step run wordOf sameBytes padded isFor clash zeros placeOk seek quotas allOf anyOf countOf distinct allOff enableAt phaseOk sound tickOf lostOf confirmOf tickStep lostStep confirmStep noticeSince stepsIn ticksToCome refused accepted freshOutcome pick atMost isBelow isSame tagAt lengthAt afterLength afterTag headAt expectOf expectAt aloneAt dgiAt confirmationAt namedBy storeDataAt verificationAt deletionAt noted listedWithin listedAt tagsAt listingAt protocolsWithin protocolsAt numberAt grantOf memoryAt parametersAt prefixedOf prefixedAt namesAt rightsAt installOf lengthWrong classRight classWrong instructionWrong parametersRight parametersWrong shapeRight shapeWrong fieldOf dataWrong statusBody statusRow rowOf rowsFrom statusResponse oneStatus dataResponse deletedResponse listWrong listAt listWithin listOf elementOf restOf closed
@@ -114,6 +117,9 @@ runs =
       late-number = refl;
       late-open = refl;
       late-quiet = refl;
+      unmarked-taken = refl;
+      unmarked-unsound = refl;
+      unmarked-refused = refl;
     }
 
 apart : {w : Status} → w ≡ Done → w ≡ NotHeld → ⊥
@@ -319,6 +325,22 @@ late-confirmation-taken w =
     let u = w .demand3 inputs (runs .made) (load 2 0) (enable 2) (aid 2) (r .opens) .still (ticks 10) (confirm 1) (r .stays) (runs .late-number) in
     false≢true (sym (runs .late-open) ∙ sym (ap isQuiet (u .phase)) ∙ runs .late-quiet)
 
+-- the last answer along the calls is the one that the runs show
+unmarked-status : Along ignoresMark tt (freshOf inputs .card) (loadWith 2 0 0 ++ setFallBack 2 ∷ []) → answerAfter ignoresMark inputs (loadWith 2 0 0) (setFallBack 2) .status ≡ step (cardAfter ignoresMark inputs (loadWith 2 0 0)) (setFallBack 2) .status
+unfolding Along reached remembered
+unmarked-status a = a .4 .status
+
+pub ignoring-mark : IgnoringMark
+ignoring-mark =
+    record {
+      refuted = λ a. false≢true (ap isDone (sym (runs .unmarked-refused) ∙ sym (unmarked-status a) ∙ runs .unmarked-taken));
+      takes-it = runs .unmarked-taken;
+      no-longer-sound = runs .unmarked-unsound;
+    }
+
+pub ignores-mark : Refuted ignoresMark
+ignores-mark w = ignoring-mark .refuted (along ignoresMark (loadWith 2 0 0 ++ setFallBack 2 ∷ []) tt (freshOf inputs .card) (w .demand2 inputs (runs .made)))
+
 pub caught : Caught
 caught =
     record {
@@ -332,4 +354,5 @@ caught =
       deleting-at-enable = previous-deleted-at-enable;
       restarting = second-enable-restarts-wait;
       taking-late = late-confirmation-taken;
+      ignoring-the-mark = ignores-mark;
     }

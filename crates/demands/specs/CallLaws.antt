@@ -52,7 +52,7 @@ pub record EveryCall : Type 0 where
   pub get-data : WrittenLaw field.getData (λ c verdict. GetDataAnswers c)
   pub keyed : (aid : List ℕ) → CallLaw (Keyed aid) (λ c. KeyedAnswers c aid)
   pub stored : (aid : List ℕ) (n : ℕ) → CallLaw (Stored aid n) (λ c. StoredAnswers c aid n)
-  pub finished : (aid : List ℕ) (policy : ℕ) → CallLaw (Finished aid policy) (λ c. FinishedAnswers c aid policy)
+  pub finished : (aid : List ℕ) (policy mark : ℕ) → CallLaw (Finished aid policy mark) (λ c. FinishedAnswers c aid policy mark)
   pub tick : CallLaw Tick TickAnswers
   pub lost : CallLaw Lost LostAnswers
 

@@ -39,7 +39,7 @@ abbrev pub isTick : Call → Bool
 isTick (Command verdict s room) = false
 isTick (Keyed aid) = false
 isTick (Stored aid n) = false
-isTick (Finished aid policy) = false
+isTick (Finished aid policy mark) = false
 isTick Tick = true
 isTick Lost = false
 

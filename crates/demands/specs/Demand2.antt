@@ -94,13 +94,14 @@ Makes =
     → freshOutcome eid aid capacity quota used volatile .status ≡ Done
     → sound (freshOutcome eid aid capacity quota used volatile .card) ≡ true
 
--- a sound card: exactly one place is ENABLED, and the fall-back is one of its places, held, and DISABLED or ENABLED
+-- a sound card: exactly one place is ENABLED, and the fall-back is one of its places, held, DISABLED or ENABLED, and has provisioning capability
 pub record Standing (c : Card) : Type 0 where
   pub still-sound : sound c ≡ true
   pub one-enabled : countOf isEnabled (c .places) ≡ 1
   pub one-fallback : c .fallback < length (c .places)
   pub fallback-held : held (at (c .places) (c .fallback)) ≡ true
   pub fallback-finished : isFinished (at (c .places) (c .fallback) .life) ≡ true
+  pub fallback-marked : at (c .places) (c .fallback) .mark ≡ 1
 
 -- "From a fresh card on": whatever the calls
 abbrev pub FromFresh : Type 0

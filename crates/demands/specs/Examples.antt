@@ -1,6 +1,6 @@
 -- Document 01, 'Marked examples': the twelve as a single table, each row run by the manager's definitions from command bytes on.
 -- "Fresh card F = A0 00 00 00 01, others A0 00 00 00 02 and so on." Examples 7, 8, 10 have a row for each call that issues a number,
--- example 6 one for its delete.
+-- example 6 one for its delete; example 2 has its profile unmarked beside it.
 use Prim.Native.Nat.{ℕ, zero, suc, _+_, _-_, _/_, _%_}
 use mathlib.Core.Path.{_≡_}
 use mathlib.Core.List.{List, [], _∷_, _++_}
@@ -8,9 +8,10 @@ use lib.ListN.{length, replicate}
 use Rattle.status.specs.StatusWords.{numberOf}
 use Rattle.isdp.specs.Sizes.{mostPlaces}
 use Rattle.isdp.specs.Aids.{padded}
-use Rattle.isdp.specs.LifeCycle.{selectable, disabled, enabled}
+use Rattle.isdp.specs.LifeCycle.{selectable, disabled, enabled, withMark}
 use Rattle.isdp.specs.Place.{vacant, made}
 use Rattle.isdp.specs.declared.Isdp.{Isdp}
+use Rattle.card.specs.Cards as cards
 use Rattle.card.specs.Answers.{Outcome}
 use Rattle.card.specs.Notifications.{silent}
 use Rattle.card.specs.declared.Card.{Card}
@@ -72,29 +73,30 @@ inputs = record { eid = replicate 16 0x89; aid = aid 1; capacity = 1000; quota =
 unfoldable pub fresh : Card
 fresh = freshOf inputs .card
 
--- 02 is created and brought to DISABLED, with this policy
+-- 02 is created and brought to DISABLED, with this policy and this mark of provisioning capability; request 2026-02: "example 2's profile
+-- bears the mark"
+abbrev pub loadWith : ℕ → ℕ → ℕ → List Call
+loadWith n policy mark = create n 50 ∷ Keyed (aid n) ∷ Stored (aid n) 5 ∷ Finished (aid n) policy mark ∷ []
+
 abbrev pub load : ℕ → ℕ → List Call
-load n policy = create n 50 ∷ Keyed (aid n) ∷ Stored (aid n) 5 ∷ Finished (aid n) policy ∷ []
+load n policy = loadWith n policy 1
 
 -- the examples' card with these profiles in its first places, this last number, this place the fall-back, in this phase
 abbrev pub cardWith : List Isdp → ℕ → ℕ → Phase → Card
 cardWith profiles last fallback phase =
-    record {
-      eid = replicate 16 0x89;
-      capacity = 1000;
-      volatile = 7;
-      last = last;
-      fallback = fallback;
-      phase = phase;
-      places = profiles ++ replicate (mostPlaces - length profiles) vacant;
-    }
+    cards.cardWith (replicate 16 0x89) 1000 7 last fallback phase (profiles ++ replicate (mostPlaces - length profiles) vacant)
 
--- F alone; F and 02, with their life cycles; new profiles of quota 1, with AIDs from n on
+-- F, which has the mark, alone; F and 02, with their life cycles, 02 with this mark or marked too; new profiles of quota 1, with AIDs from
+-- n on
 abbrev pub alone : List Isdp
-alone = made (aid 1) enabled 100 10 ∷ []
+alone = withMark (made (aid 1) enabled 100 10) 1 ∷ []
+
+abbrev pub twoWith : ℕ → ℕ → ℕ → List Isdp
+twoWith mark first second =
+    withMark (made (aid 1) first 100 10) 1 ∷ withMark (made (aid 2) second 50 5) mark ∷ []
 
 abbrev pub two : ℕ → ℕ → List Isdp
-two first second = made (aid 1) first 100 10 ∷ made (aid 2) second 50 5 ∷ []
+two first second = twoWith 1 first second
 
 unfoldable pub created : ℕ → ℕ → List Isdp
 created n zero = []
@@ -125,6 +127,7 @@ abbrev pub examples : List Example
 examples =
     record { number = 1; start = fresh; before = []; call = getStatus; word = 0x9000; response = 0xE3 ∷ 0x0E ∷ 0x4F ∷ 0x05 ∷ 0xA0 ∷ 0x00 ∷ 0x00 ∷ 0x00 ∷ 0x01 ∷ 0x9F ∷ 0x70 ∷ 0x01 ∷ 0x3F ∷ 0x53 ∷ 0x01 ∷ 0x01 ∷ []; notification = silent; ticks = 0; card = cardWith alone 0 0 Quiet }
     ∷ record { number = 2; start = fresh; before = load 2 0; call = setFallBack 2; word = 0x9000; response = []; notification = silent; ticks = 0; card = cardWith (two enabled disabled) 0 1 Quiet }
+    ∷ record { number = 2; start = fresh; before = loadWith 2 0 0; call = setFallBack 2; word = 0x6985; response = []; notification = silent; ticks = 0; card = cardWith (twoWith 0 enabled disabled) 0 0 Quiet }
     ∷ record { number = 2; start = fresh; before = []; call = setFallBack 2; word = 0x6A88; response = []; notification = silent; ticks = 0; card = cardWith alone 0 0 Quiet }
     ∷ record { number = 3; start = fresh; before = load 2 0; call = command (0x80 ∷ 0xE2 ∷ 0x87 ∷ 0x00 ∷ 0x0A ∷ 0x3A ∷ 0x05 ∷ 0x07 ∷ 0x4F ∷ 0x05 ∷ aid 2); word = 0x6A86; response = []; notification = silent; ticks = 0; card = cardWith (two enabled disabled) 0 0 Quiet }
     ∷ record { number = 3; start = fresh; before = load 2 0; call = command (0x80 ∷ 0xE2 ∷ 0x88 ∷ 0x00 ∷ 0x09 ∷ 0x3A ∷ 0x05 ∷ 0x07 ∷ 0x4F ∷ 0x05 ∷ aid 2); word = 0x6700; response = []; notification = silent; ticks = 0; card = cardWith (two enabled disabled) 0 0 Quiet }

@@ -41,7 +41,7 @@ afterAct aid setFallBack ms = ms
 afterAct aid (status life fallback) ms = ms
 afterAct aid keyed ms = ms
 afterAct aid (stored n) ms = ms
-afterAct aid (finished policy) ms = ms
+afterAct aid (finished policy mark) ms = ms
 
 -- what an accepted call did to those made, by what it asked and the response to it
 abbrev pub afterAsked : Asked → List ℕ → List Made → List Made

@@ -29,7 +29,7 @@ abbrev pub fills : List ℕ → Call → Bool
 fills name (Command verdict s room) = false
 fills name (Keyed other) = false
 fills name (Stored other n) = sameBytes other name
-fills name (Finished other policy) = sameBytes other name
+fills name (Finished other policy mark) = sameBytes other name
 fills name Tick = false
 fills name Lost = false
 

@@ -1,5 +1,5 @@
 -- Document 01, 'Who may influence what': "A step on one target leaves AID, quota, used and policy of all others as they were, save
--- the deletion at confirmation." It holds on every card; a place not held is no other profile, and a creation may fill it.
+-- the deletion at confirmation"; request 2026-02: their marks too. It holds on every card; a place not held is no other profile, and a creation may fill it.
 use Prim.Native.Nat.{ℕ}
 use mathlib.Core.Path.{_≡_}
 use mathlib.Core.Bool.{Bool, true, false, _&&_}
@@ -19,12 +19,13 @@ use Rattle.manager.specs.Manager.{step}
 use Rattle.demands.specs.Examples as sample
 use Rattle.demands.specs.SampleRun.{loaded, changed}
 
--- AID, quota, used and policy are as they were; the life cycle is not spoken of
+-- AID, quota, used, policy and mark are as they were; the life cycle is not spoken of
 pub record AsItWas (before after : Isdp) : Type 0 where
   pub aid : after .aid ≡ before .aid
   pub quota : after .quota ≡ before .quota
   pub used : after .used ≡ before .used
   pub policy : after .policy ≡ before .policy
+  pub mark : after .mark ≡ before .mark
 
 -- the call's target stands at this place
 abbrev pub targets : Card → Asked → ℕ → Bool

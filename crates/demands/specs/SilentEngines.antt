@@ -14,7 +14,7 @@ abbrev pub isLost : Call → Bool
 isLost (Command verdict s room) = false
 isLost (Keyed aid) = false
 isLost (Stored aid n) = false
-isLost (Finished aid policy) = false
+isLost (Finished aid policy mark) = false
 isLost Tick = false
 isLost Lost = true
 

@@ -10,13 +10,16 @@ use lib.ListN.{replicate}
 use Rattle.status.specs.StatusWords.{numberOf}
 use Rattle.status.specs.Rows.{Row}
 use Rattle.isdp.specs.Sizes.{mostPlaces}
-use Rattle.isdp.specs.LifeCycle.{disabled, enabled}
+use Rattle.isdp.specs.LifeCycle.{selectable, disabled, enabled, withMark}
+use Rattle.isdp.specs.Place.{vacant, made}
+use Rattle.isdp.specs.declared.Isdp.{Isdp}
 use Rattle.card.specs.Fresh.{zeroCard}
 use Rattle.card.specs.declared.Card.{Card}
+use Rattle.card.specs.declared.Phase.the-variants.{Quiet}
 use Rattle.manager.specs.Calls.{Call, Call.Command, Call.Keyed, Call.Stored, Call.Finished, Call.Tick, Call.Lost}
 use Rattle.manager.specs.Table.{table}
 use Rattle.manager.specs.Manager.{step, run}
-use Rattle.demands.specs.Examples.{aid, command, getStatus, setFallBack, enable, disable, confirm, delete, create, creates, fresh, load, cardOfTwo}
+use Rattle.demands.specs.Examples.{aid, command, getStatus, setFallBack, enable, disable, confirm, delete, create, creates, fresh, loadWith, load, cardWith, cardOfTwo}
 
 -- the number of the first row that holds, counted from 1; 16 where none of the fifteen does
 unfoldable pub rowMet : List Row → ℕ
@@ -51,6 +54,10 @@ masterDelete verdict n =
     ++ 0xB6 ∷ 0x0D ∷ 0x42 ∷ 0x01 ∷ 0x01 ∷ 0x45 ∷ 0x01 ∷ 0x02 ∷ 0x5F ∷ 0x20 ∷ 0x01 ∷ 0x03 ∷ 0x93 ∷ 0x01 ∷ 0x04 ∷ 0x9E ∷ 0x01 ∷ 0x55 ∷ []))
     256
 
+-- a card handed in: F, which is enabled and the fall-back, with this mark, and beside it this place
+abbrev pub handedIn : ℕ → Isdp → Card
+handedIn mark other = cardWith (withMark (made (aid 1) enabled 100 10) mark ∷ other ∷ []) 0 0 Quiet
+
 -- F is enabled and the fall-back, 02 is DISABLED; the same in Trial, to 02
 abbrev pub quiet : Card
 quiet = cardOfTwo enabled disabled 0
@@ -70,6 +77,13 @@ cases =
     -- 6F 00, also before 6F 02
     case 1 0x6F00 zeroCard [] (Command 0 (listing 0x80 0) 255)
     ∷ case 1 0x6F00 zeroCard [] Tick
+    -- for a fall-back with no mark, a mark of 2, and a mark in a place not held; a profile of any state may be marked or not
+    ∷ case 1 0x6F00 (handedIn 0 vacant) [] Tick
+    ∷ case 1 0x6F00 (handedIn 2 vacant) [] Tick
+    ∷ case 1 0x6F00 (handedIn 1 (withMark (made (aid 2) disabled 50 5) 2)) [] Tick
+    ∷ case 1 0x6F00 (handedIn 1 (withMark vacant 1)) [] Tick
+    ∷ case 16 0x9000 (handedIn 1 (withMark (made (aid 2) selectable 50 0) 1)) [] Tick
+    ∷ case 16 0x9000 (handedIn 1 (made (aid 2) disabled 50 5)) [] Tick
     ∷ case 16 0x9000 fresh [] Tick
     -- 6F 02, also before 67 00
     ∷ case 2 0x6F02 fresh [] (Command 0 (0x80 ∷ 0xF2 ∷ 0x40 ∷ []) 255)
@@ -113,10 +127,13 @@ cases =
     ∷ case 8 0x6A80 quiet [] malformed
     ∷ case 8 0x6A80 fresh [] (Keyed (0xA0 ∷ 0x00 ∷ 0x00 ∷ 0x00 ∷ []))
     ∷ case 8 0x6A80 fresh [] (Stored (replicate 17 0xA0) 1)
-    ∷ case 8 0x6A80 fresh [] (Finished (aid 9) 0x05)
+    ∷ case 8 0x6A80 fresh [] (Finished (aid 9) 0x05 1)
+    ∷ case 8 0x6A80 fresh [] (Finished (aid 9) 0x04 2)
+    ∷ case 8 0x6A80 fresh [] (Finished (aid 9) 0x04 255)
     ∷ case 10 0x6A88 fresh [] (Keyed (aid 9))
     ∷ case 10 0x6A88 fresh [] (Stored (replicate 16 0xA0) 1)
-    ∷ case 10 0x6A88 fresh [] (Finished (aid 9) 0x04)
+    ∷ case 10 0x6A88 fresh [] (Finished (aid 9) 0x04 0)
+    ∷ case 10 0x6A88 fresh [] (Finished (aid 9) 0x04 1)
     -- 69 85 in an open change, and a confirmation in none, also before 6A 88 and before an AID already held
     ∷ case 9 0x6985 quiet opening (enable 9)
     ∷ case 9 0x6985 quiet opening (create 2 1)
@@ -139,9 +156,20 @@ cases =
     ∷ case 12 0x6985 fresh (onto 1 ++ create 3 50 ∷ []) (enable 3)
     ∷ case 12 0x6985 fresh (onto 0) (masterDelete 0 2)
     ∷ case 12 0x6985 fresh (create 2 50 ∷ []) (Stored (aid 2) 51)
-    ∷ case 12 0x6985 fresh (create 2 50 ∷ Keyed (aid 2) ∷ []) (Finished (aid 2) 0)
-    ∷ case 16 0x9000 fresh (create 2 50 ∷ Keyed (aid 2) ∷ Stored (aid 2) 1 ∷ []) (Finished (aid 2) 0)
+    ∷ case 12 0x6985 fresh (create 2 50 ∷ Keyed (aid 2) ∷ []) (Finished (aid 2) 0 1)
+    ∷ case 16 0x9000 fresh (create 2 50 ∷ Keyed (aid 2) ∷ Stored (aid 2) 1 ∷ []) (Finished (aid 2) 0 0)
+    ∷ case 16 0x9000 fresh (create 2 50 ∷ Keyed (aid 2) ∷ Stored (aid 2) 1 ∷ []) (Finished (aid 2) 0 1)
     ∷ case 12 0x6985 fresh (create 2 50 ∷ []) (setFallBack 2)
+    -- and for a target of set fall-back that has no mark, DISABLED or ENABLED; the mark is asked nowhere else
+    ∷ case 9 0x6985 fresh (loadWith 2 0 0 ++ enable 2 ∷ []) (setFallBack 2)
+    ∷ case 12 0x6985 fresh (loadWith 2 0 0) (setFallBack 2)
+    ∷ case 12 0x6985 fresh (loadWith 2 0 0 ++ enable 2 ∷ confirm 1 ∷ []) (setFallBack 2)
+    ∷ case 12 0x6985 fresh (load 2 0 ++ delete 2 ∷ loadWith 2 0 0) (setFallBack 2)
+    ∷ case 16 0x9000 fresh (load 2 0) (setFallBack 2)
+    ∷ case 16 0x9000 fresh (load 2 0 ++ enable 2 ∷ confirm 1 ∷ []) (setFallBack 2)
+    ∷ case 16 0x9000 fresh (load 2 0) (setFallBack 1)
+    ∷ case 16 0x9000 fresh (loadWith 2 0 0) (enable 2)
+    ∷ case 16 0x9000 fresh (loadWith 2 0 0 ++ enable 2 ∷ confirm 1 ∷ []) (disable 2)
     ∷ case 12 0x6985 fresh (load 2 0) (Keyed (aid 2))
     -- 69 E1
     ∷ case 13 0x69E1 fresh (load 2 2) (delete 2)

@@ -19,7 +19,7 @@ Allowed a = (c : Card) (call : Call) → sound c ≡ true → asked c call ≡ a
 pub record AllowedWhileOpen : Type 0 where
   pub keyed-allowed : (aid : List ℕ) → Allowed (on aid keyed)
   pub stored-allowed : (aid : List ℕ) (n : ℕ) → Allowed (on aid (stored n))
-  pub finished-allowed : (aid : List ℕ) (policy : ℕ) → Allowed (on aid (finished policy))
+  pub finished-allowed : (aid : List ℕ) (policy mark : ℕ) → Allowed (on aid (finished policy mark))
   pub status-of-all-allowed : (life fallback : Bool) → Allowed (statusOfAll life fallback)
   pub status-of-one-allowed : (aid : List ℕ) (life fallback : Bool) → Allowed (on aid (status life fallback))
   pub get-data-allowed : Allowed getData

@@ -12,9 +12,11 @@ use Rattle.status.specs.declared.Status.the-variants.{PolicyForbids, Done}
 use Rattle.isdp.specs.Sizes.{wait}
 use Rattle.isdp.specs.Aids.{noAid}
 use Rattle.isdp.specs.Policy.{forbidsDisabling}
+use Rattle.isdp.specs.LifeCycle.{isFinished}
 use Rattle.isdp.specs.Place.{vacant}
 use Rattle.places.specs.Places.{at}
-use Rattle.card.specs.Cards.{isQuiet, enabledPlace, withPlaces, withPhase}
+use Rattle.card.specs.Cards.{isQuiet, placeOf, profileOf, enabledPlace, withPlaces, withPhase, withFallback}
+use Rattle.card.specs.Sound.{sound}
 use Rattle.card.specs.Clock.{nextOf, outstanding, dropped}
 use Rattle.card.specs.Steps.{stepTo, confirmStep}
 use Rattle.card.specs.Ticks.{ticksToCome}
@@ -118,7 +120,7 @@ abbrev pub isCommand : Call → Bool
 isCommand (Command verdict s room) = true
 isCommand (Keyed aid) = false
 isCommand (Stored aid n) = false
-isCommand (Finished aid policy) = false
+isCommand (Finished aid policy mark) = false
 isCommand Tick = false
 isCommand Lost = false
 
@@ -185,7 +187,7 @@ enables setFallBack = false
 enables (status life fallback) = false
 enables keyed = false
 enables (stored n) = false
-enables (finished policy) = false
+enables (finished policy mark) = false
 
 abbrev pub asksEnable : Asked → Bool
 asksEnable unread = false
@@ -234,6 +236,38 @@ isLate phase lost = false
 abbrev pub lateConfirmationTaken : Engine
 lateConfirmationTaken = plain (λ c call. cond (isLate (c .phase) (asked c call)) (accepted Done (confirmStep c) []) (step c call))
 
+-- request 2026-02, "Field staff moved the fall-back to a data-only profile": set fall-back ignores the mark
+abbrev pub unmarkedAct : Card → List ℕ → Act → Outcome → Outcome
+unmarkedAct c aid enable right = right
+unmarkedAct c aid disable right = right
+unmarkedAct c aid delete right = right
+unmarkedAct c aid (masterDelete verdict) right = right
+unmarkedAct c aid setFallBack right =
+    cond (isQuiet (c .phase) && isFinished (profileOf c aid .life)) (accepted Done (stepTo c (withFallback c (placeOf c aid)) noAid) []) right
+unmarkedAct c aid (status life fallback) right = right
+unmarkedAct c aid keyed right = right
+unmarkedAct c aid (stored n) right = right
+unmarkedAct c aid (finished policy mark) right = right
+
+abbrev pub unmarkedTaken : Card → Asked → Outcome → Outcome
+unmarkedTaken c unread right = right
+unmarkedTaken c (create aid quota) right = right
+unmarkedTaken c (on aid act) right = unmarkedAct c aid act right
+unmarkedTaken c (confirm number) right = right
+unmarkedTaken c (statusOfAll life fallback) right = right
+unmarkedTaken c getData right = right
+unmarkedTaken c tick right = right
+unmarkedTaken c lost right = right
+
+abbrev pub ignoresMark : Engine
+ignoresMark = plain (λ c call. unmarkedTaken c (asked c call) (step c call))
+
+-- by demand 2, on example 2 with its profile unmarked: it answers 90 00, and the card that it hands back is not sound
+pub record IgnoringMark : Type 0 where
+  pub refuted : AlongFrom ignoresMark example.inputs (example.loadWith 2 0 0 ++ example.setFallBack 2 ∷ []) → ⊥
+  pub takes-it : answerAfter ignoresMark example.inputs (example.loadWith 2 0 0) (example.setFallBack 2) .status ≡ Done
+  pub no-longer-sound : sound (answerAfter ignoresMark example.inputs (example.loadWith 2 0 0) (example.setFallBack 2) .card) ≡ false
+
 -- "These engines have to be caught": none of them meets the demands
 pub record Caught : Type 0 where
   pub refusing-all : (word : Card → Call → Status) → ((c : Card) (call : Call) → isDone (word c call) ≡ false) → Refuted (refusesAll word)
@@ -246,3 +280,4 @@ pub record Caught : Type 0 where
   pub deleting-at-enable : Refuted previousDeletedAtEnable
   pub restarting : Refuted secondEnableRestartsWait
   pub taking-late : Refuted lateConfirmationTaken
+  pub ignoring-the-mark : Refuted ignoresMark

@@ -168,6 +168,9 @@ module _ (b : List ℕ) (from n : ℕ) where
       rw (byte-first (omega arith), part-in 1 (omega arith))
   call-in kind.Tick e = refl
   call-in kind.Lost e = refl
+  call-in kind.FinishedWithMark e =
+      let h = ltb-false n 2 e in
+      rw (byte-first (omega arith), byte-in 1 (omega arith), part-in 2 (omega arith))
   call-in kind.Unknown e = refl
 
 -- from this place on no event is cut, and none has a wrong length

@@ -89,9 +89,10 @@ abbrev pub callIn : List ℕ → Kind → ℕ → ℕ → declared.Call
 callIn b kind.Command from to = call.Command (byte b from) (between (from + 1) to)
 callIn b kind.Keyed from to = call.Keyed (between from to)
 callIn b kind.Stored from to = call.Stored (between (from + 4) to) (fourAt b from)
-callIn b kind.Finished from to = call.Finished (between (from + 1) to) (byte b from)
+callIn b kind.Finished from to = call.Finished (between (from + 1) to) (byte b from) 1
 callIn b kind.Tick from to = call.Tick
 callIn b kind.Lost from to = call.Lost
+callIn b kind.FinishedWithMark from to = call.Finished (between (from + 2) to) (byte b from) (byte b (from + 1))
 callIn b kind.Unknown from to = call.Lost
 
 -- the event at a place; none where the body ends there or within it

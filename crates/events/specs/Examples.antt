@@ -31,14 +31,14 @@ cases =
     ∷ case CutShort (2 ∷ 1 ∷ 0 ∷ replicate 255 0xA0)
     ∷ case Right (2 ∷ 1 ∷ 0 ∷ replicate 256 0xA0)
     -- a cut event is told before a kind that is not known and a wrong length, though these come earlier
-    ∷ case CutShort (7 ∷ 0 ∷ 0 ∷ 5 ∷ 0 ∷ [])
+    ∷ case CutShort (8 ∷ 0 ∷ 0 ∷ 5 ∷ 0 ∷ [])
     ∷ case CutShort (5 ∷ 0 ∷ 1 ∷ 0 ∷ 5 ∷ 0 ∷ [])
     -- "some event has a kind that is not in the table": before and after the kinds there are, and before a wrong length
     ∷ case UnknownKind (0 ∷ 0 ∷ 0 ∷ [])
-    ∷ case UnknownKind (7 ∷ 0 ∷ 0 ∷ [])
+    ∷ case UnknownKind (8 ∷ 0 ∷ 0 ∷ [])
     ∷ case UnknownKind (255 ∷ 0 ∷ 1 ∷ 0 ∷ 5 ∷ 0 ∷ 0 ∷ [])
-    ∷ case UnknownKind (7 ∷ 0 ∷ 0 ∷ 5 ∷ 0 ∷ 1 ∷ 0 ∷ [])
-    ∷ case UnknownKind (5 ∷ 0 ∷ 1 ∷ 0 ∷ 7 ∷ 0 ∷ 0 ∷ [])
+    ∷ case UnknownKind (8 ∷ 0 ∷ 0 ∷ 5 ∷ 0 ∷ 1 ∷ 0 ∷ [])
+    ∷ case UnknownKind (5 ∷ 0 ∷ 1 ∷ 0 ∷ 8 ∷ 0 ∷ 0 ∷ [])
     -- a wrong length of each kind
     ∷ case WrongLength (1 ∷ 0 ∷ 0 ∷ [])
     ∷ case Right (1 ∷ 0 ∷ 1 ∷ 0 ∷ [])
@@ -49,6 +49,9 @@ cases =
     ∷ case Right (4 ∷ 0 ∷ 1 ∷ 0 ∷ [])
     ∷ case WrongLength (5 ∷ 0 ∷ 1 ∷ 0 ∷ [])
     ∷ case WrongLength (6 ∷ 0 ∷ 1 ∷ 0 ∷ [])
+    ∷ case WrongLength (7 ∷ 0 ∷ 0 ∷ [])
+    ∷ case WrongLength (7 ∷ 0 ∷ 1 ∷ 0 ∷ [])
+    ∷ case Right (7 ∷ 0 ∷ 2 ∷ 0 ∷ 0 ∷ [])
     ∷ case WrongLength (5 ∷ 0 ∷ 0 ∷ 6 ∷ 0 ∷ 1 ∷ 0 ∷ 5 ∷ 0 ∷ 0 ∷ [])
     ∷ []
 
@@ -62,18 +65,20 @@ meant (k ∷ ks) = k .says ∷ meant ks
 
 pub record EventsExamples : Type 0 where
   pub checks : found cases ≡ meant cases
-  -- an event of each kind
+  -- an event of each kind; the old finished one is marked
   pub calls : callsOf (eventsOf
       (1 ∷ 0 ∷ 3 ∷ 0x55 ∷ 0x80 ∷ 0xF2
       ∷ 2 ∷ 0 ∷ 1 ∷ 0xA0
       ∷ 3 ∷ 0 ∷ 5 ∷ 0x01 ∷ 0x02 ∷ 0x03 ∷ 0x04 ∷ 0xA0
       ∷ 4 ∷ 0 ∷ 2 ∷ 0x02 ∷ 0xA0
       ∷ 5 ∷ 0 ∷ 0
-      ∷ 6 ∷ 0 ∷ 0 ∷ []))
+      ∷ 6 ∷ 0 ∷ 0
+      ∷ 7 ∷ 0 ∷ 3 ∷ 0x02 ∷ 0x00 ∷ 0xA0 ∷ []))
       ≡ Command 0x55 (0x80 ∷ 0xF2 ∷ []) 256
       ∷ Keyed (0xA0 ∷ [])
       ∷ Stored (0xA0 ∷ []) 0x01020304
-      ∷ Finished (0xA0 ∷ []) 0x02
+      ∷ Finished (0xA0 ∷ []) 0x02 1
       ∷ Tick
       ∷ Lost
+      ∷ Finished (0xA0 ∷ []) 0x02 0
       ∷ []

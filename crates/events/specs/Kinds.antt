@@ -9,7 +9,7 @@ use Rattle.choice.specs.Choice.{pick, isSame}
 use Rattle.manager.specs.Calls as manager
 use Rattle.manager.specs.Table.{leastBuffer}
 use Rattle.events.specs.declared.Kind.{Kind}
-use Rattle.events.specs.declared.Kind.the-variants.{Command, Keyed, Stored, Finished, Tick, Lost, Unknown}
+use Rattle.events.specs.declared.Kind.the-variants.{Command, Keyed, Stored, Finished, Tick, Lost, FinishedWithMark, Unknown}
 
 unfoldable pub kindOf : ℕ → Kind
 kindOf n =
@@ -18,7 +18,8 @@ kindOf n =
     (pick (isSame n 3) Stored
     (pick (isSame n 4) Finished
     (pick (isSame n 5) Tick
-    (pick (isSame n 6) Lost Unknown)))))
+    (pick (isSame n 6) Lost
+    (pick (isSame n 7) FinishedWithMark Unknown))))))
 
 abbrev pub isUnknown : Kind → Bool
 isUnknown Command = false
@@ -27,6 +28,7 @@ isUnknown Stored = false
 isUnknown Finished = false
 isUnknown Tick = false
 isUnknown Lost = false
+isUnknown FinishedWithMark = false
 isUnknown Unknown = true
 
 -- an event of this kind must not have so many bytes
@@ -37,14 +39,17 @@ lengthWrong Stored n = ltb n 4
 lengthWrong Finished n = ltb n 1
 lengthWrong Tick n = not (eqb n 0)
 lengthWrong Lost n = not (eqb n 0)
+lengthWrong FinishedWithMark n = ltb n 2
 lengthWrong Unknown n = false
 
--- the manager's call; "a command's response buffer has 256 bytes". An event of unknown kind is never run: what it would be does not matter
+-- the manager's call; "a command's response buffer has 256 bytes"; request 2026-02: "Old finished events count as marked".
+-- An event of unknown kind is never run: what it would be does not matter
 abbrev pub callFor : Kind → List ℕ → manager.Call
 callFor Command bytes = manager.Call.Command (byte bytes 0) (drop 1 bytes) leastBuffer
 callFor Keyed bytes = manager.Call.Keyed bytes
 callFor Stored bytes = manager.Call.Stored (drop 4 bytes) (fourAt bytes 0)
-callFor Finished bytes = manager.Call.Finished (drop 1 bytes) (byte bytes 0)
+callFor Finished bytes = manager.Call.Finished (drop 1 bytes) (byte bytes 0) 1
 callFor Tick bytes = manager.Call.Tick
 callFor Lost bytes = manager.Call.Lost
+callFor FinishedWithMark bytes = manager.Call.Finished (drop 2 bytes) (byte bytes 0) (byte bytes 1)
 callFor Unknown bytes = manager.Call.Lost

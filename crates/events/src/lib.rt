@@ -16,9 +16,11 @@ pub enum Kind {
     Command,
     Keyed,
     Stored,
+    // of a logger that knows no mark
     Finished,
     Tick,
     Lost,
+    FinishedWithMark,
     Unknown,
 }
 
@@ -50,6 +52,7 @@ impl Kind {
             4 => Kind::Finished,
             5 => Kind::Tick,
             6 => Kind::Lost,
+            7 => Kind::FinishedWithMark,
             _ => Kind::Unknown,
         }
     }
@@ -64,6 +67,7 @@ impl Kind {
             Kind::Finished => false,
             Kind::Tick => false,
             Kind::Lost => false,
+            Kind::FinishedWithMark => false,
             Kind::Unknown => true,
         }
     }
@@ -79,6 +83,7 @@ impl Kind {
             Kind::Finished => length < 1,
             Kind::Tick => length != 0,
             Kind::Lost => length != 0,
+            Kind::FinishedWithMark => length < 2,
             Kind::Unknown => false,
         }
     }
@@ -124,9 +129,15 @@ fn call_in(b: &[u8], kind: Kind, from: usize, to: usize) -> Call
         Kind::Finished => Call::Finished {
             aid: part(from + 1, to),
             policy: byte_at(b, from),
+            mark: 1,
         },
         Kind::Tick => Call::Tick,
         Kind::Lost => Call::Lost,
+        Kind::FinishedWithMark => Call::Finished {
+            aid: part(from + 2, to),
+            policy: byte_at(b, from),
+            mark: byte_at(b, from + 1),
+        },
         Kind::Unknown => Call::Lost,
     }
 }

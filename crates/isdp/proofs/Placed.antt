@@ -11,7 +11,8 @@ use borrow.Author.Tests.{eqb-true, ne-eqb, leb-true}
 use Rattle.isdp.specs.Sizes.{leastAid, mostAid}
 use Rattle.isdp.specs.Aids.{padded, aidOk, aidOf}
 use Rattle.isdp.specs.Policy.{policyOk}
-use Rattle.isdp.specs.LifeCycle.{disabled, isEnabled, withLife, off}
+use Rattle.isdp.specs.LifeCycle.{disabled, isEnabled, withLife, withMark, off}
+use Rattle.isdp.specs.Provisioning.{markOk}
 use Rattle.isdp.specs.Place.{vacant, made, held, zeros, lifeOk, heldOk, placeOk}
 use Rattle.isdp.specs.declared.Isdp.{Isdp}
 use Rattle.isdp.proofs.Bools.{and-l, and-r}
@@ -26,6 +27,7 @@ pub record Placed (k : ℕ) (p : Isdp) : Type 0 where
   pub most : leb (p .quota) k ≡ true
   pub fits : leb (p .used) (p .quota) ≡ true
   pub rule : policyOk (p .policy) ≡ true
+  pub mark : markOk (p .mark) ≡ true
   pub ended : zeros (drop (p .aid .len) (p .aid .bytes)) ≡ true
 
 held-case : (w h a x r s z : Bool) → a ≡ false → (w && cond h (x && (r && z)) ((a && s) && z)) ≡ true → (w ≡ true) × (h ≡ true) × (r ≡ true) × (z ≡ true)
@@ -37,12 +39,13 @@ held-case false h a x r s z n e = absurd (false≢true e)
 pub placed : (k : ℕ) (p : Isdp) → eqb (p .life) 0 ≡ false → placeOk k p ≡ true → Placed k p
 unfolding placeOk
 placed k p n e =
-    let h = held-case (eqb (length (p .aid .bytes)) mostAid) (held p) (eqb (p .life) 0) (lifeOk (p .life)) (heldOk k p) (eqb (p .quota) 0 && (eqb (p .used) 0 && eqb (p .policy) 0)) (zeros (drop (p .aid .len) (p .aid .bytes))) n e in
+    let h = held-case (eqb (length (p .aid .bytes)) mostAid) (held p) (eqb (p .life) 0) (lifeOk (p .life)) (heldOk k p) (eqb (p .quota) 0 && (eqb (p .used) 0 && (eqb (p .policy) 0 && eqb (p .mark) 0))) (zeros (drop (p .aid .len) (p .aid .bytes))) n e in
     let r : heldOk k p ≡ true = h .2 in
     let r1 = and-r (leb leastAid (p .aid .len)) _ r in
     let r2 = and-r (leb (p .aid .len) mostAid) _ r1 in
     let r3 = and-r (leb 1 (p .quota)) _ r2 in
     let r4 = and-r (leb (p .quota) k) _ r3 in
+    let r5 = and-r (leb (p .used) (p .quota)) _ r4 in
     record {
       wide = eqb-true (length (p .aid .bytes)) mostAid (h .0);
       there = h .1;
@@ -51,13 +54,14 @@ placed k p n e =
       some = and-l _ _ r2;
       most = and-l _ _ r3;
       fits = and-l _ _ r4;
-      rule = and-r (leb (p .used) (p .quota)) _ r4;
+      rule = and-l _ _ r5;
+      mark = and-r (policyOk (p .policy)) _ r5;
       ended = h .3;
     }
 
 pub placed-ok : (k : ℕ) (p : Isdp) → lifeOk (p .life) ≡ true → Placed k p → placeOk k p ≡ true
 unfolding placeOk
-placed-ok k p l h = rw (h .wide, h .there, l, h .five, h .sixteen, h .some, h .most, h .fits, h .rule, h .ended)
+placed-ok k p l h = rw (h .wide, h .there, l, h .five, h .sixteen, h .some, h .most, h .fits, h .rule, h .mark, h .ended)
 
 -- the test of one place under another life cycle
 relife-case : (w h a x y r s z : Bool) → a ≡ false → (w && cond h (x && (r && z)) ((a && s) && z)) ≡ true → (w && cond h (true && (r && z)) ((y && s) && z)) ≡ true
@@ -70,7 +74,7 @@ relife-case false h a x y r s z n e = absurd (false≢true e)
 pub relife : (k : ℕ) (p : Isdp) (v : ℕ) → eqb (p .life) 0 ≡ false → lifeOk v ≡ true → placeOk k p ≡ true → placeOk k (withLife p v) ≡ true
 unfolding placeOk
 relife k p v n o e =
-    rw o (relife-case (eqb (length (p .aid .bytes)) mostAid) (held p) (eqb (p .life) 0) (lifeOk (p .life)) (eqb v 0) (heldOk k p) (eqb (p .quota) 0 && (eqb (p .used) 0 && eqb (p .policy) 0)) (zeros (drop (p .aid .len) (p .aid .bytes))) n e)
+    rw o (relife-case (eqb (length (p .aid .bytes)) mostAid) (held p) (eqb (p .life) 0) (lifeOk (p .life)) (eqb v 0) (heldOk k p) (eqb (p .quota) 0 && (eqb (p .used) 0 && (eqb (p .policy) 0 && eqb (p .mark) 0))) (zeros (drop (p .aid .len) (p .aid .bytes))) n e)
 
 off-ok-case : (k : ℕ) (p : Isdp) (b : Bool) → isEnabled p ≡ b → placeOk k p ≡ true → placeOk k (withLife p (cond b disabled (p .life))) ≡ true
 off-ok-case k p true e o = relife k p disabled (rw (eqb-true (p .life) _ e)) refl o
@@ -117,7 +121,8 @@ module _ (aid : List ℕ) (life quota used : ℕ) (ok : aidOk aid ≡ true) wher
   unfolding padded
   made-aid = take-append-seam (take mostAid aid) _ ∙ whole
 
-  pub made-ok : (k : ℕ) → lifeOk life ≡ true → leb 1 quota ≡ true → leb quota k ≡ true → leb used quota ≡ true → placeOk k (made aid life quota used) ≡ true
-  made-ok k l some most fits =
-      placed-ok k (made aid life quota used) l
-      (record { wide = padded-length aid sixteen; there = made-held; five = rw whole (and-l _ _ ok); sixteen = rw whole (and-r (leb leastAid (length aid)) _ ok); some = some; most = most; fits = fits; rule = refl; ended = rw whole (padding aid sixteen) })
+  -- with either mark
+  pub made-ok : (k mark : ℕ) → markOk mark ≡ true → lifeOk life ≡ true → leb 1 quota ≡ true → leb quota k ≡ true → leb used quota ≡ true → placeOk k (withMark (made aid life quota used) mark) ≡ true
+  made-ok k mark m l some most fits =
+      placed-ok k (withMark (made aid life quota used) mark) l
+      (record { wide = padded-length aid sixteen; there = made-held; five = rw whole (and-l _ _ ok); sixteen = rw whole (and-r (leb leastAid (length aid)) _ ok); some = some; most = most; fits = fits; rule = refl; mark = m; ended = rw whole (padding aid sixteen) })

@@ -4,4 +4,5 @@ pub mod Aids
 pub mod Policy
 pub mod Profile
 pub mod LifeCycle
+pub mod Provisioning
 pub mod Place

@@ -1,4 +1,5 @@
--- Document 01, 'The card': the life cycle of an ISD-P (000, 2.2.1.3), and a place with another life cycle, other used bytes, another policy.
+-- Document 01, 'The card': the life cycle of an ISD-P (000, 2.2.1.3), and a place with another life cycle, other used bytes, another
+-- policy, another mark.
 use Prim.Native.Nat.{ℕ}
 use mathlib.Core.Bool.{Bool, cond, _||_}
 use lib.Dec.{eqb}
@@ -25,17 +26,20 @@ abbrev pub isFinished : ℕ → Bool
 isFinished v = eqb v disabled || eqb v enabled
 
 abbrev pub withLife : Isdp → ℕ → Isdp
-withLife p life = changed p life (p .used) (p .policy)
+withLife p life = changed p life (p .used) (p .policy) (p .mark)
 
 abbrev pub withUsed : Isdp → ℕ → Isdp
-withUsed p used = changed p (p .life) used (p .policy)
+withUsed p used = changed p (p .life) used (p .policy) (p .mark)
 
 abbrev pub withPolicy : Isdp → ℕ → Isdp
-withPolicy p policy = changed p (p .life) (p .used) policy
+withPolicy p policy = changed p (p .life) (p .used) policy (p .mark)
 
--- DISABLED, with this policy
-abbrev pub finish : Isdp → ℕ → Isdp
-finish p policy = withPolicy (withLife p disabled) policy
+abbrev pub withMark : Isdp → ℕ → Isdp
+withMark p mark = changed p (p .life) (p .used) (p .policy) mark
+
+-- DISABLED, with this policy and this mark
+abbrev pub finish : Isdp → ℕ → ℕ → Isdp
+finish p policy mark = withMark (withPolicy (withLife p disabled) policy) mark
 
 -- an ENABLED place is DISABLED, any other stays
 abbrev pub off : Isdp → Isdp

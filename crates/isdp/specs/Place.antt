@@ -10,15 +10,16 @@ use Rattle.isdp.specs.Aids.{named, noAid, aidOf}
 use Rattle.isdp.specs.Policy.{policyOk}
 use Rattle.isdp.specs.Profile.{profile}
 use Rattle.isdp.specs.LifeCycle.{selectable, personalized, disabled, enabled}
+use Rattle.isdp.specs.Provisioning.{markOk}
 use Rattle.isdp.specs.declared.Isdp.{Isdp}
 
 -- a place that is not held
 abbrev pub vacant : Isdp
-vacant = profile noAid 0 0 0 0
+vacant = profile noAid 0 0 0 0 0
 
--- a new profile: its policy is empty
+-- a new profile: its policy is empty, and it has no mark
 abbrev pub made : List ℕ → ℕ → ℕ → ℕ → Isdp
-made aid life quota used = profile (named aid) life quota used 0
+made aid life quota used = profile (named aid) life quota used 0 0
 
 -- a place is held when it has an AID
 abbrev pub held : Isdp → Bool
@@ -43,7 +44,7 @@ lifeOk v = eqb v selectable || (eqb v personalized || (eqb v disabled || eqb v e
 
 -- "places not held .. are zero"
 abbrev pub emptyOk : Isdp → Bool
-emptyOk p = eqb (p .life) 0 && (eqb (p .quota) 0 && (eqb (p .used) 0 && eqb (p .policy) 0))
+emptyOk p = eqb (p .life) 0 && (eqb (p .quota) 0 && (eqb (p .used) 0 && (eqb (p .policy) 0 && eqb (p .mark) 0)))
 
 -- the sizes and codings of a held place, its life cycle apart, which steps on the life cycle do not touch
 abbrev pub heldOk : ℕ → Isdp → Bool
@@ -51,7 +52,8 @@ heldOk capacity p =
     leb leastAid (p .aid .len)
     && (leb (p .aid .len) mostAid
     && (leb 1 (p .quota)
-    && (leb (p .quota) capacity && (leb (p .used) (p .quota) && policyOk (p .policy)))))
+    && (leb (p .quota) capacity
+    && (leb (p .used) (p .quota) && (policyOk (p .policy) && markOk (p .mark))))))
 
 -- the sizes and codings of one place; "bytes past an AID's length are zero"
 unfoldable pub placeOk : ℕ → Isdp → Bool

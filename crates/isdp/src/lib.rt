@@ -1,4 +1,4 @@
-// One ISD-P as the card holds it: AID, life cycle, quota, used bytes and policy, and the tests on it alone.
+// One ISD-P as the card holds it: AID, life cycle, quota, used bytes, policy and mark, and the tests on it alone.
 // A place that is not held is the record of zeros; every function answers for every record, sound or not.
 use byte_string::same;
 ghost use mathlib.Core.Path.{_≡_};
@@ -9,7 +9,8 @@ ghost use lib.Dec.{leb, ltb, eqb};
 ghost use Rattle.isdp.specs.Sizes.{mostAid};
 ghost use Rattle.isdp.specs.Aids.{aidOk, padded, named, noAid, bytesOf};
 ghost use Rattle.isdp.specs.Policy.{policyOk, forbidsDisabling, forbidsDeletion, onceDisabled};
-ghost use Rattle.isdp.specs.LifeCycle.{isEnabled, withLife, withUsed, finish, off};
+ghost use Rattle.isdp.specs.LifeCycle.{isEnabled, withLife, withUsed, withMark, finish, off};
+ghost use Rattle.isdp.specs.Provisioning.{markOk, mayBeFallBack};
 ghost use Rattle.isdp.specs.Place.{vacant, made, isFor, zeros, lifeOk, emptyOk, heldOk, placeOk, clash};
 
 // An AID: its bytes with zeros after them, and its length; length 0 where there is none.
@@ -18,12 +19,13 @@ pub struct Aid {
     pub len: u8,
 }
 
-// The numbers stand first, so that a profile takes 28 bytes, one of them spare.
+// The numbers stand first, so that a profile takes 28 bytes. The mark is that of provisioning capability.
 pub struct Isdp {
     pub quota: u32,
     pub used: u32,
     pub life: u8,
     pub policy: u8,
+    pub mark: u8,
     pub aid: Aid,
 }
 
@@ -120,6 +122,13 @@ pub fn once_disabled(policy: u8) -> bool
     policy / 4 % 2 == 1
 }
 
+// Is the mark of provisioning capability legal?
+pub fn mark_ok(mark: u8) -> bool
+    ensures { λ r. ⌜ r ≡ markOk mark ⌝ }
+{
+    mark <= 1
+}
+
 // Are the bytes from `n` on zero?
 fn zeros_from(bytes: [u8; 16], n: usize) -> bool
     ensures { λ r. ⌜ r ≡ zeros (drop n bytes) ⌝ }
@@ -138,7 +147,7 @@ fn zeros_from(bytes: [u8; 16], n: usize) -> bool
 fn empty_ok(p: Isdp) -> bool
     ensures { λ r. ⌜ r ≡ emptyOk p ⌝ }
 {
-    (p.life == 0) & ((p.quota == 0) & ((p.used == 0) & (p.policy == 0)))
+    (p.life == 0) & ((p.quota == 0) & ((p.used == 0) & ((p.policy == 0) & (p.mark == 0))))
 }
 
 fn life_ok(life: u8) -> bool
@@ -156,7 +165,8 @@ fn held_ok(p: Isdp, capacity: u32) -> bool
     (5 <= aid.len)
         & ((aid.len <= 16)
             & ((1 <= p.quota)
-                & ((p.quota <= capacity) & ((p.used <= p.quota) & policy_ok(p.policy)))))
+                & ((p.quota <= capacity)
+                    & ((p.used <= p.quota) & (policy_ok(p.policy) & mark_ok(p.mark))))))
 }
 
 // The sizes and codings of one place.
@@ -209,11 +219,12 @@ impl Isdp {
             used: 0,
             life: 0,
             policy: 0,
+            mark: 0,
             aid,
         }
     }
 
-    // A profile with an empty policy, as fresh and create make it.
+    // A profile with an empty policy and no mark.
     pub fn made(aid: &[u8], life: u8, quota: u32, used: u32) -> Isdp
         ensures { λ r. ⌜ r ≡ made (now (aid .entry)) life quota used ⌝ }
     {
@@ -242,13 +253,22 @@ impl Isdp {
         p
     }
 
-    // DISABLED, with this policy.
-    pub fn finish(self, policy: u8) -> Isdp
-        ensures { λ r. ⌜ r ≡ finish self policy ⌝ }
+    pub fn with_mark(self, mark: u8) -> Isdp
+        ensures { λ r. ⌜ r ≡ withMark self mark ⌝ }
+    {
+        let mut p = self;
+        p.mark = mark;
+        p
+    }
+
+    // DISABLED, with this policy and this mark.
+    pub fn finish(self, policy: u8, mark: u8) -> Isdp
+        ensures { λ r. ⌜ r ≡ finish self policy mark ⌝ }
     {
         let mut p = self;
         p.life = Isdp::DISABLED;
         p.policy = policy;
+        p.mark = mark;
         p
     }
 
@@ -261,6 +281,13 @@ impl Isdp {
             p.life = Isdp::DISABLED;
         }
         p
+    }
+
+    // May the profile be the fall-back?
+    pub fn may_be_fall_back(self) -> bool
+        ensures { λ r. ⌜ r ≡ mayBeFallBack self ⌝ }
+    {
+        ((self.life == Isdp::DISABLED) | (self.life == Isdp::ENABLED)) & (self.mark == 1)
     }
 
     // Do n bytes more keep within the quota? Compared without a sum, which could pass 32 bits.

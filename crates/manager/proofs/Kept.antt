@@ -68,7 +68,7 @@ pub legal : (c : Card) (call : Call) → valuesWrong c call ≡ false → Legal 
 legal c (Command verdict s room) e = field-legal c verdict s (fieldOf s (c .capacity)) (field-in s (c .capacity))
 legal c (Keyed aid) e = tt
 legal c (Stored aid n) e = tt
-legal c (Finished aid policy) e = and-r (aidOk aid) _ (not-false _ e)
+legal c (Finished aid policy mark) e = and-r (aidOk aid) _ (not-false _ e)
 legal c Tick e = tt
 legal c Lost e = tt
 

@@ -61,7 +61,7 @@ table-parts c success =
       command = λ verdict s room. refl;
       keyed-rows = λ aid. refl;
       stored-rows = λ aid n. refl;
-      finished-rows = λ aid policy. refl;
+      finished-rows = λ aid policy mark. refl;
       tick-rows = refl;
       lost-rows = refl;
     }

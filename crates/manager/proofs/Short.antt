@@ -55,7 +55,7 @@ act-most c aid setFallBack s = omega arith
 act-most c aid (status life fallback) s = omega (arith, one-length c (placeOf c aid) life fallback (sound-fits c s))
 act-most c aid keyed s = omega arith
 act-most c aid (stored n) s = omega arith
-act-most c aid (finished policy) s = omega arith
+act-most c aid (finished policy mark) s = omega arith
 
 asked-most : (c : Card) (a : Asked) → sound c ≡ true → length (responseOf c a) ≤ 255
 unfolding confirmStep

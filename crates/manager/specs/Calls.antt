@@ -17,7 +17,8 @@ pub data Call : Type 0 where
   Command : ℕ → List ℕ → ℕ → Call
   Keyed : List ℕ → Call
   Stored : List ℕ → ℕ → Call
-  Finished : List ℕ → ℕ → Call
+  -- AID, policy and mark
+  Finished : List ℕ → ℕ → ℕ → Call
   Tick : Call
   Lost : Call
 
@@ -26,7 +27,7 @@ abbrev pub callOf : List ℕ → ℕ → declared.Call → Call
 callOf s room (code.Command verdict bytes) = Command verdict (partOf s bytes) room
 callOf s room (code.Keyed aid) = Keyed (partOf s aid)
 callOf s room (code.Stored aid n) = Stored (partOf s aid) n
-callOf s room (code.Finished aid policy) = Finished (partOf s aid) policy
+callOf s room (code.Finished aid policy mark) = Finished (partOf s aid) policy mark
 callOf s room code.Tick = Tick
 callOf s room code.Lost = Lost
 
@@ -51,7 +52,7 @@ abbrev pub askedOf : ℕ → Call → Asked
 askedOf capacity (Command verdict s room) = fieldAsks verdict s (fieldOf s capacity)
 askedOf capacity (Keyed aid) = on aid keyed
 askedOf capacity (Stored aid n) = on aid (stored n)
-askedOf capacity (Finished aid policy) = on aid (finished policy)
+askedOf capacity (Finished aid policy mark) = on aid (finished policy mark)
 askedOf capacity Tick = tick
 askedOf capacity Lost = lost
 

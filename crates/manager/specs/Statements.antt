@@ -32,6 +32,6 @@ pub record TableParts (c : Card) (success : Status) : Type 0 where
   pub command : (verdict : ℕ) (s : List ℕ) (room : ℕ) → let call = Command verdict s room in table c call ≡ soundRow c ∷ row (bufferShort call) BufferShort ∷ (readingRows s (c .capacity) ++ cardRows c (asked c call))
   pub keyed-rows : (aid : List ℕ) → wordOf success (rowsAfter c (Keyed aid)) ≡ wordOf success (innerWork c aid keyed .rows)
   pub stored-rows : (aid : List ℕ) (n : ℕ) → wordOf success (rowsAfter c (Stored aid n)) ≡ wordOf success (innerWork c aid (stored n) .rows)
-  pub finished-rows : (aid : List ℕ) (policy : ℕ) → wordOf success (rowsAfter c (Finished aid policy)) ≡ wordOf success (innerWork c aid (finished policy) .rows)
+  pub finished-rows : (aid : List ℕ) (policy mark : ℕ) → wordOf success (rowsAfter c (Finished aid policy mark)) ≡ wordOf success (innerWork c aid (finished policy mark) .rows)
   pub tick-rows : wordOf success (rowsAfter c Tick) ≡ wordOf success (cardRows c tick)
   pub lost-rows : wordOf success (rowsAfter c Lost) ≡ wordOf success (cardRows c lost)

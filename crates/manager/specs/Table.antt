@@ -23,7 +23,7 @@ abbrev pub bufferShort : Call → Bool
 bufferShort (Command verdict s room) = ltb room leastBuffer
 bufferShort (Keyed aid) = false
 bufferShort (Stored aid n) = false
-bufferShort (Finished aid policy) = false
+bufferShort (Finished aid policy mark) = false
 bufferShort Tick = false
 bufferShort Lost = false
 
@@ -32,7 +32,7 @@ abbrev pub inCommand : (List ℕ → Bool) → Call → Bool
 inCommand test (Command verdict s room) = test s
 inCommand test (Keyed aid) = false
 inCommand test (Stored aid n) = false
-inCommand test (Finished aid policy) = false
+inCommand test (Finished aid policy mark) = false
 inCommand test Tick = false
 inCommand test Lost = false
 
@@ -41,7 +41,7 @@ abbrev pub valuesWrong : Card → Call → Bool
 valuesWrong c (Command verdict s room) = dataWrong s (c .capacity)
 valuesWrong c (Keyed aid) = innerWrong aid keyed
 valuesWrong c (Stored aid n) = innerWrong aid (stored n)
-valuesWrong c (Finished aid policy) = innerWrong aid (finished policy)
+valuesWrong c (Finished aid policy mark) = innerWrong aid (finished policy mark)
 valuesWrong c Tick = false
 valuesWrong c Lost = false
 

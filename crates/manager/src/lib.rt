@@ -35,7 +35,8 @@ pub enum Call {
     Command { verdict: u8, bytes: Part },
     Keyed(Part),
     Stored { aid: Part, n: u32 },
-    Finished { aid: Part, policy: u8 },
+    // with its policy and its mark of provisioning capability
+    Finished { aid: Part, policy: u8, mark: u8 },
     Tick,
     Lost,
 }
@@ -164,7 +165,9 @@ pub fn answer_on_sound(card: Card, call: Call, bytes: &[u8], buf: &mut [u8]) -> 
         } => { command(card, verdict, part_of(bytes, part), buf) }
         Call::Keyed(aid) => calls::keyed(card, part_of(bytes, aid)),
         Call::Stored { aid, n } => calls::stored(card, part_of(bytes, aid), n),
-        Call::Finished { aid, policy } => calls::finished(card, part_of(bytes, aid), policy),
+        Call::Finished { aid, policy, mark } => {
+            calls::finished(card, part_of(bytes, aid), policy, mark)
+        }
         Call::Tick => card.tick().answer(Status::Done, 0),
         Call::Lost => card.lost().answer(Status::Done, 0),
     }

@@ -126,7 +126,7 @@ tick-alike : (b s : List ℕ) (m n : ℕ) (call : declared.Call) → isTick (cal
 tick-alike b s m n (code.Command verdict bytes) = refl
 tick-alike b s m n (code.Keyed aid) = refl
 tick-alike b s m n (code.Stored aid k) = refl
-tick-alike b s m n (code.Finished aid policy) = refl
+tick-alike b s m n (code.Finished aid policy mark) = refl
 tick-alike b s m n code.Tick = refl
 tick-alike b s m n code.Lost = refl
 

@@ -1,6 +1,6 @@
 -- Enabling a place: what it keeps (all but life cycles) and what it changes. `Lives` relates two lists of places that differ in
 -- life cycles alone, so that each fact blind to them is two clauses. Assumes nothing.
-use mathlib.Core.Path.{_≡_, refl, ap}
+use mathlib.Core.Path.{_≡_, refl, ap, _∙_}
 use Prim.Native.Nat.{ℕ, zero, suc, _+_, _<_}
 use native.Mathlib.Omega.{arith}
 use mathlib.Core.List.{List, [], _∷_}
@@ -9,6 +9,7 @@ use lib.ListN.{length}
 use lib.Dec.{eqb}
 use borrow.Author.Tests.{eqb-true, eqb-false}
 use Rattle.isdp.specs.LifeCycle.{disabled, enabled, isEnabled, isFinished, withLife, off}
+use Rattle.isdp.specs.Provisioning.{marked, mayBeFallBack}
 use Rattle.isdp.specs.Place.{isFor, placeOk, clash}
 use Rattle.isdp.specs.declared.Isdp.{Isdp}
 use Rattle.isdp.proofs.Bools.{and-l, and-r, both}
@@ -124,5 +125,8 @@ done-case : (l : List Isdp) (i j : ℕ) (b : Bool) → eqb j i ≡ b → i < len
 done-case l i j true e h d = rw (eqb-true j i e) (rw (enable-at l i h))
 done-case l i j false e h d = rw (enable-other l i j (eqb-false j i e)) (off-done-case (at l j .life) (isEnabled (at l j)) d)
 
-pub enable-done : (l : List Isdp) (i j : ℕ) → i < length l → isFinished (at l j .life) ≡ true → isFinished (at (enableAt l i) j .life) ≡ true
-enable-done l i j h d = done-case l i j (eqb j i) refl h d
+-- so what may be the fall-back still may
+pub enable-resort : (l : List Isdp) (i j : ℕ) → i < length l → mayBeFallBack (at l j) ≡ true → mayBeFallBack (at (enableAt l i) j) ≡ true
+enable-resort l i j h d =
+    both _ _ (done-case l i j (eqb j i) refl h (and-l _ _ d))
+    (ap marked (lives-at (enable-lives l i) j) ∙ and-r (isFinished (at l j .life)) _ d)

@@ -9,7 +9,7 @@ use Rattle.isdp.specs.declared.Isdp.{Isdp}
 use Rattle.places.specs.Places.{at}
 
 abbrev pub unread : Isdp
-unread = profile (record { bytes = []; len = 0 }) 0 0 0 0
+unread = profile (record { bytes = []; len = 0 }) 0 0 0 0 0
 
 pub read : (l : List Isdp) (i : ℕ) → i < length l → getD l i unread ≡ at l i
 read [] i h = absurd (omega arith)

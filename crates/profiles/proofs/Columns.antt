@@ -1,4 +1,5 @@
--- The rows of the table stand under each other: a number of up to seven digits fills its column, and so do the state and the mark.
+-- The rows of the table stand under each other: a number of up to seven digits fills its column, and so do the state, the fall-back and
+-- the mark of provisioning capability.
 -- Assumes nothing.
 use mathlib.Core.Path.{_≡_, ap, sym}
 use Prim.Native.Nat.{ℕ, zero, suc, _+_, _*_, _/_, _≤_, _<_}
@@ -9,7 +10,7 @@ use Rattle.text.specs.Numbers.{digitsText}
 use Rattle.text.proofs.NumberLaws.{text-small}
 use Rattle.choice.proofs.Branches.{by-lt, by-eq}
 use Rattle.isdp.specs.LifeCycle.{selectable, personalized, disabled, enabled}
-use Rattle.profiles.specs.Profiles.{leadOf, columnText, stateText, markText, nameCells, figureCells, rowText, Aligned}
+use Rattle.profiles.specs.Profiles.{leadOf, columnText, stateText, fallBackText, provisioningText, nameCells, figureCells, roleCells, rowText, Aligned}
 use Rattle.profiles.proofs.Lengths.{hex-length, spaces-length}
 
 -- how many digits a number has
@@ -65,12 +66,19 @@ state-wide life =
     (λ j. by-eq (λ (l : List ℕ). length l ≡ 12) life enabled (λ k. omega arith)
     (λ k. simp (length-append, hex-length) (omega arith)))))
 
-mark-wide : (holder place : ℕ) → length (markText holder place) ≡ 9
-unfolding markText
-mark-wide holder place = by-eq (λ (l : List ℕ). length l ≡ 9) place holder (λ h. omega arith) (λ h. omega arith)
+fall-back-wide : (holder place : ℕ) → length (fallBackText holder place) ≡ 9
+unfolding fallBackText
+fall-back-wide holder place = by-eq (λ (l : List ℕ). length l ≡ 9) place holder (λ h. omega arith) (λ h. omega arith)
+
+provisioning-wide : (mark : ℕ) → length (provisioningText mark) ≡ 12
+unfolding provisioningText
+provisioning-wide mark =
+    by-eq (λ (l : List ℕ). length l ≡ 12) mark 0 (λ h. omega arith)
+    (λ h. by-eq (λ (l : List ℕ). length l ≡ 12) mark 1 (λ i. omega arith)
+    (λ i. simp (length-append, hex-length) (omega arith)))
 
 pub aligned : Aligned
-unfolding rowText nameCells figureCells
+unfolding rowText nameCells figureCells roleCells
 aligned p place holder widest h i j k =
     simp (length-append, hex-length, spaces-length)
     (omega (
@@ -79,5 +87,6 @@ aligned p place holder widest h i j k =
       state-wide (p .life),
       column-wide (p .quota) i,
       column-wide (p .used) j,
-      mark-wide holder place,
+      fall-back-wide holder place,
+      provisioning-wide (p .mark),
     ))

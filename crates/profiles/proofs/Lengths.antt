@@ -13,7 +13,7 @@ use Rattle.isdp.specs.LifeCycle.{selectable, personalized, disabled, enabled}
 use Rattle.isdp.specs.declared.Aid.{Aid}
 use Rattle.isdp.specs.declared.Isdp.{Isdp}
 use Rattle.card.specs.declared.Card.{Card}
-use Rattle.profiles.specs.Profiles.{aidText, spaces, leadOf, columnText, stateText, markText, policyText, nameCells, figureCells, rowText, placeText, rowsText, widestOf, headText, tableText, mostRow}
+use Rattle.profiles.specs.Profiles.{aidText, spaces, leadOf, columnText, stateText, fallBackText, provisioningText, policyText, nameCells, figureCells, roleCells, rowText, placeText, rowsText, widestOf, headText, tableText, mostRow}
 
 -- the pieces
 pub hex-length : (s : List ℕ) → length (hexText s) ≡ length s * 2
@@ -62,9 +62,16 @@ state-length life =
     (λ j. by-eq (λ (l : List ℕ). length l ≤ 12) life enabled (λ k. omega arith)
     (λ k. simp (length-append, hex-length) (omega arith)))))
 
-mark-length : (holder place : ℕ) → length (markText holder place) ≤ 9
-unfolding markText
-mark-length holder place = by-eq (λ (l : List ℕ). length l ≤ 9) place holder (λ h. omega arith) (λ h. omega arith)
+fall-back-length : (holder place : ℕ) → length (fallBackText holder place) ≤ 9
+unfolding fallBackText
+fall-back-length holder place = by-eq (λ (l : List ℕ). length l ≤ 9) place holder (λ h. omega arith) (λ h. omega arith)
+
+provisioning-length : (mark : ℕ) → length (provisioningText mark) ≤ 12
+unfolding provisioningText
+provisioning-length mark =
+    by-eq (λ (l : List ℕ). length l ≤ 12) mark 0 (λ h. omega arith)
+    (λ h. by-eq (λ (l : List ℕ). length l ≤ 12) mark 1 (λ i. omega arith)
+    (λ i. simp (length-append, hex-length) (omega arith)))
 
 policy-length : (policy : ℕ) → length (policyText policy) ≤ 32
 unfolding policyText
@@ -81,24 +88,23 @@ unfolding nameCells
 name-length p place widest h k =
     simp (length-append, hex-length, spaces-length) (omega (arith, column-length place))
 
-figure-length : (p : Isdp) (place holder : ℕ) → length (figureCells p place holder) ≤ 116
+figure-length : (p : Isdp) → length (figureCells p) ≤ 70
 unfolding figureCells
-figure-length p place holder =
+figure-length p =
     simp length-append
-    (omega (
-      arith,
-      state-length (p .life),
-      column-length (p .quota),
-      column-length (p .used),
-      mark-length holder place,
-      policy-length (p .policy),
-    ))
+    (omega (arith, state-length (p .life), column-length (p .quota), column-length (p .used)))
+
+role-length : (p : Isdp) (place holder : ℕ) → length (roleCells p place holder) ≤ 60
+unfolding roleCells
+role-length p place holder =
+    simp length-append
+    (omega (arith, fall-back-length holder place, provisioning-length (p .mark), policy-length (p .policy)))
 
 place-length : (p : Isdp) (place holder widest : ℕ) → length (aidOf p) ≤ widest → widest ≤ 16 → length (placeText p place holder widest) ≤ mostRow
 unfolding placeText rowText
 place-length p place holder widest h k =
     by-eq (λ (l : List ℕ). length l ≤ mostRow) (p .aid .len) 0 (λ e. omega arith)
-    (λ e. simp length-append (omega (arith, name-length p place widest h k, figure-length p place holder)))
+    (λ e. simp length-append (omega (arith, name-length p place widest h k, figure-length p, role-length p place holder)))
 
 rows-length : (holder widest place : ℕ) (l : List Isdp) → widestOf l ≤ widest → widest ≤ 16 → length (rowsText holder widest place l) ≤ length l * mostRow
 unfolding rowsText widestOf
@@ -108,13 +114,13 @@ rows-length holder widest place (p ∷ ps) h k =
     let f = rows-length holder widest (suc place) ps (omega arith) k in
     simp length-append (omega arith)
 
-head-length : (widest : ℕ) → widest ≤ 16 → length (headText widest) ≤ 93
+head-length : (widest : ℕ) → widest ≤ 16 → length (headText widest) ≤ 107
 unfolding headText
 head-length widest h =
-    by-eq (λ (l : List ℕ). length l ≤ 93) widest 0 (λ e. omega arith)
+    by-eq (λ (l : List ℕ). length l ≤ 107) widest 0 (λ e. omega arith)
     (λ e. simp (length-append, spaces-length) (omega arith))
 
-pub table-length : (c : Card) → widestOf (c .places) ≤ 16 → length (tableText c) ≤ length (c .places) * mostRow + 93
+pub table-length : (c : Card) → widestOf (c .places) ≤ 16 → length (tableText c) ≤ length (c .places) * mostRow + 107
 unfolding tableText
 table-length c h =
     simp length-append

@@ -49,8 +49,15 @@ stateText life =
     (hex8 life ++ text "          "))))
 
 -- the fall-back's mark in a column of nine
-unfoldable pub markText : ℕ → ℕ → List ℕ
-markText holder place = pick (isSame place holder) (text "yes      ") (text "         ")
+unfoldable pub fallBackText : ℕ → ℕ → List ℕ
+fallBackText holder place = pick (isSame place holder) (text "yes      ") (text "         ")
+
+-- the mark of provisioning capability in a column of twelve; one that no profile of a sound card has in hex
+unfoldable pub provisioningText : ℕ → List ℕ
+provisioningText mark =
+    pick (isSame mark 0) (text "            ")
+    (pick (isSame mark 1) (text "yes         ")
+    (hex8 mark ++ text "          "))
 
 unfoldable pub policyText : ℕ → List ℕ
 policyText policy =
@@ -61,35 +68,35 @@ policyText policy =
     (pick (isSame policy 4) (text "deleted once disabled")
     (hex8 policy)))))
 
--- the first two columns, of which the second is as wide as the longest AID, and the others
+-- the first two columns, of which the second is as wide as the longest AID; the state and the figures; the roles and rules
 unfoldable pub nameCells : Isdp → ℕ → ℕ → List ℕ
 nameCells p place widest =
     columnText place ++ text "  " ++ hexText (aidOf p) ++ spaces ((widest - length (aidOf p)) * 2)
 
-unfoldable pub figureCells : Isdp → ℕ → ℕ → List ℕ
-figureCells p place holder =
+unfoldable pub figureCells : Isdp → List ℕ
+figureCells p =
+    text "  " ++ stateText (p .life) ++ text "  " ++ columnText (p .quota) ++ text "  " ++ columnText (p .used)
+
+unfoldable pub roleCells : Isdp → ℕ → ℕ → List ℕ
+roleCells p place holder =
     text "  "
-    ++ stateText (p .life)
+    ++ fallBackText holder place
     ++ text "  "
-    ++ columnText (p .quota)
-    ++ text "  "
-    ++ columnText (p .used)
-    ++ text "  "
-    ++ markText holder place
+    ++ provisioningText (p .mark)
     ++ text "  "
     ++ policyText (p .policy)
     ++ text "\n"
 
 unfoldable pub rowText : Isdp → ℕ → ℕ → ℕ → List ℕ
-rowText p place holder widest = nameCells p place widest ++ figureCells p place holder
+rowText p place holder widest = nameCells p place widest ++ figureCells p ++ roleCells p place holder
 
 -- a place that is not held has no row
 unfoldable pub placeText : Isdp → ℕ → ℕ → ℕ → List ℕ
 placeText p place holder widest = pick (isSame (p .aid .len) 0) [] (rowText p place holder widest)
 
--- a row has 176 bytes at the most, where a number has 64 bits
+-- a row has 190 bytes at the most, where a number has 64 bits
 abbrev pub mostRow : ℕ
-mostRow = 176
+mostRow = 190
 
 -- the rows of these places, the first of which has the number `place`
 unfoldable pub rowsText : ℕ → ℕ → ℕ → List Isdp → List ℕ
@@ -101,7 +108,7 @@ abbrev pub Aligned : Type 0
 Aligned =
     (p : Isdp) (place holder widest : ℕ) →
     place < 10000000 → p .quota < 10000000 → p .used < 10000000 → length (aidOf p) ≤ widest →
-    length (rowText p place holder widest) ≡ widest * 2 + 54 + length (policyText (p .policy)) + 1
+    length (rowText p place holder widest) ≡ widest * 2 + 68 + length (policyText (p .policy)) + 1
 
 -- the bytes of the longest AID; 0 where no place is held
 unfoldable pub widestOf : List Isdp → ℕ
@@ -113,11 +120,11 @@ headText widest =
     pick (isSame widest 0) (text "  no profile is held\n")
     (text "  place  AID"
     ++ spaces (widest * 2 - 3)
-    ++ text "  state           quota     used  fall-back  policy\n")
+    ++ text "  state           quota     used  fall-back  provisioning  policy\n")
 
 unfoldable pub tableText : Card → List ℕ
 tableText c = headText (widestOf (c .places)) ++ rowsText (c .fallback) (widestOf (c .places)) 0 (c .places)
 
 -- the head, and a row for each place
 abbrev pub mostTable : ℕ
-mostTable = mostPlaces * mostRow + 93
+mostTable = mostPlaces * mostRow + 107

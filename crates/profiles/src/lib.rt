@@ -8,8 +8,9 @@ use card::Card;
 use cells::aid_size;
 pub use cells::put_aid;
 pub use cells::put_column;
-use cells::put_mark;
+use cells::put_fall_back;
 use cells::put_policy;
+use cells::put_provisioning;
 pub use cells::put_spaces;
 use cells::put_state;
 use isdp::Isdp;
@@ -18,7 +19,7 @@ ghost use mathlib.Core.Path.{_≡_};
 ghost use Prim.Native.Nat.{_-_, _*_, _≤_};
 ghost use lib.ListN.{length};
 ghost use Rattle.byte_string.specs.Put.{Wrote};
-ghost use Rattle.profiles.specs.Profiles.{spaces, nameCells, figureCells, rowText, placeText, rowsText, widestOf, headText, tableText, mostTable};
+ghost use Rattle.profiles.specs.Profiles.{spaces, nameCells, figureCells, roleCells, rowText, placeText, rowsText, widestOf, headText, tableText, mostTable};
 
 // The spaces after an AID of n bytes in a column for the widest.
 fn put_gap(widest: u8, n: u8, buf: &mut [u8], at: usize) -> usize
@@ -42,20 +43,27 @@ fn put_name_cells(p: Isdp, place: usize, widest: u8, buf: &mut [u8], at: usize) 
     put_gap(widest, n, buf, c)
 }
 
-fn put_figure_cells(p: Isdp, place: usize, holder: usize, buf: &mut [u8], at: usize) -> usize
-    ensures { λ r. ⌜ Wrote (now (buf .entry)) at (figureCells p place holder) r (now (buf .exit)) ⌝ }
+fn put_figure_cells(p: Isdp, buf: &mut [u8], at: usize) -> usize
+    ensures { λ r. ⌜ Wrote (now (buf .entry)) at (figureCells p) r (now (buf .exit)) ⌝ }
 {
     let a = put_bytes(buf, at, b"  ");
     let b = put_state(p.life, buf, a);
     let c = put_bytes(buf, b, b"  ");
     let d = put_column(p.quota as u64, buf, c);
     let e = put_bytes(buf, d, b"  ");
-    let f = put_column(p.used as u64, buf, e);
-    let g = put_bytes(buf, f, b"  ");
-    let h = put_mark(holder, place, buf, g);
-    let i = put_bytes(buf, h, b"  ");
-    let j = put_policy(p.policy, buf, i);
-    put_byte(buf, j, b'\n')
+    put_column(p.used as u64, buf, e)
+}
+
+fn put_role_cells(p: Isdp, place: usize, holder: usize, buf: &mut [u8], at: usize) -> usize
+    ensures { λ r. ⌜ Wrote (now (buf .entry)) at (roleCells p place holder) r (now (buf .exit)) ⌝ }
+{
+    let a = put_bytes(buf, at, b"  ");
+    let b = put_fall_back(holder, place, buf, a);
+    let c = put_bytes(buf, b, b"  ");
+    let d = put_provisioning(p.mark, buf, c);
+    let e = put_bytes(buf, d, b"  ");
+    let f = put_policy(p.policy, buf, e);
+    put_byte(buf, f, b'\n')
 }
 
 // A place that is not held has no row.
@@ -67,7 +75,8 @@ fn put_place(p: Isdp, place: usize, holder: usize, widest: u8, buf: &mut [u8], a
         return at;
     }
     let a = put_name_cells(p, place, widest, buf, at);
-    put_figure_cells(p, place, holder, buf, a)
+    let b = put_figure_cells(p, buf, a);
+    put_role_cells(p, place, holder, buf, b)
 }
 
 // The bytes of the longest AID.
@@ -97,7 +106,7 @@ fn put_head(widest: u8, buf: &mut [u8], at: usize) -> usize
     put_bytes(
         buf,
         b,
-        b"  state           quota     used  fall-back  policy\n",
+        b"  state           quota     used  fall-back  provisioning  policy\n",
     )
 }
 

@@ -1,5 +1,5 @@
--- "PHASE `Q`, `T:PREVIOUS:LEFT:NUMBER`, `B:LEFT:NUMBER` or `F:LEFT:NUMBER`; PLACE `-`, or `AID:STATE:QUOTA:USED:POLICY` (AID up to
--- 16 bytes or `-`, STATE two hex digits)". A field after the last one is wrong.
+-- "PHASE `Q`, `T:PREVIOUS:LEFT:NUMBER`, `B:LEFT:NUMBER` or `F:LEFT:NUMBER`; PLACE `-`, or `AID:STATE:QUOTA:USED:POLICY:MARK`
+-- (AID up to 16 bytes or `-`, STATE two hex digits)". A field after the last one is wrong.
 use Prim.Native.Nat.{ℕ, _+_}
 use mathlib.Core.List.{List}
 use mathlib.Core.Bool.{true, false}
@@ -47,9 +47,9 @@ abbrev pub onByte {ℓ} : {X : Type ℓ} → Byte → X → (ℕ → X) → X
 onByte byte.Wrong x f = x
 onByte (byte.Value b) x f = f b
 
-abbrev pub onSizes {ℓ} : {X : Type ℓ} → Sizes → X → (ℕ → ℕ → ℕ → X) → X
+abbrev pub onSizes {ℓ} : {X : Type ℓ} → Sizes → X → (ℕ → ℕ → ℕ → ℕ → X) → X
 onSizes sizes.Wrong x f = x
-onSizes (sizes.Are quota used policy) x f = f quota used policy
+onSizes (sizes.Are quota used policy mark) x f = f quota used policy mark
 
 -- a byte string that fits, by its count of bytes
 abbrev pub onRead {ℓ} : {X : Type ℓ} → HexRead → X → (ℕ → X) → X
@@ -86,24 +86,25 @@ phaseWord w =
     pick (sameBytes (part w a e) (ascii "B")) (phased.Is (Back left number))
     (pick (sameBytes (part w a e) (ascii "F")) (phased.Is (Fallen left number)) phased.Wrong)))
 
--- QUOTA:USED:POLICY
+-- QUOTA:USED:POLICY:MARK
 unfoldable pub sizesFields : List ℕ → ℕ → Sizes
 sizesFields w at =
     onField (numberField most32 w at) sizes.Wrong λ quota b.
     onField (numberField most32 w b) sizes.Wrong λ used c.
     onField (numberField most8 w c) sizes.Wrong λ policy d.
-    pick (atMost d (length w)) sizes.Wrong (sizes.Are quota used policy)
+    onField (numberField most8 w d) sizes.Wrong λ mark e.
+    pick (atMost e (length w)) sizes.Wrong (sizes.Are quota used policy mark)
 
 abbrev pub noPlace : Placed
 noPlace = record { ok = false; place = vacant }
 
--- STATE:QUOTA:USED:POLICY
+-- STATE:QUOTA:USED:POLICY:MARK
 unfoldable pub placeWith : List ℕ → ℕ → Aid → Placed
 placeWith w at aid =
     onWord (fieldAt colon w at) noPlace λ a e.
     onByte (hexByteOf (part w a e)) noPlace λ life.
-    onSizes (sizesFields w (e + 1)) noPlace λ quota used policy.
-    record { ok = true; place = profile aid life quota used policy }
+    onSizes (sizesFields w (e + 1)) noPlace λ quota used policy mark.
+    record { ok = true; place = profile aid life quota used policy mark }
 
 -- PLACE
 unfoldable pub placeWord : List ℕ → Placed

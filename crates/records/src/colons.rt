@@ -104,11 +104,16 @@ pub fn read_phase(w: &[u8]) -> Phased
 }
 
 pub enum Sizes {
-    Are { quota: u32, used: u32, policy: u8 },
+    Are {
+        quota: u32,
+        used: u32,
+        policy: u8,
+        mark: u8,
+    },
     Wrong,
 }
 
-// QUOTA:USED:POLICY, and nothing after it.
+// QUOTA:USED:POLICY:MARK, and nothing after it.
 fn sizes_at(w: &[u8], at: usize) -> Sizes
     ensures { λ r. ⌜ r ≡ sizesFields (now (w .entry)) at ⌝ }
 {
@@ -121,13 +126,17 @@ fn sizes_at(w: &[u8], at: usize) -> Sizes
     let Field::Is { n: policy, next: d } = next_number(w, c, 255) else {
         return Sizes::Wrong;
     };
-    if d <= w.len() {
+    let Field::Is { n: mark, next: e } = next_number(w, d, 255) else {
+        return Sizes::Wrong;
+    };
+    if e <= w.len() {
         return Sizes::Wrong;
     }
     Sizes::Are {
         quota,
         used,
         policy: policy as u8,
+        mark: mark as u8,
     }
 }
 
@@ -144,7 +153,7 @@ fn no_place() -> Placed
     Placed { ok: false, place }
 }
 
-// STATE:QUOTA:USED:POLICY, after the AID.
+// STATE:QUOTA:USED:POLICY:MARK, after the AID.
 fn place_with(w: &[u8], at: usize, aid: Aid) -> Placed
     ensures { λ r. ⌜ r ≡ placeWith (now (w .entry)) at aid ⌝ }
 {
@@ -158,6 +167,7 @@ fn place_with(w: &[u8], at: usize, aid: Aid) -> Placed
         quota,
         used,
         policy,
+        mark,
     } = sizes_at(w, to + 1)
     else {
         return no_place();
@@ -167,6 +177,7 @@ fn place_with(w: &[u8], at: usize, aid: Aid) -> Placed
         used,
         life,
         policy,
+        mark,
         aid,
     };
     Placed { ok: true, place }

@@ -46,7 +46,7 @@ abbrev pub partIn : declared.Call → Part
 partIn (code.Command verdict bytes) = bytes
 partIn (code.Keyed aid) = aid
 partIn (code.Stored aid n) = aid
-partIn (code.Finished aid policy) = aid
+partIn (code.Finished aid policy mark) = aid
 partIn code.Tick = record { start = 0; len = 0 }
 partIn code.Lost = record { start = 0; len = 0 }
 
@@ -55,7 +55,7 @@ abbrev pub laid : ℕ → declared.Call → declared.Call
 laid n (code.Command verdict bytes) = code.Command verdict (record { start = 0; len = n })
 laid n (code.Keyed aid) = code.Keyed (record { start = 0; len = n })
 laid n (code.Stored aid k) = code.Stored (record { start = 0; len = n }) k
-laid n (code.Finished aid policy) = code.Finished (record { start = 0; len = n }) policy
+laid n (code.Finished aid policy mark) = code.Finished (record { start = 0; len = n }) policy mark
 laid n code.Tick = code.Tick
 laid n code.Lost = code.Lost
 

@@ -10,7 +10,7 @@ use Rattle.text.specs.Numbers.{digitsOn, decimalOf}
 use Rattle.text.specs.Hex.{nibbleOf, pairsOf, isHex}
 use Rattle.records.specs.Ascii.{ascii}
 use Rattle.records.specs.Arguments.{bytesAt, valueAt}
-use Rattle.script.specs.Orders.{verbOf, counted, inner, roomAt, freshWith, freshAt, commandAt, keyedAt, storedAt, finishedAt, orderBy, orderOf}
+use Rattle.script.specs.Orders.{verbOf, counted, inner, valueOr, freshWith, freshAt, commandAt, keyedAt, storedAt, finishedAt, orderBy, orderOf}
 use Rattle.records.specs.declared.arguments.Reason.the-variants.{TooLong, UnknownWord, WordsMissing, TooManyWords, BadHex, BadNumber}
 use Rattle.manager.specs.declared.Call.the-variants.{Command, Keyed, Stored, Finished, Tick, Lost}
 use Rattle.script.specs.declared.Order.{Order}
@@ -32,7 +32,11 @@ examples =
     ∷ record { line = "command 0 - 1024"; says = order.Call (Command 0 (record { start = 10; len = 1 })) 1024 }
     ∷ record { line = "keyed A000000002"; says = inner (Keyed (record { start = 6; len = 10 })) }
     ∷ record { line = "stored A000000002 120"; says = inner (Stored (record { start = 7; len = 10 }) 120) }
-    ∷ record { line = "finished A000000002 4"; says = inner (Finished (record { start = 9; len = 10 }) 4) }
+    ∷ record { line = "finished A000000002 4"; says = inner (Finished (record { start = 9; len = 10 }) 4 1) }
+    ∷ record { line = "finished A000000002 4 0"; says = inner (Finished (record { start = 9; len = 10 }) 4 0) }
+    ∷ record { line = "finished A000000002 4 255"; says = inner (Finished (record { start = 9; len = 10 }) 4 255) }
+    ∷ record { line = "finished A000000002 4 256"; says = Wrong BadNumber }
+    ∷ record { line = "finished A000000002 4 1 1"; says = Wrong TooManyWords }
     ∷ record { line = "Tick"; says = Wrong UnknownWord }
     ∷ record { line = "keyed"; says = Wrong WordsMissing }
     ∷ record { line = "tick tick"; says = Wrong TooManyWords }
@@ -44,7 +48,7 @@ examples =
     ∷ []
 
 says-so : map (λ (e : Example). orderOf (ascii (e .line))) examples ≡ map (λ (e : Example). e .says) examples
-unfolding orderOf orderBy verbOf counted freshWith freshAt commandAt keyedAt storedAt finishedAt bytesAt valueAt roomAt pick atMost isBelow isSame before leading sameBytes wordsOn wordsOf wordFrom wordAt digitsOn decimalOf nibbleOf pairsOf isHex
+unfolding orderOf orderBy verbOf counted freshWith freshAt commandAt keyedAt storedAt finishedAt bytesAt valueAt valueOr pick atMost isBelow isSame before leading sameBytes wordsOn wordsOf wordFrom wordAt digitsOn decimalOf nibbleOf pairsOf isHex
 says-so = refl
 
 -- a line of 4,096 bytes at the most

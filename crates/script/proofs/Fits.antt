@@ -17,7 +17,7 @@ use Rattle.byte_string.specs.Bytes.{between}
 use Rattle.byte_string.specs.declared.Part.{Part}
 use Rattle.manager.specs.declared.Call.the-variants as call
 use Rattle.records.specs.Arguments.{most32, most8, onBytes, onValue, bytesAt, valueAt}
-use Rattle.script.specs.Orders.{hash, verbOf, counted, inner, roomAt, freshWith, freshAt, commandAt, keyedAt, storedAt, finishedAt, recordWords, orderBy, orderOf}
+use Rattle.script.specs.Orders.{hash, verbOf, counted, inner, valueOr, freshWith, freshAt, commandAt, keyedAt, storedAt, finishedAt, recordWords, orderBy, orderOf}
 use Rattle.script.specs.Fits.{Fits, OrderFits, OrdersFit}
 use Rattle.records.specs.declared.arguments.Reason.the-variants.{WordsMissing, BadHex}
 use Rattle.records.specs.declared.arguments.Bytes.the-variants as bytes
@@ -30,13 +30,13 @@ use Rattle.script.specs.declared.Order.the-variants as order
 use Rattle.records.proofs.Within.{value-within}
 
 module _ (s : List ℕ) where
-  room-on : (at n k : ℕ) (w : Word) → value.Is n k ≡ onWord w (value.Is 256 at) (λ a e. valueAt 1024 s at) → n ≤ 1024
-  room-on at n k word.End q = let i : n ≡ 256 = cc in omega arith
-  room-on at n k (word.Span a e) q = value-within 1024 s at n k q
+  or-on : (missing most at n k : ℕ) (w : Word) → missing ≤ most → value.Is n k ≡ onWord w (value.Is missing at) (λ a e. valueAt most s at) → n ≤ most
+  or-on missing most at n k word.End h q = let i : n ≡ missing = cc in omega arith
+  or-on missing most at n k (word.Span a e) h q = value-within most s at n k q
 
-  room-within : (at n k : ℕ) → value.Is n k ≡ roomAt s at → n ≤ 1024
-  unfolding roomAt
-  room-within at n k q = room-on at n k (wordAt s at) q
+  pub or-within : (missing most at n k : ℕ) → missing ≤ most → value.Is n k ≡ valueOr missing most s at → n ≤ most
+  unfolding valueOr
+  or-within missing most at n k h q = or-on missing most at n k (wordAt s at) h q
 
 module _ (s : List ℕ) (l : length s ≤ longest) where
   -- a reason, and an order whose words are read from left to right
@@ -82,10 +82,14 @@ module _ (s : List ℕ) (l : length s ≤ longest) where
       by-count 3 4 n _
       (by-value (valueAt most8 s at) _ λ m b q.
       by-bytes b _ λ x c h.
-      by-value (roomAt s c) _ λ room e r. (h, room-within s c room e r))
+      by-value (valueOr 256 1024 s c) _ λ room e r. (h, or-within s 256 1024 c room e (omega arith) r))
   verb-fits verb.Keyed n at = by-count 2 2 n _ (by-bytes at _ λ aid b h. (h, omega arith))
   verb-fits verb.Stored n at = by-count 3 3 n _ (by-bytes at _ λ aid b h. by-value (valueAt most32 s b) _ λ m e q. (h, omega arith))
-  verb-fits verb.Finished n at = by-count 3 3 n _ (by-bytes at _ λ aid b h. by-value (valueAt most8 s b) _ λ m e q. (h, omega arith))
+  verb-fits verb.Finished n at =
+      by-count 3 4 n _
+      (by-bytes at _ λ aid b h.
+      by-value (valueAt most8 s b) _ λ m c q.
+      by-value (valueOr 1 most8 s c) _ λ v e r. (h, omega arith))
   verb-fits verb.Tick n at = by-count 1 1 n (inner call.Tick) (tt, omega arith)
   verb-fits verb.Lost n at = by-count 1 1 n (inner call.Lost) (tt, omega arith)
   verb-fits verb.Card n at = by-count recordWords recordWords n (order.Record at) tt

@@ -26,7 +26,7 @@ abbrev pub CallFits : List ℕ → Call → Type 0
 CallFits s (call.Command verdict bytes) = Fits s bytes
 CallFits s (call.Keyed aid) = Fits s aid
 CallFits s (call.Stored aid n) = Fits s aid
-CallFits s (call.Finished aid policy) = Fits s aid
+CallFits s (call.Finished aid policy mark) = Fits s aid
 CallFits s call.Tick = Unit {0}
 CallFits s call.Lost = Unit {0}
 

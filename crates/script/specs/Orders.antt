@@ -54,16 +54,16 @@ freshAt s at =
     onBytes (bytesAt s at) order.Wrong λ eid b.
     onBytes (bytesAt s b) order.Wrong λ aid c. freshWith s c eid aid
 
--- "`command` lends a buffer of 256 bytes, or of LENGTH (0 to 1,024)"
-unfoldable pub roomAt : List ℕ → ℕ → Value
-roomAt s at = onWord (wordAt s at) (value.Is 256 at) λ a e. valueAt 1024 s at
+-- the last word, a number up to `most`, which may be missing and then counts as `missing`
+unfoldable pub valueOr : ℕ → ℕ → List ℕ → ℕ → Value
+valueOr missing most s at = onWord (wordAt s at) (value.Is missing at) λ a e. valueAt most s at
 
--- VERDICT HEX, or VERDICT HEX LENGTH
+-- VERDICT HEX, or VERDICT HEX LENGTH: "`command` lends a buffer of 256 bytes, or of LENGTH (0 to 1,024)"
 unfoldable pub commandAt : List ℕ → ℕ → Order
 commandAt s at =
     onValue (valueAt most8 s at) order.Wrong λ verdict b.
     onBytes (bytesAt s b) order.Wrong λ bytes c.
-    onValue (roomAt s c) order.Wrong λ room e. order.Call (call.Command verdict bytes) room
+    onValue (valueOr 256 1024 s c) order.Wrong λ room e. order.Call (call.Command verdict bytes) room
 
 -- a call that has no response lends no buffer
 abbrev pub inner : Call → Order
@@ -79,11 +79,12 @@ storedAt s at =
     onBytes (bytesAt s at) order.Wrong λ aid b.
     onValue (valueAt most32 s b) order.Wrong λ n e. inner (call.Stored aid n)
 
--- AID POLICY
+-- AID POLICY, or AID POLICY MARK: where MARK is missing the profile counts as marked
 unfoldable pub finishedAt : List ℕ → ℕ → Order
 finishedAt s at =
     onBytes (bytesAt s at) order.Wrong λ aid b.
-    onValue (valueAt most8 s b) order.Wrong λ policy e. inner (call.Finished aid policy)
+    onValue (valueAt most8 s b) order.Wrong λ policy c.
+    onValue (valueOr 1 most8 s c) order.Wrong λ mark e. inner (call.Finished aid policy mark)
 
 -- `card` EID CAPACITY VOLATILE LAST FALLBACK PHASE, and a word for each place
 abbrev pub recordWords : ℕ
@@ -95,7 +96,7 @@ orderBy verb.Fresh n s at = counted 7 7 n (freshAt s at)
 orderBy verb.Command n s at = counted 3 4 n (commandAt s at)
 orderBy verb.Keyed n s at = counted 2 2 n (keyedAt s at)
 orderBy verb.Stored n s at = counted 3 3 n (storedAt s at)
-orderBy verb.Finished n s at = counted 3 3 n (finishedAt s at)
+orderBy verb.Finished n s at = counted 3 4 n (finishedAt s at)
 orderBy verb.Tick n s at = counted 1 1 n (inner call.Tick)
 orderBy verb.Lost n s at = counted 1 1 n (inner call.Lost)
 orderBy verb.Card n s at = counted recordWords recordWords n (order.Record at)

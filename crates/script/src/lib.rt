@@ -14,7 +14,7 @@ use text::Word;
 use text::count_words;
 use text::next_word;
 ghost use mathlib.Core.Path.{_≡_};
-ghost use Rattle.script.specs.Orders.{verbOf, counted, inner, roomAt, freshWith, freshAt, commandAt, keyedAt, storedAt, finishedAt, orderBy, orderOf};
+ghost use Rattle.script.specs.Orders.{verbOf, counted, inner, valueOr, freshWith, freshAt, commandAt, keyedAt, storedAt, finishedAt, orderBy, orderOf};
 
 // A byte string stays in the line, where a part names the word that spells it: an enum holds no array.
 pub enum Order {
@@ -139,14 +139,17 @@ fn fresh_order(s: &[u8], at: usize) -> Order
     }
 }
 
-// The length of the buffer that a command lends.
-fn next_room(s: &[u8], at: usize) -> Value
-    ensures { λ r. ⌜ r ≡ roomAt (now (s .entry)) at ⌝ }
+// The last word, a number, which may be missing and then counts as `missing`.
+fn next_or(missing: u32, most: u32, s: &[u8], at: usize) -> Value
+    ensures { λ r. ⌜ r ≡ valueOr missing most (now (s .entry)) at ⌝ }
 {
     let Word::Span { .. } = next_word(s, at) else {
-        return Value::Is { n: 256, next: at };
+        return Value::Is {
+            n: missing,
+            next: at,
+        };
     };
-    next_value(s, at, 1024)
+    next_value(s, at, most)
 }
 
 fn command_order(s: &[u8], at: usize) -> Order
@@ -159,7 +162,7 @@ fn command_order(s: &[u8], at: usize) -> Order
             Bytes::Is {
                 part: bytes,
                 next: c,
-            } => match next_room(s, c) {
+            } => match next_or(256, 1024, s, c) {
                 Value::Wrong(why) => Order::Wrong(why),
                 Value::Is { n: room, next: _ } => {
                     let verdict = n as u8;
@@ -209,10 +212,14 @@ fn finished_order(s: &[u8], at: usize) -> Order
         Bytes::Wrong(why) => Order::Wrong(why),
         Bytes::Is { part: aid, next: b } => match next_value(s, b, 255) {
             Value::Wrong(why) => Order::Wrong(why),
-            Value::Is { n, next: _ } => {
-                let policy = n as u8;
-                inner(Call::Finished { aid, policy })
-            }
+            Value::Is { n: policy, next: c } => match next_or(1, 255, s, c) {
+                Value::Wrong(why) => Order::Wrong(why),
+                Value::Is { n: mark, next: _ } => inner(Call::Finished {
+                    aid,
+                    policy: policy as u8,
+                    mark: mark as u8,
+                }),
+            },
         },
     }
 }
@@ -226,7 +233,7 @@ fn order_by(verb: Verb, n: usize, s: &[u8], at: usize) -> Order
         Verb::Command => counted(3, 4, n, command_order(s, at)),
         Verb::Keyed => counted(2, 2, n, keyed_order(s, at)),
         Verb::Stored => counted(3, 3, n, stored_order(s, at)),
-        Verb::Finished => counted(3, 3, n, finished_order(s, at)),
+        Verb::Finished => counted(3, 4, n, finished_order(s, at)),
         Verb::Tick => counted(1, 1, n, inner(Call::Tick)),
         Verb::Lost => counted(1, 1, n, inner(Call::Lost)),
         Verb::Card => counted(RECORD, RECORD, n, Order::Record(at)),

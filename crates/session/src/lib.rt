@@ -99,7 +99,11 @@ fn laid(n: usize, call: Call) -> Call
         },
         Call::Keyed(_) => Call::Keyed(front),
         Call::Stored { n, .. } => Call::Stored { aid: front, n },
-        Call::Finished { policy, .. } => Call::Finished { aid: front, policy },
+        Call::Finished { policy, mark, .. } => Call::Finished {
+            aid: front,
+            policy,
+            mark,
+        },
         Call::Tick => Call::Tick,
         Call::Lost => Call::Lost,
     }

@@ -24,7 +24,7 @@ use Rattle.places.proofs.Sets.{set-quotas, set-distinct, all-at}
 use Rattle.card.specs.Cards.{profileOf, freePlace, filled}
 use Rattle.card.specs.declared.Card.{Card}
 use Rattle.card.specs.declared.Phase.the-variants.{Quiet}
-use Rattle.card.proofs.Sounds.{Sound, done-nonzero}
+use Rattle.card.proofs.Sounds.{Sound, resort-nonzero}
 use Rattle.card.proofs.Rewrites.{sets}
 
 -- an AID that no place bears
@@ -80,10 +80,10 @@ creates c aid quota s q ok low fits free k =
     let m = empty (c .capacity) (at l t) (not-true (held (at l t)) (seek-below isFree l k)) (all-at (placeOk (c .capacity)) l t k (s .placed .each)) in
     let life : at l t .life ≡ 0 = eqb-true _ _ (and-l (eqb (at l t .life) 0) _ m) in
     let z : at l t .quota ≡ 0 = eqb-true _ _ (and-l (eqb (at l t .quota) 0) _ (and-r (eqb (at l t .life) 0) _ m)) in
-    let n : c .fallback ≡ t → ⊥ = λ w. done-nonzero (at l (c .fallback) .life) (s .roles .resort) (ap (λ (i : ℕ). at l i .life) w ∙ life) in
+    let n : c .fallback ≡ t → ⊥ = λ w. resort-nonzero c s (ap (λ (i : ℕ). at l i .life) w ∙ life) in
     let a = never l aid free in
     sets c t x (c .phase) s
-    (made-ok aid selectable quota 0 ok (c .capacity) refl (le-leb 1 quota low) (le-leb quota (c .capacity) (omega arith)) (le-leb 0 quota (omega arith)))
+    (made-ok aid selectable quota 0 ok (c .capacity) 0 refl refl (le-leb 1 quota low) (le-leb quota (c .capacity) (omega arith)) (le-leb 0 quota (omega arith)))
     (rw life)
     (set-distinct x l t (any-less (clash x) (isFor aid) (new-first aid quota ok) l a) (any-less (λ p. clash p x) (isFor aid) (new-second aid quota ok) l a) (s .placed .apart))
     (let r = set-quotas x l t k in omega arith)

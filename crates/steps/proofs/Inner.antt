@@ -6,6 +6,7 @@ use mathlib.Core.Bool.{true, false}
 use lib.Dec.{leb, eqb}
 use borrow.Author.Tests.{eqb-false, ne-eqb}
 use Rattle.isdp.specs.Policy.{policyOk}
+use Rattle.isdp.specs.Provisioning.{markOk}
 use Rattle.isdp.specs.LifeCycle.{selectable, personalized, isEnabled, isFinished, withLife, withUsed, finish}
 use Rattle.isdp.specs.Place.{lifeOk, placeOk}
 use Rattle.isdp.specs.declared.Isdp.{Isdp}
@@ -39,13 +40,13 @@ module _ (c : Card) (i v : ℕ) (s : Sound c) (e : at (c .places) i .life ≡ v)
   fuller u q l =
       let k = parted in
       placed-ok (c .capacity) (withUsed p u) (rw e q)
-      (record { wide = k .wide; there = k .there; five = k .five; sixteen = k .sixteen; some = k .some; most = k .most; fits = l; rule = k .rule; ended = k .ended })
+      (record { wide = k .wide; there = k .there; five = k .five; sixteen = k .sixteen; some = k .some; most = k .most; fits = l; rule = k .rule; mark = k .mark; ended = k .ended })
 
-  finisher : (b : ℕ) → policyOk b ≡ true → placeOk (c .capacity) (finish p b) ≡ true
-  finisher b l =
+  finisher : (b m : ℕ) → policyOk b ≡ true → markOk m ≡ true → placeOk (c .capacity) (finish p b m) ≡ true
+  finisher b m l o =
       let k = parted in
-      placed-ok (c .capacity) (finish p b) refl
-      (record { wide = k .wide; there = k .there; five = k .five; sixteen = k .sixteen; some = k .some; most = k .most; fits = k .fits; rule = l; ended = k .ended })
+      placed-ok (c .capacity) (finish p b m) refl
+      (record { wide = k .wide; there = k .there; five = k .five; sixteen = k .sixteen; some = k .some; most = k .most; fits = k .fits; rule = l; mark = o; ended = k .ended })
 
 pub keyed-at : (c : Card) (i : ℕ) → Sound c → at (c .places) i .life ≡ selectable → Sound (rewritten c i (withLife (at (c .places) i) personalized))
 keyed-at c i s e =
@@ -58,7 +59,7 @@ stored-at c i u s e l =
     let w : isEnabled (withUsed (at (c .places) i) u) ≡ false = rw e in
     rewrites c i (withUsed (at (c .places) i) u) s (there c i personalized s e refl) d w (fuller c i personalized s e refl u refl l) refl refl
 
-pub finished-at : (c : Card) (i b : ℕ) → Sound c → at (c .places) i .life ≡ personalized → policyOk b ≡ true → Sound (rewritten c i (finish (at (c .places) i) b))
-finished-at c i b s e l =
+pub finished-at : (c : Card) (i b m : ℕ) → Sound c → at (c .places) i .life ≡ personalized → policyOk b ≡ true → markOk m ≡ true → Sound (rewritten c i (finish (at (c .places) i) b m))
+finished-at c i b m s e l o =
     let d : isFinished (at (c .places) i .life) ≡ false = rw e in
-    rewrites c i (finish (at (c .places) i) b) s (there c i personalized s e refl) d refl (finisher c i personalized s e refl b l) refl refl
+    rewrites c i (finish (at (c .places) i) b m) s (there c i personalized s e refl) d refl (finisher c i personalized s e refl b m l o) refl refl

@@ -10,6 +10,7 @@ use borrow.Author.Tests.{eqb-true, leb-true, ltb-true, not-true, not-false}
 use Rattle.isdp.specs.Sizes.{mostPlaces}
 use Rattle.isdp.specs.Aids.{aidOk}
 use Rattle.isdp.specs.Policy.{policyOk}
+use Rattle.isdp.specs.Provisioning.{markOk}
 use Rattle.isdp.specs.LifeCycle.{disabled, personalized, isEnabled}
 use Rattle.isdp.proofs.Bools.{and-l, and-r, or-l, or-r}
 use Rattle.places.specs.Places.{at}
@@ -45,7 +46,7 @@ LegalAct setFallBack = Unit {0}
 LegalAct (status life fallback) = Unit {0}
 LegalAct keyed = Unit {0}
 LegalAct (stored n) = Unit {0}
-LegalAct (finished policy) = policyOk policy ≡ true
+LegalAct (finished policy mark) = (policyOk policy && markOk mark) ≡ true
 
 abbrev pub Legal : Card → Asked → Type 0
 Legal c unread = Unit {0}
@@ -85,8 +86,8 @@ module _ (c : Card) (aid : List ℕ) (s : sound c ≡ true) where
   act-kept keyed h p = whole _ (keyed-at c (placeOf c aid) (parts c s) (eqb-true _ _ (not-false _ (p .state))))
   act-kept (stored n) h p =
       whole _ (stored-at c (placeOf c aid) (profileOf c aid .used + n) (parts c s) (eqb-true _ _ (not-false _ (p .state))) (not-false _ (p .room)))
-  act-kept (finished policy) h p =
-      whole _ (finished-at c (placeOf c aid) policy (parts c s) (eqb-true _ _ (and-l (eqb (profileOf c aid .life) personalized) _ (not-false _ (p .state)))) h)
+  act-kept (finished policy mark) h p =
+      whole _ (finished-at c (placeOf c aid) policy mark (parts c s) (eqb-true _ _ (and-l (eqb (profileOf c aid .life) personalized) _ (not-false _ (p .state)))) (and-l _ _ h) (and-r (policyOk policy) _ h))
 
   create-kept : (quota : ℕ) → Sizes c aid quota → Passed c (create aid quota) → sound (stepOf c (create aid quota) .card) ≡ true
   create-kept quota h p =

@@ -15,7 +15,8 @@ pub data Act : Type 0 where
   status : Bool → Bool → Act
   keyed : Act
   stored : ℕ → Act
-  finished : ℕ → Act
+  -- policy and mark
+  finished : ℕ → ℕ → Act
 
 pub data Asked : Type 0 where
   -- a command that cannot be read asks nothing

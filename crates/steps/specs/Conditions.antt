@@ -9,7 +9,8 @@ use Rattle.status.specs.declared.Status.the-variants.{DataWrong, StateWrong, No
 use Rattle.isdp.specs.Sizes.{mostPlaces}
 use Rattle.isdp.specs.Aids.{aidOk}
 use Rattle.isdp.specs.Policy.{policyOk, forbidsDisabling, forbidsDeletion}
-use Rattle.isdp.specs.LifeCycle.{selectable, personalized, disabled, isEnabled, isFinished}
+use Rattle.isdp.specs.LifeCycle.{selectable, personalized, disabled, isEnabled}
+use Rattle.isdp.specs.Provisioning.{markOk, mayBeFallBack}
 use Rattle.isdp.specs.Place.{held}
 use Rattle.places.specs.Places.{at}
 use Rattle.card.specs.Cards.{isQuiet, placeOf, profileOf, enabledPlace, freePlace, freeIn, mayBeDeleted}
@@ -17,7 +18,8 @@ use Rattle.card.specs.Clock.{outstanding}
 use Rattle.card.specs.declared.Card.{Card}
 use Rattle.steps.specs.Asked.{Act, Act.enable, Act.disable, Act.delete, Act.masterDelete, Act.setFallBack, Act.status, Act.keyed, Act.stored, Act.finished, Asked, Asked.unread, Asked.create, Asked.on, Asked.confirm, Asked.statusOfAll, Asked.getData, Asked.tick, Asked.lost}
 
--- "6A 80: .. inner call's values wrong": "An AID handed to an inner call is wrong unless it has 5 to 16 bytes", the policy unless Table 70 has it
+-- "6A 80: .. inner call's values wrong": "An AID handed to an inner call is wrong unless it has 5 to 16 bytes", the policy unless Table 70 has it,
+-- the mark unless it is 0 or 1
 abbrev pub innerWrong : List ℕ → Act → Bool
 innerWrong aid enable = false
 innerWrong aid disable = false
@@ -27,7 +29,7 @@ innerWrong aid setFallBack = false
 innerWrong aid (status life fallback) = false
 innerWrong aid keyed = not (aidOk aid)
 innerWrong aid (stored n) = not (aidOk aid)
-innerWrong aid (finished policy) = not (aidOk aid && policyOk policy)
+innerWrong aid (finished policy mark) = not (aidOk aid && (policyOk policy && markOk mark))
 
 -- "69 85: a change is open, for create, enable, disable, delete, master delete, set fall-back; none is open, for confirmation"
 abbrev pub asksForQuiet : Act → Bool
@@ -39,7 +41,7 @@ asksForQuiet setFallBack = true
 asksForQuiet (status life fallback) = false
 asksForQuiet keyed = false
 asksForQuiet (stored n) = false
-asksForQuiet (finished policy) = false
+asksForQuiet (finished policy mark) = false
 
 abbrev pub changeWrong : Card → Asked → Bool
 changeWrong c unread = false
@@ -73,17 +75,18 @@ alreadyHeld c getData = false
 alreadyHeld c tick = false
 alreadyHeld c lost = false
 
--- "69 85: target in the wrong state (steps below)": "Keyed: SELECTABLE", "Stored n: PERSONALIZED only", "Finished ..: PERSONALIZED, used over 0"
+-- "69 85: target in the wrong state (steps below)": "Keyed: SELECTABLE", "Stored n: PERSONALIZED only", "Finished ..: PERSONALIZED, used over 0";
+-- request 2026-02: "69 85 for set fall-back on an unmarked target, among the wrong-state tests"
 abbrev pub actStateWrong : Card → List ℕ → Act → Bool
 actStateWrong c aid enable = not (eqb (profileOf c aid .life) disabled)
 actStateWrong c aid disable = not (isEnabled (profileOf c aid) && not (eqb (placeOf c aid) (c .fallback)))
 actStateWrong c aid delete = not (mayBeDeleted c (placeOf c aid))
 actStateWrong c aid (masterDelete verdict) = not (mayBeDeleted c (placeOf c aid))
-actStateWrong c aid setFallBack = not (isFinished (profileOf c aid .life))
+actStateWrong c aid setFallBack = not (mayBeFallBack (profileOf c aid))
 actStateWrong c aid (status life fallback) = false
 actStateWrong c aid keyed = not (eqb (profileOf c aid .life) selectable)
 actStateWrong c aid (stored n) = not (eqb (profileOf c aid .life) personalized)
-actStateWrong c aid (finished policy) = not (eqb (profileOf c aid .life) personalized && ltb 0 (profileOf c aid .used))
+actStateWrong c aid (finished policy mark) = not (eqb (profileOf c aid .life) personalized && ltb 0 (profileOf c aid .used))
 
 abbrev pub stateWrong : Card → Asked → Bool
 stateWrong c unread = false
@@ -105,7 +108,7 @@ actForbidden c aid setFallBack = false
 actForbidden c aid (status life fallback) = false
 actForbidden c aid keyed = false
 actForbidden c aid (stored n) = false
-actForbidden c aid (finished policy) = false
+actForbidden c aid (finished policy mark) = false
 
 abbrev pub policyForbids : Card → Asked → Bool
 policyForbids c unread = false
@@ -127,7 +130,7 @@ actVerdictWrong setFallBack = false
 actVerdictWrong (status life fallback) = false
 actVerdictWrong keyed = false
 actVerdictWrong (stored n) = false
-actVerdictWrong (finished policy) = false
+actVerdictWrong (finished policy mark) = false
 
 abbrev pub verdictWrong : Asked → Bool
 verdictWrong unread = false
@@ -149,7 +152,7 @@ actNoRoom c aid setFallBack = false
 actNoRoom c aid (status life fallback) = false
 actNoRoom c aid keyed = false
 actNoRoom c aid (stored n) = not (leb (profileOf c aid .used + n) (profileOf c aid .quota))
-actNoRoom c aid (finished policy) = false
+actNoRoom c aid (finished policy mark) = false
 
 abbrev pub noRoom : Card → Asked → Bool
 noRoom c unread = false

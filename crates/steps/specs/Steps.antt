@@ -35,10 +35,10 @@ actStep c aid (masterDelete verdict) = stepTo c (cleared c (placeOf c aid)) noAi
 -- "Set fall-back: .. Naming the holder changes nothing"
 actStep c aid setFallBack = stepTo c (withFallback c (placeOf c aid)) noAid
 actStep c aid (status life fallback) = still c
--- "Keyed: .. to PERSONALIZED", "Stored n: .. used grows by n (0 allowed)", "Finished with a policy: .. to DISABLED"
+-- "Keyed: .. to PERSONALIZED", "Stored n: .. used grows by n (0 allowed)", "Finished with a policy" and a mark: ".. to DISABLED"
 actStep c aid keyed = stepTo c (rewritten c (placeOf c aid) (withLife (profileOf c aid) personalized)) noAid
 actStep c aid (stored n) = stepTo c (rewritten c (placeOf c aid) (withUsed (profileOf c aid) (profileOf c aid .used + n))) noAid
-actStep c aid (finished policy) = stepTo c (rewritten c (placeOf c aid) (finish (profileOf c aid) policy)) noAid
+actStep c aid (finished policy mark) = stepTo c (rewritten c (placeOf c aid) (finish (profileOf c aid) policy mark)) noAid
 
 abbrev pub stepOf : Card → Asked → Step
 stepOf c unread = still c
@@ -61,7 +61,7 @@ actResponse c aid setFallBack = []
 actResponse c aid (status life fallback) = oneStatus c (placeOf c aid) life fallback
 actResponse c aid keyed = []
 actResponse c aid (stored n) = []
-actResponse c aid (finished policy) = []
+actResponse c aid (finished policy mark) = []
 
 abbrev pub responseOf : Card → Asked → List ℕ
 responseOf c unread = []

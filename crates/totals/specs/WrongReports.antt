@@ -39,7 +39,7 @@ namedOn c aid setFallBack last = last
 namedOn c aid (status life fallback) last = last
 namedOn c aid keyed last = last
 namedOn c aid (stored n) last = last
-namedOn c aid (finished policy) last = last
+namedOn c aid (finished policy mark) last = last
 
 abbrev pub namedBy : Card → Asked → Aid → Aid
 namedBy c unread last = last

@@ -1,11 +1,12 @@
 -- `calls::finished`: the rows of the values, the target and its state, each passed or stopped at.
-use mathlib.Core.Path.{_≡_}
+use mathlib.Core.Path.{_≡_, _∙_}
 use mathlib.Core.Bool.{Bool, true, false, _&&_}
 use lib.Dec.{ltb, eqb}
 use borrow.Author.Tests.{not-true, not-false}
 use Rattle.status.specs.Rows.{wordOf}
 use Rattle.isdp.specs.Aids.{aidOk}
 use Rattle.isdp.specs.Policy.{policyOk}
+use Rattle.isdp.specs.Provisioning.{markOk}
 use Rattle.isdp.specs.LifeCycle.{personalized}
 use Rattle.isdp.specs.declared.Isdp.{Isdp}
 use Rattle.card.specs.Cards.{profileOf}
@@ -18,13 +19,20 @@ use Rattle.calls.proofs.finished.Statement.{statement}
 use Rattle.calls.proofs.finished.Tie as tie
 
 abbrev start : tie.Else1 → tie.Start
-start c = c .before .before .before .before
+start c = c .before .before .before .before .before
 
 abbrev finishable : Isdp → Bool
 finishable p = eqb (p .life) personalized && ltb 0 (p .used)
 
-right : (c : tie.Else1) → (aidOk (start c .args .aid .now) && policyOk (start c .args .policy)) ≡ true
-right c = rw (← (c .before .policy-ok .ensures), ← (c .before .before .aid-ok .ensures)) (not-false _ (c .if1 .left))
+abbrev valuesOk : tie.Start → Bool
+valuesOk s = aidOk (s .args .aid .now) && (policyOk (s .args .policy) && markOk (s .args .mark))
+
+-- the tests by their promises
+values : (m : tie.After-mark-ok) → valuesOk (m .before .before .before) ≡ (m .before .before .aid-ok .result && (m .before .policy-ok .result && m .mark-ok .result))
+values m = rw (← (m .mark-ok .ensures), ← (m .before .policy-ok .ensures), ← (m .before .before .aid-ok .ensures))
+
+right : (c : tie.Else1) → valuesOk (start c) ≡ true
+right c = values (c .before .before) ∙ not-false _ (c .if1 .left)
 
 abbrev asking : tie.After-known-told → tie.Else1
 asking c = c .before .before .before .before
@@ -38,9 +46,7 @@ profile c = read (target (c .before)) (c .profile .ensures)
 returns : tie.Need-returns
 unfolding wordOf
 returns c =
-    let s = c .before .before .before .before .before in
-    let w : (aidOk (s .args .aid .now) && policyOk (s .args .policy)) ≡ false = rw (← (c .before .before .policy-ok .ensures), ← (c .before .before .before .aid-ok .ensures)) (not-true _ (c .before .if1 .taken)) in
-    rw w (c .refused .ensures)
+    rw (values (c .before .before .before) ∙ not-true _ (c .before .if1 .taken)) (c .refused .ensures)
 
 returns-2 : tie.Need-returns-2
 unfolding wordOf
@@ -66,7 +72,7 @@ returns-4 c =
     let k = p .before in
     let y : finishable (p .profile .result) ≡ true = not-false _ (e .if2 .left) in
     let s = start (asking k) .args in
-    accepts (s .card) (innerWork (s .card) (s .aid .now) (finished (s .policy)))
+    accepts (s .card) (innerWork (s .card) (s .aid .now) (finished (s .policy) (s .mark)))
     (rw (right (asking k), target k .there, profile p, y))
     (rw (a .rewritten .ensures, a .before .finish .ensures, profile p, target k .place))
     (c .before .before .none .ensures)
@@ -77,6 +83,7 @@ pub finished-spec : {M : Type 1} → statement M
 finished-spec =
     tie.close
     (tie.spec
+    (λ c κs. search needs)
     (λ c κs. search needs)
     (λ c κs. search needs)
     (λ c κs. search needs)

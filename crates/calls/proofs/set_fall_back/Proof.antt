@@ -3,7 +3,6 @@ use mathlib.Core.Path.{_≡_, sym, _∙_}
 use mathlib.Core.Bool.{true, false}
 use borrow.Author.Tests.{not-true, not-false}
 use Rattle.status.specs.Rows.{wordOf}
-use Rattle.isdp.specs.LifeCycle.{isFinished}
 use Rattle.card.specs.Cards.{isQuiet, profileOf}
 use Rattle.steps.specs.Asked.{Act.setFallBack, Asked.on}
 use Rattle.steps.specs.Steps.{askedWork}
@@ -42,21 +41,21 @@ returns-2 c =
 returns-3 : tie.Need-returns-3
 unfolding wordOf
 returns-3 c =
-    let p = c .before .before .before .before in
+    let m = c .before .before in
+    let p = m .before in
     let k = p .before in
-    let n : isFinished (p .profile .result .life) ≡ false = not-true _ (c .before .if2 .taken) in
-    rw (quiet (asking k), target k .there, profile p, n) (c .refused3 .ensures)
+    rw (quiet (asking k), target k .there, profile p, sym (m .may-be-fall-back .ensures) ∙ not-true _ (c .before .if2 .taken)) (c .refused3 .ensures)
 
 returns-4 : tie.Need-returns-4
 unfolding wordOf
 returns-4 c =
     let a = c .before .before .before in
-    let p = a .before .before .before .before in
+    let m = a .before .before in
+    let p = m .before in
     let k = p .before in
-    let y : isFinished (p .profile .result .life) ≡ true = not-false _ (a .before .if2 .left) in
     let s = start (asking k) .args in
     accepts (s .card) (askedWork (s .card) (on (s .aid .now) setFallBack))
-    (rw (quiet (asking k), target k .there, profile p, y))
+    (rw (quiet (asking k), target k .there, profile p, sym (m .may-be-fall-back .ensures) ∙ not-false _ (a .before .if2 .left)))
     (rw (a .with-fallback .ensures, target k .place))
     (c .before .before .none .ensures)
     (c .before .step-since .ensures)
@@ -74,6 +73,7 @@ set-fall-back-spec =
     (λ c. search needs)
     (λ c κs. search needs)
     returns-2
+    (λ c κs. search needs)
     (λ c κs. search needs)
     (λ c κs. search needs)
     returns-3

@@ -54,6 +54,24 @@ enum-told-6 c = search needs
 enum-told-7 : tie.Need-enum-told-7
 enum-told-7 c = search needs
 
+add-part-4 : tie.Need-add-part-4
+add-part-4 c = search needs
+
+part-requires-5 : tie.Need-part-requires-5
+part-requires-5 c κs = search needs
+
+byte-at-requires-3 : tie.Need-byte-at-requires-3
+byte-at-requires-3 c κs = search needs
+
+add-byte-at : tie.Need-add-byte-at
+add-byte-at c = search needs
+
+byte-at-requires-4 : tie.Need-byte-at-requires-4
+byte-at-requires-4 c κs = search needs
+
+enum-told-8 : tie.Need-enum-told-8
+enum-told-8 c = search needs
+
 returns : tie.Need-returns
 returns c = rw (c .before .before .enum-told .given .1, c .before .byte-at .ensures, c .part .ensures)
 
@@ -73,7 +91,10 @@ returns-6 : tie.Need-returns-6
 returns-6 c = search needs
 
 returns-7 : tie.Need-returns-7
-returns-7 c = search needs
+returns-7 c = rw (c .before .before .before .enum-told7 .given .1, c .before .before .part5 .ensures, c .before .byte-at3 .ensures, c .byte-at4 .ensures)
+
+returns-8 : tie.Need-returns-8
+returns-8 c = search needs
 
 pub call-in-spec : {M : Type 1} → statement M
 call-in-spec =
@@ -96,10 +117,17 @@ call-in-spec =
     enum-told-5
     enum-told-6
     enum-told-7
+    add-part-4
+    part-requires-5
+    byte-at-requires-3
+    add-byte-at
+    byte-at-requires-4
+    enum-told-8
     returns
     returns-2
     returns-3
     returns-4
     returns-5
     returns-6
-    returns-7)
+    returns-7
+    returns-8)

@@ -24,7 +24,7 @@ use Rattle.card.specs.declared.Kind.the-variants.{RolledBack}
 use Rattle.card.specs.declared.Phase.{Phase}
 use Rattle.card.specs.declared.Phase.the-variants.{Quiet, Trial, Back, Fallen}
 use Rattle.card.proofs.Counts.{after, counted}
-use Rattle.card.proofs.Sounds.{Phased, Sound, parts, whole, nonzero, done-nonzero, falls, tick-sound}
+use Rattle.card.proofs.Sounds.{Phased, Sound, parts, whole, nonzero, resort-nonzero, falls, tick-sound}
 use Rattle.steps.specs.Asked.{Asked.tick, Asked.lost}
 use Rattle.steps.specs.Steps.{askedWork}
 use Rattle.steps.specs.Laws.Answer.{profileAt, Enabled, Answers, Still, rephased, entered}
@@ -49,7 +49,7 @@ to-come d ticks s q = counted d s ∙ q
 fallen-entered : (c : Card) (e : ℕ) → Sound c → Enabled c e → FallenEntered c e (accepted Done (stepTo c (fallen c) noAid) [])
 unfolding ticksByPhase
 fallen-entered c e s v =
-    let n = within (c .places) (c .fallback) (done-nonzero (profileAt c (c .fallback) .life) (s .roles .resort)) in
+    let n = within (c .places) (c .fallback) (resort-nonzero c s) in
     enters c (c .fallback) n e (Fallen wait (nextOf (c .last))) 10 s v (counted (fallen c) (whole _ (falls c s)))
 
 module _ (c : Card) (e : ℕ) (s : sound c ≡ true) (v : Enabled c e) where

@@ -1,12 +1,15 @@
 -- Set fall-back: the rows are the law's conditions; of the holder they pass on every sound Quiet card, and the card is as it was.
 -- Assumes nothing.
-use mathlib.Core.Path.{_≡_, refl, sym, ap, subst}
+use mathlib.Core.Path.{_≡_, refl, sym, subst}
 use Prim.Native.Nat.{ℕ}
 use mathlib.Core.List.{List, []}
-use mathlib.Core.Bool.{not}
-use borrow.Author.Tests.{not-false}
+use mathlib.Core.Bool.{true}
+use borrow.Author.Tests.{eqb-true, not-false}
 use Rattle.status.specs.declared.Status.the-variants.{Done}
 use Rattle.isdp.specs.Aids.{noAid}
+use Rattle.isdp.specs.LifeCycle.{isFinished}
+use Rattle.isdp.specs.Provisioning.{mayBeFallBack}
+use Rattle.isdp.proofs.Bools.{and-l, and-r}
 use Rattle.card.specs.Cards.{placeOf, withFallback}
 use Rattle.card.specs.Sound.{sound}
 use Rattle.card.specs.Steps.{stepTo}
@@ -15,7 +18,7 @@ use Rattle.card.specs.declared.Card.{Card}
 use Rattle.card.specs.declared.Phase.the-variants.{Quiet}
 use Rattle.card.proofs.Sounds.{parts}
 use Rattle.steps.specs.Asked.{Act.setFallBack, Asked.on}
-use Rattle.steps.specs.Laws.Answer.{Holds, Answers, Still}
+use Rattle.steps.specs.Laws.Answer.{profileAt, Holds, Answers, Still}
 use Rattle.steps.specs.Laws.FallBack.{MayBeFallBack, fallsBackTo, SetFallBackLaw}
 use Rattle.steps.proofs.Rows.{Passed}
 use Rattle.steps.proofs.Kept.{quietly}
@@ -26,20 +29,25 @@ falls-back : (c : Card) (t : ℕ) → c .phase ≡ Quiet → Answers c (fallsBac
 falls-back c t q =
     answers c (fallsBackTo c t) (c .places) noAid refl (λ i. refl) (no-notice c (withFallback c t) refl) (none-to-come (withFallback c t) q)
 
+-- the test by its two parts
+may-be : (c : Card) (t : ℕ) → c .phase ≡ Quiet → mayBeFallBack (profileAt c t) ≡ true → MayBeFallBack c t
+may-be c t q m =
+    record { none-open = q; disabled-or-enabled = and-l _ _ m; is-marked = eqb-true _ _ (and-r (isFinished (profileAt c t .life)) _ m) }
+
 passes : (c : Card) (aid : List ℕ) → Holds c aid (placeOf c aid) → MayBeFallBack c (placeOf c aid) → Passed c (on aid setFallBack)
-passes c aid h m = held-passes c aid setFallBack h (rw (m .none-open)) (ap not (m .disabled-or-enabled)) refl refl refl
+passes c aid h m = held-passes c aid setFallBack h (rw (m .none-open)) (rw (m .disabled-or-enabled, m .is-marked)) refl refl refl
 
 pub set-fall-back-law : SetFallBackLaw
 set-fall-back-law c aid s =
     record {
       target =
           command-law c aid setFallBack (MayBeFallBack c) (λ t. Answers c (fallsBackTo c t)) s
-          (λ p. record { none-open = quietly (c .phase) (p .change); disabled-or-enabled = not-false _ (p .state) })
+          (λ p. may-be c (placeOf c aid) (quietly (c .phase) (p .change)) (not-false _ (p .state)))
           (λ h m. (passes c aid h m, falls-back c (placeOf c aid) (m .none-open)));
       holder =
           λ q h.
           let e = place-is c aid (c .fallback) (parts c s) h in
-          let m : MayBeFallBack c (c .fallback) = record { none-open = q; disabled-or-enabled = parts c s .roles .resort } in
+          let m = may-be c (c .fallback) q (parts c s .roles .resort) in
           let r = asked-taken c (on aid setFallBack) s (passes c aid (subst (Holds c aid) (sym e) h) (subst (MayBeFallBack c) (sym e) m)) in
           subst (Still c []) (sym r) (rw e (still c [] s));
     }

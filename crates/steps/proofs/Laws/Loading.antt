@@ -10,8 +10,9 @@ use lib.Dec.{eqb}
 use borrow.Author.Tests.{eqb-true, leb-true, le-leb, ltb-true, lt-ltb, not-false}
 use Rattle.status.specs.declared.Status.the-variants.{Done}
 use Rattle.isdp.specs.Sizes.{leastAid, mostAid}
+use Rattle.isdp.specs.Policy.{policyOk}
 use Rattle.isdp.specs.Aids.{aidOk, aidOf, noAid}
-use Rattle.isdp.specs.LifeCycle.{selectable, personalized, disabled, enabled, isEnabled, withLife, withUsed, withPolicy, finish}
+use Rattle.isdp.specs.LifeCycle.{selectable, personalized, disabled, enabled, isEnabled, withLife, withUsed, withPolicy, withMark, finish}
 use Rattle.isdp.specs.declared.Isdp.{Isdp}
 use Rattle.isdp.proofs.Bools.{and-l, and-r}
 use Rattle.isdp.proofs.Placed.{Placed}
@@ -99,20 +100,23 @@ stored-law c aid n s =
     ))
 
 pub finished-law : FinishedLaw
-finished-law c aid policy s =
+finished-law c aid policy mark s =
     let i = placeOf c aid in
     let p = profileOf c aid in
-    inner-law c aid (finished policy) (MayFinish c policy) (Loaded c (λ j. withPolicy (withLife (profileAt c j) disabled) policy)) s
+    inner-law c aid (finished policy mark) (MayFinish c policy mark) (Loaded c (λ j. withMark (withPolicy (withLife (profileAt c j) disabled) policy) mark)) s
     (λ v r.
     let a = not-false _ (r .state) in
+    let b = and-r (aidOk aid) _ (not-false _ v) in
     record {
-      legal = and-r (aidOk aid) _ (not-false _ v);
+      legal = and-l _ _ b;
+      zero-or-one = leb-true mark 1 (and-r (policyOk policy) _ b);
       is-personalized = eqb-true _ _ (and-l (eqb (p .life) personalized) _ a);
       used-over-0 = ltb-true 0 (p .used) (and-r (eqb (p .life) personalized) _ a);
     })
     (λ h m.
-    let e = m .is-personalized in (
-      rw (aid-ok c aid s personalized h e refl, m .legal),
-      held-passes c aid (finished policy) h refl (rw (e, lt-ltb 0 (p .used) (m .used-over-0))) refl refl refl,
-      loads c i (finish p policy) (inside c aid s h) (sym (off c aid s personalized e refl)) (finished-at c i policy (parts c s) e (m .legal)),
+    let e = m .is-personalized in
+    let o = le-leb mark 1 (m .zero-or-one) in (
+      rw (aid-ok c aid s personalized h e refl, m .legal, o),
+      held-passes c aid (finished policy mark) h refl (rw (e, lt-ltb 0 (p .used) (m .used-over-0))) refl refl refl,
+      loads c i (finish p policy mark) (inside c aid s h) (sym (off c aid s personalized e refl)) (finished-at c i policy mark (parts c s) e (m .legal) o),
     ))

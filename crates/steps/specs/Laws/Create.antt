@@ -1,4 +1,4 @@
--- Document 01, 'Steps': "Create: the lowest free place, SELECTABLE, used 0, empty policy. Freed places and room are used again".
+-- Document 01, 'Steps': "Create: the lowest free place, SELECTABLE, used 0, empty policy", with no mark (request 2026-02). "Freed places and room are used again".
 use Prim.Native.Nat.{ℕ, _+_, _≤_, _<_}
 use mathlib.Core.Path.{_≡_}
 use mathlib.Core.List.{List, [], _∷_}

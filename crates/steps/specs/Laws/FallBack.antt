@@ -1,4 +1,5 @@
 -- Document 01, 'Steps': "Set fall-back: target DISABLED or ENABLED, else 69 85. Naming the holder changes nothing, answer 90 00."
+-- Request 2026-02: "the target must have provisioning capability".
 use Prim.Native.Nat.{ℕ}
 use mathlib.Core.Path.{_≡_}
 use mathlib.Core.List.{List, []}
@@ -16,6 +17,7 @@ use Rattle.steps.specs.Laws.Answer.{profileAt, Holds, Result, Answers, S
 pub record MayBeFallBack (c : Card) (t : ℕ) : Type 0 where
   pub none-open : c .phase ≡ Quiet
   pub disabled-or-enabled : isFinished (profileAt c t .life) ≡ true
+  pub is-marked : profileAt c t .mark ≡ 1
 
 abbrev pub fallsBackTo : Card → ℕ → Result
 fallsBackTo c t =

@@ -1,10 +1,10 @@
 -- Document 01, 'Steps': "Keyed: SELECTABLE to PERSONALIZED. Stored n: PERSONALIZED only, used grows by n (0 allowed). Finished with a
--- policy: PERSONALIZED, used over 0, to DISABLED. .. Allowed while a change is open."
+-- policy: PERSONALIZED, used over 0, to DISABLED. .. Allowed while a change is open." Request 2026-02: with a mark too.
 use Prim.Native.Nat.{ℕ, _+_, _≤_}
 use mathlib.Core.Path.{_≡_}
 use mathlib.Core.List.{List, []}
 use mathlib.Core.Bool.{true}
-use Rattle.isdp.specs.LifeCycle.{selectable, personalized, disabled, withLife, withUsed, withPolicy}
+use Rattle.isdp.specs.LifeCycle.{selectable, personalized, disabled, withLife, withUsed, withPolicy, withMark}
 use Rattle.isdp.specs.Policy.{policyOk}
 use Rattle.isdp.specs.declared.Isdp.{Isdp}
 use Rattle.card.specs.Sound.{sound}
@@ -31,14 +31,16 @@ abbrev pub StoredAnswers : Card → List ℕ → ℕ → Outcome → Type 0
 StoredAnswers c aid n =
     OnPlace (Holds c aid) (MayStore c n) (Loaded c (λ t. withUsed (profileAt c t) (profileAt c t .used + n)))
 
-pub record MayFinish (c : Card) (policy t : ℕ) : Type 0 where
+pub record MayFinish (c : Card) (policy mark t : ℕ) : Type 0 where
   pub legal : policyOk policy ≡ true
+  pub zero-or-one : mark ≤ 1
   pub is-personalized : profileAt c t .life ≡ personalized
   pub used-over-0 : 1 ≤ profileAt c t .used
 
-abbrev pub FinishedAnswers : Card → List ℕ → ℕ → Outcome → Type 0
-FinishedAnswers c aid policy =
-    OnPlace (Holds c aid) (MayFinish c policy) (Loaded c (λ t. withPolicy (withLife (profileAt c t) disabled) policy))
+abbrev pub FinishedAnswers : Card → List ℕ → ℕ → ℕ → Outcome → Type 0
+FinishedAnswers c aid policy mark =
+    OnPlace (Holds c aid) (MayFinish c policy mark)
+    (Loaded c (λ t. withMark (withPolicy (withLife (profileAt c t) disabled) policy) mark))
 
 abbrev pub KeyedLaw : Type 0
 KeyedLaw = (c : Card) (aid : List ℕ) → sound c ≡ true → KeyedAnswers c aid (outcome c (innerWork c aid keyed))
@@ -48,4 +50,6 @@ StoredLaw = (c : Card) (aid : List ℕ) (n : ℕ) → sound c ≡ true → Store
 
 abbrev pub FinishedLaw : Type 0
 FinishedLaw =
-    (c : Card) (aid : List ℕ) (policy : ℕ) → sound c ≡ true → FinishedAnswers c aid policy (outcome c (innerWork c aid (finished policy)))
+    (c : Card) (aid : List ℕ) (policy mark : ℕ)
+    → sound c ≡ true
+    → FinishedAnswers c aid policy mark (outcome c (innerWork c aid (finished policy mark)))

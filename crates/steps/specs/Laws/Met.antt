@@ -6,7 +6,7 @@ use mathlib.Core.Bool.{Bool, true}
 use lib.ListN.{replicate}
 use Rattle.status.specs.declared.Status.the-variants.{Done}
 use Rattle.isdp.specs.Sizes.{eidSize}
-use Rattle.isdp.specs.LifeCycle.{selectable, personalized, disabled, enabled}
+use Rattle.isdp.specs.LifeCycle.{selectable, personalized, disabled, enabled, withMark}
 use Rattle.isdp.specs.Place.{vacant, made}
 use Rattle.card.specs.Cards.{cardWith}
 use Rattle.card.specs.Sound.{sound}
@@ -20,12 +20,12 @@ use Rattle.steps.specs.Steps.{askedWork, innerWork}
 abbrev pub aidEnding : ℕ → List ℕ
 aidEnding n = 0xA0 ∷ 0x00 ∷ 0x00 ∷ 0x00 ∷ n ∷ []
 
--- 01, the fall-back, and 02 in these states, 03 SELECTABLE, 04 PERSONALIZED with 10 bytes used
+-- 01, the fall-back, and 02 in these states and marked, 03 SELECTABLE, 04 PERSONALIZED with 10 bytes used
 abbrev pub sample : ℕ → ℕ → ℕ → Phase → Card
 sample first second last phase =
     cardWith (replicate eidSize 0) 1000 0 last 0 phase
-    (made (aidEnding 1) first 100 10
-    ∷ made (aidEnding 2) second 100 10
+    (withMark (made (aidEnding 1) first 100 10) 1
+    ∷ withMark (made (aidEnding 2) second 100 10) 1
     ∷ made (aidEnding 3) selectable 100 0
     ∷ made (aidEnding 4) personalized 100 10
     ∷ vacant
@@ -57,7 +57,7 @@ pub record LawsMet : Type 0 where
   pub creates : Accepts (on01 0 Quiet) (create (aidEnding 5) 600)
   pub keys : AcceptsInner (on01 0 Quiet) 3 keyed
   pub stores : AcceptsInner (on01 0 Quiet) 4 (stored 90)
-  pub finishes : AcceptsInner (on01 0 Quiet) 4 (finished 0)
+  pub finishes : AcceptsInner (on01 0 Quiet) 4 (finished 0 0) × AcceptsInner (on01 0 Quiet) 4 (finished 0 1)
   pub enables : Accepts (on01 0 Quiet) (on (aidEnding 2) enable)
   pub disables : Accepts (on02 0 Quiet) (on (aidEnding 2) disable)
   pub deletes : Accepts (on01 0 Quiet) (on (aidEnding 2) delete)

@@ -13,6 +13,9 @@ none-requires c κs = search needs
 made-requires : tie.Need-made-requires
 made-requires c κs = search needs
 
+with-mark-requires : tie.Need-with-mark-requires
+with-mark-requires c κs = search needs
+
 array-set-from-places : tie.Need-array-set-from-places
 array-set-from-places c = search needs
 
@@ -20,11 +23,12 @@ with-requires : tie.Need-with-requires
 with-requires c κs = search needs
 
 returns : tie.Need-returns
-returns c = let p = c .before .before .before in
+returns c = let m = c .before .before in
+    let p = m .before .before in
     let s = p .before .before .before in
-    rw (c .with .ensures, c .before .made .ensures, c .before .before .none .ensures, p .pad .ensures, pad-whole (s .args .eid .now) (s .pre))
+    rw (c .with .ensures, c .before .with-mark .ensures, m .made .ensures, m .before .none .ensures, p .pad .ensures, pad-whole (s .args .eid .now) (s .pre))
 
 pub first-spec : {M : Type 1} → statement M
 first-spec =
     tie.close
-    (tie.spec pad-requires none-requires made-requires array-set-from-places with-requires returns)
+    (tie.spec pad-requires none-requires made-requires with-mark-requires array-set-from-places with-requires returns)

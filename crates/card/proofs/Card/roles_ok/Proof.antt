@@ -9,9 +9,12 @@ profile-requires c κs = search needs
 count-enabled-requires : tie.Need-count-enabled-requires
 count-enabled-requires c κs = search needs
 
+may-be-fall-back-requires : tie.Need-may-be-fall-back-requires
+may-be-fall-back-requires c κs = search needs
+
 returns : tie.Need-returns
-returns c = let b = c .before .before in
-    rw (b .count-enabled .ensures, b .before .profile .ensures)
+returns c = let b = c .before in
+    rw (c .may-be-fall-back .ensures, b .count-enabled .ensures, b .before .profile .ensures)
 
 pub roles-ok-spec : {M : Type 1} → statement M
-roles-ok-spec = tie.close (tie.spec profile-requires count-enabled-requires returns)
+roles-ok-spec = tie.close (tie.spec profile-requires count-enabled-requires may-be-fall-back-requires returns)

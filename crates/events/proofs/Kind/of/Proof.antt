@@ -32,7 +32,11 @@ returns-6 c = ne! _ (omega arith) (ne! _ (omega arith) (ne! _ (omega arith) (ne!
 
 returns-7 : tie.Need-returns-7
 unfolding kindOf
-returns-7 c = ne! _ (omega arith) (ne! _ (omega arith) (ne! _ (omega arith) (ne! _ (omega arith) (ne! _ (omega arith) (ne! _ (omega arith) refl)))))
+returns-7 c = ne! _ (omega arith) (ne! _ (omega arith) (ne! _ (omega arith) (ne! _ (omega arith) (ne! _ (omega arith) (ne! _ (omega arith) (eq! _ (omega arith) refl))))))
+
+returns-8 : tie.Need-returns-8
+unfolding kindOf
+returns-8 c = ne! _ (omega arith) (ne! _ (omega arith) (ne! _ (omega arith) (ne! _ (omega arith) (ne! _ (omega arith) (ne! _ (omega arith) (ne! _ (omega arith) refl))))))
 
 pub of-spec : {M : Type 1} → statement M
-of-spec = tie.close (tie.spec returns returns-2 returns-3 returns-4 returns-5 returns-6 returns-7)
+of-spec = tie.close (tie.spec returns returns-2 returns-3 returns-4 returns-5 returns-6 returns-7 returns-8)
