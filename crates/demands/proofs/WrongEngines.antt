@@ -328,7 +328,7 @@ late-confirmation-taken w =
 -- the last answer along the calls is the one that the runs show
 unmarked-status : Along ignoresMark tt (freshOf inputs .card) (loadWith 2 0 0 ++ setFallBack 2 ∷ []) → answerAfter ignoresMark inputs (loadWith 2 0 0) (setFallBack 2) .status ≡ step (cardAfter ignoresMark inputs (loadWith 2 0 0)) (setFallBack 2) .status
 unfolding Along reached remembered
-unmarked-status a = a .4 .status
+unmarked-status a = a .1 .1 .1 .1 .0 .status
 
 pub ignoring-mark : IgnoringMark
 ignoring-mark =

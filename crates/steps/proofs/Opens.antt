@@ -17,7 +17,7 @@ use Rattle.card.specs.Cards.{enabledPlace}
 use Rattle.card.specs.Clock.{nextOf, opened}
 use Rattle.card.specs.declared.Card.{Card}
 use Rattle.card.specs.declared.Phase.the-variants.{Trial}
-use Rattle.card.proofs.Sounds.{Sound, moves, nonzero}
+use Rattle.card.proofs.Sounds.{Sound, moves, nonzero, resort-done}
 
 some : (l : List Isdp) (i : ℕ) → isEnabled (at l i) ≡ true → 1 ≤ countOf isEnabled l
 unfolding countOf
@@ -69,4 +69,4 @@ off-case c t false q s v n = refl
 pub fallback-life : (c : Card) (t : ℕ) → Sound c → isEnabled (at (c .places) t) ≡ true → eqb t (c .fallback) ≡ false → at (c .places) (c .fallback) .life ≡ disabled
 fallback-life c t s v n =
     let f = at (c .places) (c .fallback) in
-    eqb-true _ _ (left (eqb (f .life) disabled) (isEnabled f) (s .roles .resort) (off-case c t (isEnabled f) refl s v n))
+    eqb-true _ _ (left (eqb (f .life) disabled) (isEnabled f) (resort-done c s) (off-case c t (isEnabled f) refl s v n))

@@ -28,11 +28,11 @@ abbrev valuesOk : tie.Start → Bool
 valuesOk s = aidOk (s .args .aid .now) && (policyOk (s .args .policy) && markOk (s .args .mark))
 
 -- the tests by their promises
-values : (m : tie.After-mark-ok) → valuesOk (m .before .before .before) ≡ (m .before .before .aid-ok .result && (m .before .policy-ok .result && m .mark-ok .result))
+values : (m : tie.After-mark-ok) → valuesOk (m .before .before .before .before) ≡ (m .before .before .aid-ok .result && (m .before .policy-ok .result && m .mark-ok .result))
 values m = rw (← (m .mark-ok .ensures), ← (m .before .policy-ok .ensures), ← (m .before .before .aid-ok .ensures))
 
 right : (c : tie.Else1) → valuesOk (start c) ≡ true
-right c = values (c .before .before) ∙ not-false _ (c .if1 .left)
+right c = values (c .before) ∙ not-false _ (c .if1 .left)
 
 abbrev asking : tie.After-known-told → tie.Else1
 asking c = c .before .before .before .before
@@ -46,7 +46,7 @@ profile c = read (target (c .before)) (c .profile .ensures)
 returns : tie.Need-returns
 unfolding wordOf
 returns c =
-    rw (values (c .before .before .before) ∙ not-true _ (c .before .if1 .taken)) (c .refused .ensures)
+    rw (values (c .before .before) ∙ not-true _ (c .before .if1 .taken)) (c .refused .ensures)
 
 returns-2 : tie.Need-returns-2
 unfolding wordOf

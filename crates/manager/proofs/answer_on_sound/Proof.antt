@@ -36,7 +36,7 @@ unfolding onSound wordOf
 returns-4 c =
     let x = c .before .part-of4 in
     let s = start (c .before .before .before .before .before) in
-    rw (c .before .before .before .call4 .given .1, ← (x .ensures)) (none-served (s .args .card) (innerWork (s .args .card) (x .result .now) (finished (c .before .before .before .call4 .given .0 .1 .0))) _ refl (c .finished .ensures))
+    rw (c .before .before .before .call4 .given .1, ← (x .ensures)) (none-served (s .args .card) (innerWork (s .args .card) (x .result .now) (finished (c .before .before .before .call4 .given .0 .1 .0) (c .before .before .before .call4 .given .0 .1 .1 .0))) _ refl (c .finished .ensures))
 
 returns-5 : tie.Need-returns-5
 unfolding onSound wordOf

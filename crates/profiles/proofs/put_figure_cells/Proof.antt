@@ -39,33 +39,19 @@ cast-put-column-2 c = search needs
 put-column-requires-2 : tie.Need-put-column-requires-2
 put-column-requires-2 c κs = search needs
 
-slice-aggregate-put-bytes-4 : tie.Need-slice-aggregate-put-bytes-4
-slice-aggregate-put-bytes-4 c = search needs
-
-put-bytes-requires-4 : tie.Need-put-bytes-requires-4
-put-bytes-requires-4 c κs = search needs
-
-put-mark-requires : tie.Need-put-mark-requires
-put-mark-requires c κs = search needs
-
-slice-aggregate-put-bytes-5 : tie.Need-slice-aggregate-put-bytes-5
-slice-aggregate-put-bytes-5 c = search needs
-
-put-bytes-requires-5 : tie.Need-put-bytes-requires-5
-put-bytes-requires-5 c κs = search needs
-
-put-policy-requires : tie.Need-put-policy-requires
-put-policy-requires c κs = search needs
-
-put-byte-requires : tie.Need-put-byte-requires
-put-byte-requires c κs = search needs
-
-same-length : tie.Need-same-length
-same-length c = wrote-size (wrote-then (wrote-then (wrote-then (wrote-then (wrote-then (wrote-then (wrote-then (wrote-then (wrote-then (wrote-then (c .before .before .before .before .before .before .before .before .before .before .before .before .before .before .before .before .before .before .before .before .before .before .before .before .before .before .before .before .before .before .before .before .before .before .before .before .before .before .before .before .before .before .before .before .before .before .before .before .put-bytes .ensures) (c .before .before .before .before .before .before .before .before .before .before .before .before .before .before .before .before .before .before .before .before .before .before .before .before .before .before .before .before .before .before .before .before .before .before .before .before .before .before .before .before .before .before .before .before .put-state .ensures)) (c .before .before .before .before .before .before .before .before .before .before .before .before .before .before .before .before .before .before .before .before .before .before .before .before .before .before .before .before .before .before .before .before .before .before .before .before .before .before .before .put-bytes2 .ensures)) (c .before .before .before .before .before .before .before .before .before .before .before .before .before .before .before .before .before .before .before .before .before .before .before .before .before .before .before .before .before .before .before .before .before .before .put-column .ensures)) (c .before .before .before .before .before .before .before .before .before .before .before .before .before .before .before .before .before .before .before .before .before .before .before .before .before .before .before .before .before .put-bytes3 .ensures)) (c .before .before .before .before .before .before .before .before .before .before .before .before .before .before .before .before .before .before .before .before .before .before .before .before .put-column2 .ensures)) (c .before .before .before .before .before .before .before .before .before .before .before .before .before .before .before .before .before .before .before .put-bytes4 .ensures)) (c .before .before .before .before .before .before .before .before .before .before .before .before .before .before .before .put-mark .ensures)) (c .before .before .before .before .before .before .before .before .before .before .put-bytes5 .ensures)) (c .before .before .before .before .before .before .put-policy .ensures)) (c .before .before .put-byte .ensures))
-
 returns : tie.Need-returns
 unfolding figureCells
-returns c = wrote-then (wrote-then (wrote-then (wrote-then (wrote-then (wrote-then (wrote-then (wrote-then (wrote-then (wrote-then (c .before .before .before .before .before .before .before .before .before .before .before .before .before .before .before .before .before .before .before .before .before .before .before .before .before .before .before .before .before .before .before .before .before .before .before .before .before .before .before .before .before .before .before .before .before .before .before .before .put-bytes .ensures) (c .before .before .before .before .before .before .before .before .before .before .before .before .before .before .before .before .before .before .before .before .before .before .before .before .before .before .before .before .before .before .before .before .before .before .before .before .before .before .before .before .before .before .before .before .put-state .ensures)) (c .before .before .before .before .before .before .before .before .before .before .before .before .before .before .before .before .before .before .before .before .before .before .before .before .before .before .before .before .before .before .before .before .before .before .before .before .before .before .before .put-bytes2 .ensures)) (c .before .before .before .before .before .before .before .before .before .before .before .before .before .before .before .before .before .before .before .before .before .before .before .before .before .before .before .before .before .before .before .before .before .before .put-column .ensures)) (c .before .before .before .before .before .before .before .before .before .before .before .before .before .before .before .before .before .before .before .before .before .before .before .before .before .before .before .before .before .put-bytes3 .ensures)) (c .before .before .before .before .before .before .before .before .before .before .before .before .before .before .before .before .before .before .before .before .before .before .before .before .put-column2 .ensures)) (c .before .before .before .before .before .before .before .before .before .before .before .before .before .before .before .before .before .before .before .put-bytes4 .ensures)) (c .before .before .before .before .before .before .before .before .before .before .before .before .before .before .before .put-mark .ensures)) (c .before .before .before .before .before .before .before .before .before .before .put-bytes5 .ensures)) (c .before .before .before .before .before .before .put-policy .ensures)) (c .before .before .put-byte .ensures)
+returns c =
+    let used = c .before .before in
+    let third = used .before .before .before .before .before in
+    let quota = third .before .before .before .before .before in
+    let second = quota .before .before .before .before .before in
+    let state = second .before .before .before .before .before in
+    let first = state .before .before .before .before in
+    wrote-then (wrote-then (wrote-then (wrote-then (wrote-then (first .put-bytes .ensures) (state .put-state .ensures)) (second .put-bytes2 .ensures)) (quota .put-column .ensures)) (third .put-bytes3 .ensures)) (used .put-column2 .ensures)
+
+same-length : tie.Need-same-length
+same-length c = wrote-size (returns c)
 
 pub put-figure-cells-spec : {M : Type 1} → statement M
 put-figure-cells-spec =
@@ -82,12 +68,5 @@ put-figure-cells-spec =
     put-bytes-requires-3
     cast-put-column-2
     put-column-requires-2
-    slice-aggregate-put-bytes-4
-    put-bytes-requires-4
-    put-mark-requires
-    slice-aggregate-put-bytes-5
-    put-bytes-requires-5
-    put-policy-requires
-    put-byte-requires
     same-length
     returns)

@@ -17,14 +17,21 @@ put-name-cells-requires c κs = search needs
 put-figure-cells-requires : tie.Need-put-figure-cells-requires
 put-figure-cells-requires c κs = search needs
 
+put-role-cells-requires : tie.Need-put-role-cells-requires
+put-role-cells-requires c κs = search needs
+
 same-length : tie.Need-same-length
 same-length c = search needs
 
 returns-2 : tie.Need-returns-2
 unfolding placeText rowText
-returns-2 c = wrote-as _ (ne! _ (c .before .before .before .before .before .before .before .before .if1 .left) refl) (wrote-then (c .before .before .before .before .before .before .put-name-cells .ensures) (c .before .before .put-figure-cells .ensures))
+returns-2 c =
+    let roles = c .before .before in
+    let figures = roles .before .before .before .before in
+    let names = figures .before .before .before .before in
+    wrote-as _ (ne! _ (names .before .before .if1 .left) refl) (wrote-then (wrote-then (names .put-name-cells .ensures) (figures .put-figure-cells .ensures)) (roles .put-role-cells .ensures))
 
 pub put-place-spec : {M : Type 1} → statement M
 put-place-spec =
     tie.close
-    (tie.spec returns put-name-cells-requires put-figure-cells-requires same-length returns-2)
+    (tie.spec returns put-name-cells-requires put-figure-cells-requires put-role-cells-requires same-length returns-2)

@@ -1,4 +1,4 @@
--- `colons::sizes_at` meets its contract: the three numbers in turn, and the place after them. The cast fits, by `number-within`.
+-- `colons::sizes_at` meets its contract: the four numbers in turn, and the place after them. The casts fit, by `number-within`.
 use mathlib.Core.Path.{refl, sym, _∙_}
 use native.Mathlib.Omega.{arith}
 use Rattle.choice.proofs.Branches.{le!, nle! }
@@ -19,7 +19,8 @@ enum-told c = search needs
 
 returns : tie.Need-returns
 unfolding sizesFields
-returns c = rw (← (sym (c .enum-told .given .1) ∙ c .before .before .next-number .ensures)) refl
+returns c =
+    rw (← (sym (c .enum-told .given .1) ∙ c .before .before .next-number .ensures)) refl
 
 next-number-requires-2 : tie.Need-next-number-requires-2
 next-number-requires-2 c κs = search needs
@@ -32,7 +33,9 @@ enum-told-2 c = search needs
 
 returns-2 : tie.Need-returns-2
 unfolding sizesFields
-returns-2 c = rw (← (sym (c .before .before .before .before .quota .given .1) ∙ c .before .before .before .before .before .before .next-number .ensures)) (rw (← (sym (c .enum-told2 .given .1) ∙ c .before .before .next-number2 .ensures)) refl)
+returns-2 c =
+    let q = c .before .before .before in
+    rw (← (sym (q .before .quota .given .1) ∙ q .before .before .before .next-number .ensures)) (rw (← (sym (c .enum-told2 .given .1) ∙ c .before .before .next-number2 .ensures)) refl)
 
 next-number-requires-3 : tie.Need-next-number-requires-3
 next-number-requires-3 c κs = search needs
@@ -45,18 +48,60 @@ enum-told-3 c = search needs
 
 returns-3 : tie.Need-returns-3
 unfolding sizesFields
-returns-3 c = rw (← (sym (c .before .before .before .before .before .before .before .before .quota .given .1) ∙ c .before .before .before .before .before .before .before .before .before .before .next-number .ensures)) (rw (← (sym (c .before .before .before .before .used .given .1) ∙ c .before .before .before .before .before .before .next-number2 .ensures)) (rw (← (sym (c .enum-told3 .given .1) ∙ c .before .before .next-number3 .ensures)) refl))
+returns-3 c =
+    let u = c .before .before .before in
+    let q = u .before .before .before .before in
+    rw (← (sym (q .before .quota .given .1) ∙ q .before .before .before .next-number .ensures)) (rw (← (sym (u .before .used .given .1) ∙ u .before .before .before .next-number2 .ensures)) (rw (← (sym (c .enum-told3 .given .1) ∙ c .before .before .next-number3 .ensures)) refl))
+
+next-number-requires-4 : tie.Need-next-number-requires-4
+next-number-requires-4 c κs = search needs
+
+enum-known-mark : tie.Need-enum-known-mark
+enum-known-mark c = search needs
+
+enum-told-4 : tie.Need-enum-told-4
+enum-told-4 c = search needs
 
 returns-4 : tie.Need-returns-4
 unfolding sizesFields
-returns-4 c = rw (← (sym (c .before .before .before .before .before .before .before .before .before .before .quota .given .1) ∙ c .before .before .before .before .before .before .before .before .before .before .before .before .next-number .ensures)) (rw (← (sym (c .before .before .before .before .before .before .used .given .1) ∙ c .before .before .before .before .before .before .before .before .next-number2 .ensures)) (rw (← (sym (c .before .before .policy .given .1) ∙ c .before .before .before .before .next-number3 .ensures)) (le! _ (omega arith) refl)))
-
-cast-t14 : tie.Need-cast-t14
-cast-t14 c = let h0 = number-within _ _ _ _ _ (sym (c .before .before .before .before .before .before .before .before .before .before .quota .given .1) ∙ c .before .before .before .before .before .before .before .before .before .before .before .before .next-number .ensures) in let h1 = number-within _ _ _ _ _ (sym (c .before .before .before .before .before .before .used .given .1) ∙ c .before .before .before .before .before .before .before .before .next-number2 .ensures) in let h2 = number-within _ _ _ _ _ (sym (c .before .before .policy .given .1) ∙ c .before .before .before .before .next-number3 .ensures) in search needs
+returns-4 c =
+    let p = c .before .before .before in
+    let u = p .before .before .before .before in
+    let q = u .before .before .before .before in
+    rw (← (sym (q .before .quota .given .1) ∙ q .before .before .before .next-number .ensures)) (rw (← (sym (u .before .used .given .1) ∙ u .before .before .before .next-number2 .ensures)) (rw (← (sym (p .before .policy .given .1) ∙ p .before .before .before .next-number3 .ensures)) (rw (← (sym (c .enum-told4 .given .1) ∙ c .before .before .next-number4 .ensures)) refl)))
 
 returns-5 : tie.Need-returns-5
 unfolding sizesFields
-returns-5 c = rw (← (sym (c .before .before .before .before .before .before .before .before .before .before .quota .given .1) ∙ c .before .before .before .before .before .before .before .before .before .before .before .before .next-number .ensures)) (rw (← (sym (c .before .before .before .before .before .before .used .given .1) ∙ c .before .before .before .before .before .before .before .before .next-number2 .ensures)) (rw (← (sym (c .before .before .policy .given .1) ∙ c .before .before .before .before .next-number3 .ensures)) (nle! _ (omega arith) refl)))
+returns-5 c =
+    let m = c .before in
+    let p = m .before .before .before .before in
+    let u = p .before .before .before .before in
+    let q = u .before .before .before .before in
+    rw (← (sym (q .before .quota .given .1) ∙ q .before .before .before .next-number .ensures)) (rw (← (sym (u .before .used .given .1) ∙ u .before .before .before .next-number2 .ensures)) (rw (← (sym (p .before .policy .given .1) ∙ p .before .before .before .next-number3 .ensures)) (rw (← (sym (m .before .mark .given .1) ∙ m .before .before .before .next-number4 .ensures)) (le! _ (omega arith) refl))))
+
+cast-t17 : tie.Need-cast-t17
+cast-t17 c =
+    let m = c .before in
+    let p = m .before .before .before .before in
+    let u = p .before .before .before .before in
+    let q = u .before .before .before .before in
+    let h = number-within _ _ _ _ _ (sym (p .before .policy .given .1) ∙ p .before .before .before .next-number3 .ensures) in
+    search needs
+
+cast-t18 : tie.Need-cast-t18
+cast-t18 c =
+    let m = c .before in
+    let h = number-within _ _ _ _ _ (sym (m .before .mark .given .1) ∙ m .before .before .before .next-number4 .ensures) in
+    search needs
+
+returns-6 : tie.Need-returns-6
+unfolding sizesFields
+returns-6 c =
+    let m = c .before in
+    let p = m .before .before .before .before in
+    let u = p .before .before .before .before in
+    let q = u .before .before .before .before in
+    rw (← (sym (q .before .quota .given .1) ∙ q .before .before .before .next-number .ensures)) (rw (← (sym (u .before .used .given .1) ∙ u .before .before .before .next-number2 .ensures)) (rw (← (sym (p .before .policy .given .1) ∙ p .before .before .before .next-number3 .ensures)) (rw (← (sym (m .before .mark .given .1) ∙ m .before .before .before .next-number4 .ensures)) (nle! _ (omega arith) refl))))
 
 pub sizes-at-spec : {M : Type 1} → statement M
 sizes-at-spec =
@@ -74,6 +119,11 @@ sizes-at-spec =
     enum-known-policy
     enum-told-3
     returns-3
+    next-number-requires-4
+    enum-known-mark
+    enum-told-4
     returns-4
-    cast-t14
-    returns-5)
+    returns-5
+    cast-t17
+    cast-t18
+    returns-6)
