@@ -278,21 +278,17 @@ fn readings_name_the_request() {
     assert_eq!(read("-"), "6700\n");
 }
 
-/// Four profiles with these marks; the first of them is ENABLED, the others DISABLED.
+/// Four DISABLED profiles with these marks.
 fn four_profiles(marks: [u8; 4]) -> Card {
     let mut card = Card::fresh(&[7; 16], &[1; 5], 100, 10, 1, 9).unwrap();
-    for index in 1..4 {
-        let number = index as u8 + 1;
-        card.places[index] = Place {
-            aid: Aid::of(&[number; 6]),
-            life_cycle: DISABLED,
-            quota: 10,
-            used: 1,
-            policy: number,
-            mark: marks[index],
-        };
+    card.places[0].life_cycle = DISABLED;
+    for number in 2..=4 {
+        let (aid, policy) = (Aid::of(&[number; 6]), number);
+        card.places[usize::from(number) - 1] = Place { aid, policy, ..card.places[0] };
     }
-    card.places[0].mark = marks[0];
+    for (place, mark) in card.places.iter_mut().zip(marks) {
+        place.mark = mark;
+    }
     card
 }
 
@@ -313,7 +309,6 @@ fn sound_cards() -> Vec<Card> {
             for fall_back in 0..4 {
                 for phase in every_phase(65535) {
                     let mut card = Card { last: 65535, fall_back, phase, ..four_profiles(marks) };
-                    card.places[0].life_cycle = DISABLED;
                     card.places[enabled].life_cycle = ENABLED;
                     cards.push(card);
                 }
