@@ -157,10 +157,11 @@ def not_held(mark):
 
 
 def explained(line, word, *rows, more=(), phase="quiet", ticks=0):
-    """A call in the explained form. A row has place, AID, state, quota, used, fall-back, provisioning, policy; `more` are the lines before the table."""
-    width = max(len(row[1]) for row in rows)
+    """A call in the explained form. A row has what the head names, `more` are the lines before the table."""
     head = ("place", "AID", "state", "quota", "used", "fall-back", "provisioning", "policy")
-    shown = [f"{p:>7}  {a:{width}}  {s:12}  {q:>7}  {u:>7}  {f:9}  {m:12}  {r}" for p, a, s, q, u, f, m, r in (head, *rows)]
+    longest = max(len(row[1]) for row in rows)
+    columns = (">7", f"{longest}", "12", ">7", ">7", "9", "12", "")
+    shown = ["  ".join(map(format, cells, columns)) for cells in (head, *rows)]
     call(line, "\n".join([word, *more, *shown, f"phase {phase}", f"ticks to come {ticks}"]))
 
 

@@ -499,9 +499,11 @@ impl Generator {
     fn set_fall_back(&mut self) {
         // A fall-back that forbids disabling is the last profile of a month.
         let forbidden = if self.is_month { DISABLING_FORBIDDEN } else { 0 };
-        let mark = self.random.pick(&[0, MARKED, MARKED]);
+        let ready = self.random.chance(85);
+        let mark = if ready { self.random.pick(&[0, MARKED, MARKED]) } else { MARKED };
         let aid = self.target(|_, place| {
-            matches!(place.life_cycle, DISABLED | ENABLED) && place.mark == mark && place.policy & forbidden == 0
+            let is_ready = matches!(place.life_cycle, DISABLED | ENABLED);
+            is_ready == ready && place.mark == mark && place.policy & forbidden == 0
         });
         self.store_data(5, tlv(&[0x4F], &aid));
     }
@@ -582,10 +584,17 @@ impl Generator {
         self.put(format!("stored {} {n}", hex_word(&aid)));
     }
 
+    /// Wrong values come before all that the card is asked, so half of them meet any name.
     fn finished(&mut self) {
-        let aid = self.target(|_, place| place.life_cycle == PERSONALIZED && place.used > 0);
         let policy = self.policy();
-        let mark = if self.random.chance(35) { String::new() } else { format!(" {}", self.mark()) };
+        let mark = if self.random.chance(35) { None } else { Some(self.mark()) };
+        let right = policy_is_right(policy) && mark.is_none_or(mark_is_right);
+        let aid = if right || self.random.chance(50) {
+            self.target(|_, place| place.life_cycle == PERSONALIZED && place.used > 0)
+        } else {
+            self.any_aid()
+        };
+        let mark = mark.map_or(String::new(), |mark| format!(" {mark}"));
         self.put(format!("finished {} {policy}{mark}", hex_word(&aid)));
     }
 
