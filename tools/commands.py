@@ -1,4 +1,4 @@
-"""Builds command bytes as document 01 and the tables of 000 lay them out."""
+"""Builds command bytes as document 01 and the tables of 000 lay them out, and the card lines of docs/SCRIPT.md."""
 
 
 def length(value):
@@ -60,3 +60,13 @@ def b6(a="01", b="02", c="03", d="04"):
 
 
 TOKEN = tlv("9E", "55" * 16)
+
+
+def place_word(aid, state, quota=50, used=5, policy=0, mark=1):
+    """A place of a card line. Profiles are marked unless it is said: only set fall-back and a fall-back's soundness ask it."""
+    return f"{aid}:{state}:{quota}:{used}:{policy}:{mark}"
+
+
+def card_line(places, capacity=1000, volatile=7, last=0, fall_back=0, phase="Q", eid=EID):
+    words = [*places, *["-"] * (PLACES - len(places))]
+    return f"card {eid} {capacity} {volatile} {last} {fall_back} {phase} " + " ".join(words)

@@ -6,6 +6,8 @@ from stories import *
 
 WRAP = 1 << 32
 CROWDS = (63, 64, 65, 66, 200)
+# Each kind of event, and the one before and after them.
+KINDS = range(FINISHED_WITH_MARK + 2)
 
 
 def odd(chance, value):
@@ -56,8 +58,8 @@ def wrong_inputs(chance, inputs, events):
 
 def fault(chance):
     """An event that may be wrong in any way."""
-    size = chance.choice((0, 0, 1, 3, 4, 5, 6, 17, 256, 261, 262, 300))
-    return event(chance.choice((0, 1, 2, 3, 4, 5, 6, 7, 255)), chance.randbytes(size))
+    size = chance.choice((0, 0, 1, 2, 3, 4, 5, 6, 17, 256, 261, 262, 300))
+    return event(chance.choice((*KINDS, 255)), chance.randbytes(size))
 
 
 def wrong_events(chance, inputs, events):
@@ -79,13 +81,21 @@ def wrong_events(chance, inputs, events):
     low = (low + chance.choice((1, 255, 3, 128))) % 256
     high = (high + chance.choice((0, 0, 0, 1))) % 256
     for title, instead in (
-        ("kind-odd", bytes([chance.choice((0, 1, 2, 3, 4, 5, 6, 7, 133))]) + one[1:]),
+        ("kind-odd", bytes([chance.choice((*KINDS, 133))]) + one[1:]),
         ("length-odd", bytes([one[0], high, low]) + one[3:]),
         ("event-dropped", b""),
         ("event-twice", one + one),
     ):
         yield title, event_file(inputs, before + instead + after)
     yield "event-moved", event_file(inputs, before + after + one)
+
+
+def remarked(chance, events):
+    """The events with another mark, or with none, in each finished one: the fall-back then goes other ways."""
+    starts = {FINISHED: 4, FINISHED_WITH_MARK: 5}
+    for one in events:
+        start = starts.get(one[0])
+        yield finished_event(one[start:], one[3], chance.choice((None, 0, 0, 1, 1, 2, 255))) if start else one
 
 
 def crowd(chance, many):
@@ -100,7 +110,7 @@ def crowd(chance, many):
         parts = [who, chance.choice(names[:at])] if at and chance.random() < 0.1 else [who]
         for one in parts:
             changes += 1
-            made += profile(one, 4) + enables(one) + ticks(chance.randrange(10)) + confirms(changes) + ticks(chance.choice((0, 0, 1, 3, 12)))
+            made += profile(one, 4, chance.choice((None, 0, 1))) + enables(one) + ticks(chance.randrange(10)) + confirms(changes) + ticks(chance.choice((0, 0, 1, 3, 12)))
         if chance.random() < 0.1:
             changes += 1
             made += lost() + ticks(chance.randrange(10)) + confirms(changes) + deletes(parts[-1])
@@ -134,6 +144,7 @@ def event_files(seed, script):
             flipped[chance.randrange(len(flipped))] ^= 1 << chance.randrange(8)
         yield "bits-flipped", bytes(flipped)
     yield "one-byte-more", whole + bytes(1)
+    yield "remarked", event_file(inputs, b"".join(remarked(chance, events)))
     yield from wrong_contents(chance, inputs, body)
     yield from wrong_inputs(chance, inputs, body)
     yield from wrong_events(chance, inputs, events)

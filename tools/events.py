@@ -2,7 +2,7 @@
 import re
 
 FRESH, EVENTS = 1, 2
-COMMAND, KEYED, STORED, FINISHED, TICK, LOST = range(1, 7)
+COMMAND, KEYED, STORED, FINISHED, TICK, LOST, FINISHED_WITH_MARK = range(1, 8)
 FILE_MOST = 65_536
 LINE_MOST = 4_096
 
@@ -13,6 +13,13 @@ def number(value):
 
 def event(kind, data=b""):
     return bytes([kind]) + len(data).to_bytes(2, "big") + data
+
+
+def finished_event(aid, policy, mark=None):
+    """The kind says whether a mark is given."""
+    if mark is None:
+        return event(FINISHED, bytes([policy]) + aid)
+    return event(FINISHED_WITH_MARK, bytes([policy, mark]) + aid)
 
 
 def fresh(eid, aid, capacity, quota, used, volatile):
@@ -76,10 +83,12 @@ LINES = {
     b"command": ([BYTE, hex_bytes], lambda verdict, data: event(COMMAND, bytes([verdict]) + data)),
     b"keyed": ([hex_bytes], lambda aid: event(KEYED, aid)),
     b"stored": ([hex_bytes, LONG], lambda aid, n: event(STORED, number(n) + aid)),
-    b"finished": ([hex_bytes, BYTE], lambda aid, policy: event(FINISHED, bytes([policy]) + aid)),
+    b"finished": ([hex_bytes, BYTE, BYTE], finished_event),
     b"tick": ([], lambda: event(TICK)),
     b"lost": ([], lambda: event(LOST)),
 }
+# How many of these words, the last ones, may be missing.
+OPTIONAL = {b"finished": 1}
 
 
 def made_of(words, is_first):
@@ -93,7 +102,7 @@ def made_of(words, is_first):
     if not is_first and words[0] == b"fresh":
         raise ValueError("a second fresh is no event")
     kinds, make = LINES[words[0]]
-    if len(words) <= len(kinds):
+    if len(words) + OPTIONAL.get(words[0], 0) <= len(kinds):
         raise ValueError("words missing")
     if words[0] == b"command" and len(words) == 4:
         raise ValueError("a command of a file has no LENGTH")

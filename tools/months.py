@@ -65,6 +65,8 @@ TWO = b"".join(ticks(2))
 END = SECOND + len(TWO)
 WRAP = 1 << 32
 FINE = {1: 2}
+# The first kind after those that there are.
+NEXT_KIND = FINISHED_WITH_MARK + 1
 FULL = (FILE_MOST - SECOND) // 3
 
 
@@ -207,15 +209,20 @@ refused("length-most", of(ticks() + [b"\2\xFF\xFF" + aid(1)]), CUT)
 refused("length-of-the-first-event-covers-all-but-one-byte", of([b"\2\0\3"] + ticks() + [b"\0"]), CUT)
 reported("length-of-the-first-event-covers-all", of([b"\2\0\3"] + ticks()), {1: 0}, 1, no=1)
 refused("event-of-zeros", of([bytes(3)]), UNKNOWN)
-for kind in (0, 7, 8, 129, 255):
+for kind in (0, NEXT_KIND, NEXT_KIND + 1, 129, 255):
     refused(f"event-of-kind-{kind}", of(ticks() + [event(kind, aid(1))] + ticks()), UNKNOWN)
-refused("unknown-kind-last", of(ticks(5) + [event(7)]), UNKNOWN)
-for what, kind, *sizes in (("command", COMMAND, 0), ("stored", STORED, 0, 1, 3), ("finished", FINISHED, 0), ("tick", TICK, 1, 256), ("lost", LOST, 1, 256)):
+refused("unknown-kind-last", of(ticks(5) + [event(NEXT_KIND)]), UNKNOWN)
+for what, kind, *sizes in (
+    ("command", COMMAND, 0), ("stored", STORED, 0, 1, 3), ("finished", FINISHED, 0), ("tick", TICK, 1, 256), ("lost", LOST, 1, 256),
+    ("finished-with-mark", FINISHED_WITH_MARK, 0, 1),
+):
     for size in sizes:
         refused(f"{what}-of-{size}-bytes", of(ticks() + [event(kind, bytes(size))] + ticks()), LENGTH)
 refused("wrong-length-first", of([event(TICK, b"\0")] + ticks(3)), LENGTH)
 refused("wrong-length-last", of(ticks(3) + [event(LOST, b"\0")]), LENGTH)
-for what, kind, size in (("command", COMMAND, 1), ("keyed", KEYED, 0), ("stored", STORED, 4), ("finished", FINISHED, 1)):
+for what, kind, size in (
+    ("command", COMMAND, 1), ("keyed", KEYED, 0), ("stored", STORED, 4), ("finished", FINISHED, 1), ("finished-with-mark", FINISHED_WITH_MARK, 2),
+):
     reported(f"{what}-event-of-{size}-bytes", of(ticks() + [event(kind, bytes(size))] + ticks()), FINE, 3, no=1)
 for size in (1, 3, 4, 255, 256, 262, 300, 60_000):
     reported(f"command-of-{size}-bytes", of(ticks() + [event(COMMAND, bytes([0]) + bytes([0x80]) * size)] + ticks()), FINE, 3, no=1)
@@ -229,9 +236,11 @@ reported("command-of-261-bytes-accepted", of(ticks() + command(creation) + after
 reported("command-of-262-bytes-refused", of(ticks() + command(creation + "00") + after), {1: 4}, 9, no=5)
 for size in (0, 4, 17, 300):
     name = "A0" * size
-    reported(f"inner-calls-with-an-aid-of-{size}-bytes", of(ticks() + keyed(name) + stored(name) + finished(name) + ticks()), FINE, 5, no=3)
+    both = finished(name) + finished(name, mark=1)
+    reported(f"inner-calls-with-an-aid-of-{size}-bytes", of(ticks() + keyed(name) + stored(name) + both + ticks()), FINE, 6, no=4)
 for name in ("A000000002", LONGEST):
-    reported(f"aid-of-{len(name) // 2}-bytes", of(profile(name) + enables(name) + ticks(2)), {1: 0, name: 2}, 7)
+    for what, mark in (("", None), ("-with-mark", 0)):
+        reported(f"aid-of-{len(name) // 2}-bytes{what}", of(profile(name, mark=mark) + enables(name) + ticks(2)), {1: 0, name: 2}, 7)
 blocks = [block for n in (WRAP - 1, 51, 50, 1, WRAP - 50) for block in stored(2, n)]
 reported("stored-of-numbers-that-do-not-fit", of(makes(2) + keyed(2) + blocks + finished(2) + enables(2) + ticks()), {1: 0, 2: 1}, 10, no=4)
 wrong = [one for policy in (5, 6, 7, 8, 255) for one in finished(2, policy)]
@@ -240,7 +249,7 @@ reported("policies-that-are-wrong", of(makes(2) + keyed(2) + stored(2) + wrong +
 # ---------------------------------------------------------------- two refusals in one file: the first of the table is told
 
 BAD = ONE[:31]
-FAULTS = {"cut-short": [b"\5\0"], "unknown-kind": [event(7)], "wrong-length": [event(TICK, b"\0")]}
+FAULTS = {"cut-short": [b"\5\0"], "unknown-kind": [event(NEXT_KIND)], "wrong-length": [event(TICK, b"\0")]}
 REASONS = {"cut-short": CUT, "unknown-kind": UNKNOWN, "wrong-length": LENGTH}
 refused("contents-wrong-and-section-missing", laid((3, 16, 6), bodies=(TWO,)), CONTENTS)
 refused("contents-wrong-and-events-missing", laid((FRESH, 16, SIZE), bodies=(ONE, GAP)), CONTENTS)
@@ -255,9 +264,14 @@ for one, other in (("unknown-kind", "cut-short"), ("wrong-length", "cut-short"),
     refused(f"{one}-early-and-{other}-late", of(FAULTS[one] + ticks(3) + FAULTS[other]), REASONS[other])
 refused("unknown-kind-early-and-wrong-length-late", of(FAULTS["unknown-kind"] + ticks(3) + FAULTS["wrong-length"]), UNKNOWN)
 refused("wrong-length-unknown-kind-and-cut-short", of(FAULTS["wrong-length"] + FAULTS["unknown-kind"] + FAULTS["cut-short"]), CUT)
-refused("cut-short-within-an-event-of-unknown-kind", of(ticks() + [b"\7\0\1"]), CUT)
+refused("cut-short-within-an-event-of-unknown-kind", of(ticks() + [bytes([NEXT_KIND, 0, 1])]), CUT)
 refused("cut-short-within-a-tick-of-wrong-length", of(ticks() + [b"\5\0\1"]), CUT)
-refused("unknown-kind-of-a-length-that-would-be-wrong", of(ticks() + [event(0), event(7, bytes(300))]), UNKNOWN)
+refused("cut-short-between-policy-and-mark", of(ticks() + [finished_event(b"", 0, 1)[:-1]]), CUT)
+refused("cut-short-after-policy-and-mark", of(ticks() + [finished_event(aid(1), 0, 1)[:5]]), CUT)
+refused("unknown-kind-of-a-length-that-would-be-wrong", of(ticks() + [event(0), event(NEXT_KIND, bytes(300))]), UNKNOWN)
+SHORT = [event(FINISHED_WITH_MARK, b"\xFF")]
+refused("finished-with-mark-too-short-and-unknown-kind-late", of(SHORT + ticks() + [event(NEXT_KIND, bytes(7))]), UNKNOWN)
+refused("finished-with-mark-too-short-and-cut-short-late", of(SHORT + ticks() + [b"\7\0"]), CUT)
 refused("every-refusal-at-once", laid((FRESH, 16, 31), bodies=(BAD, *FAULTS["wrong-length"], *FAULTS["unknown-kind"], *FAULTS["cut-short"])), CONTENTS)
 
 # ---------------------------------------------------------------- for whom a tick counts
@@ -293,6 +307,39 @@ reported("lines-in-the-order-of-enabling", of(profile(9) + profile(3) + enables(
 bound = profile(2, 1) + profile(3) + enables(2) + confirms(1) + ticks(2)
 reported("policy-forbids-disabling", of(bound + enables(3) + disables(2) + ticks(3)), {1: 0, 2: 5}, 17, no=2)
 reported("policy-forbids-disabling-and-rolls-back", of(profile(2, 1) + enables(2) + ticks(13)), {1: 3, 2: 10}, 18)
+
+# ---------------------------------------------------------------- the mark of provisioning capability
+
+# 02 is to be the fall-back; where it is, a lost network enables it.
+LOST_ON = falls_to(2) + lost() + ticks(3)
+for what, mark in (("finished-of-old-counts-as-marked", None), ("mark-1", 1)):
+    reported(what, of(profile(2, mark=mark) + LOST_ON), {1: 0, 2: 3}, 9)
+reported("mark-0-is-no-fall-back", of(profile(2, mark=0) + LOST_ON), {1: 3}, 9, no=1)
+for mark in (2, 3, 128, 255):
+    reported(f"mark-{mark}-does-not-finish", of(profile(2, mark=mark) + LOST_ON), {1: 3}, 9, no=2)
+several = [one for mark in (2, 255, 1, 0) for one in finished(2, mark=mark)]
+reported("the-mark-first-accepted-stays", of(loaded(2) + several + LOST_ON), {1: 0, 2: 3}, 12, no=3)
+several = [one for mark in (2, 0, 1, None) for one in finished(2, mark=mark)]
+reported("no-mark-first-accepted-stays", of(loaded(2) + several + LOST_ON), {1: 3}, 12, no=4)
+# The policy stands before the mark: 1 and 0 forbid disabling, and 0 and 1 do not.
+stays = enables(2) + confirms(1) + ticks() + disables(2)
+reported("policy-1-and-mark-0", of(profile(2, 1, 0) + stays + falls_to(2) + ticks(3)), {1: 0, 2: 4}, 12, no=2)
+reported("policy-0-and-mark-1", of(profile(2, 0, 1) + stays + confirms(2) + falls_to(2) + ticks(3)), {1: 3, 2: 1}, 13)
+reported("policy-2-and-mark-0", of(profile(2, 2, 0) + deletes(2) + LOST_ON), {1: 3}, 10, no=2)
+wrong = [one for policy, mark in ((0, 2), (5, 0), (5, 1), (5, 2), (255, 255)) for one in finished(2, policy, mark)]
+reported("policies-and-marks-that-are-wrong", of(loaded(2) + wrong + finished(2, 3, 1) + LOST_ON), {1: 0, 2: 3}, 14, no=5)
+reported("enabled-and-not-marked", of(profile(2, mark=0) + enables(2) + confirms(1) + ticks(2) + LOST_ON), {1: 3, 2: 2}, 13, no=1)
+reported("not-marked-rolls-back-and-falls", of(profile(2, mark=0) + enables(2) + confirms(1) + disables(2) + ticks(35)), {1: 25, 2: 10}, 42)
+reported("naming-the-holder-beside-one-not-marked", of(profile(2, mark=0) + falls_to(1) + enables(2) + ticks(2)), {1: 0, 2: 2}, 8)
+again = profile(2, mark=1) + deletes(2) + profile(2, mark=0)
+reported("marked-deleted-and-created-again-without", of(again + LOST_ON), {1: 3}, 14, no=1)
+again = profile(2, mark=0) + deletes(2) + profile(2)
+reported("not-marked-deleted-and-created-again-as-of-old", of(again + LOST_ON), {1: 0, 2: 3}, 14)
+# 03, of old, is the fall-back; 02 cannot take its place, and 04 can.
+three = profile(3) + falls_to(3) + profile(2, mark=0) + falls_to(2) + enables(2) + confirms(1) + ticks() + lost() + ticks(2) + confirms(2)
+reported("old-and-new-finished-in-one-file", of(three), {1: 0, 2: 1, 3: 2}, 17, no=1)
+four = profile(4, mark=1) + falls_to(4) + enables(2) + confirms(3) + ticks(4) + lost() + ticks(5)
+reported("the-fall-back-moved-on-to-a-marked-one", of(three + four), {1: 0, 2: 5, 3: 2, 4: 5}, 34, no=1)
 
 # ---------------------------------------------------------------- deleted, and created again
 
@@ -355,7 +402,7 @@ reported("shares-of-a-third", shared(2, 1), {1: 2, 2: 1}, 9)
 reported("shares-of-a-sixteenth", shared(15, 1), {1: 15, 2: 1}, 22)
 reported("shares-of-a-two-thousandth", shared(1999, 1), {1: 1999, 2: 1}, 2006)
 reported("shares-under-a-two-thousandth", shared(2000, 1), {1: 2000, 2: 1}, 2007)
-reported("month", (TOP / "examples/month.events").read_bytes(), {1: 15, 2: 25, 3: 10}, 67, no=2)
+reported("month", (TOP / "examples/month.events").read_bytes(), {1: 15, 2: 25, 3: 10}, 68, no=3)
 
 
 def main():

@@ -1,7 +1,6 @@
 #!/usr/bin/env python3
-"""Writes marked.script and scenarios.script with their stdouts.
-The answer beside each call is written here from document 01 and RULINGS; the peer's
-answers are stored only if they all agree with it."""
+"""Writes marked.script, scenarios.script and explained.script with their stdouts, and a script for each bad line.
+The answer beside each call is written here from the papers; the peer's answers are stored only if they all agree with it."""
 import subprocess, sys
 
 sys.dont_write_bytecode = True
@@ -12,6 +11,7 @@ PEER = built("peer")
 VOLATILE = 0x01020304
 
 lines, wanted, names = [], [], 0
+bad_lines = []
 
 
 def name(text):
@@ -81,15 +81,21 @@ def stored(n, count, answer=None):
     call(f"stored {aid(n)} {count}", answer or done())
 
 
-def finished(n, policy=0, answer=None):
-    call(f"finished {aid(n)} {policy}", answer or done())
+def finished(n, policy=0, answer=None, mark=None):
+    given = f"{policy}" if mark is None else f"{policy} {mark}"
+    call(f"finished {aid(n)} {given}", answer or done())
 
 
-def profile(n, policy=0, quota=50, used=5):
+def loaded(n, quota=50, used=5):
+    """A profile that has only to be finished."""
     makes(n, quota=quota)
     keyed(n)
     stored(n, used)
-    finished(n, policy)
+
+
+def profile(n, policy=0, quota=50, used=5, mark=None):
+    loaded(n, quota, used)
+    finished(n, policy, mark=mark)
 
 
 def ticks(figures):
@@ -109,17 +115,17 @@ def note(kind, number, n):
     return f"{kind:02X}:{number:04X}:{aid(n)}"
 
 
-def row(a, state, mark):
-    return tlv("E3", tlv("4F", a) + "9F7001" + state + "5301" + mark)
+def row(a, state, fall_back):
+    return tlv("E3", tlv("4F", a) + "9F7001" + state + "5301" + fall_back)
 
 
 S, P, D, E = "07", "0F", "1F", "3F"
 
 
 def table(*rows, ticks=0):
-    """GET STATUS of all: (AID number or text, state) rows; a third member marks the fall-back."""
-    text = "".join(row(a if isinstance(a, str) else aid(a), state, "01" if mark else "00")
-                   for a, state, *mark in rows)
+    """GET STATUS of all: (AID number or text, state) rows; a third member tells the fall-back."""
+    text = "".join(row(a if isinstance(a, str) else aid(a), state, "01" if fall_back else "00")
+                   for a, state, *fall_back in rows)
     command(status("4F00", le="00"), done(ticks, response=text))
 
 
@@ -137,32 +143,73 @@ def not_ready(step):
     step(2, no("6985"))
 
 
-def card(answer, capacity=1000, volatile=7, last=0, fall_back=0, phase="Q", places=(), eid=EID):
-    places = list(places) + ["-"] * (PLACES - len(places))
-    call(f"card {eid} {capacity} {volatile} {last} {fall_back} {phase} " + " ".join(places), answer)
+def card(answer, places=(), **more):
+    call(card_line(places, **more), answer)
 
 
-def place(n, state, quota=50, used=5, policy=0):
-    return f"{n if isinstance(n, str) else aid(n)}:{state}:{quota}:{used}:{policy}"
+def place(n, state, **more):
+    return place_word(n if isinstance(n, str) else aid(n), state, **more)
 
 
-def store_away(stem):
+def not_held(mark):
+    """A place of zeros but for its mark."""
+    return place("-", "00", quota=0, used=0, mark=mark)
+
+
+def explained(line, word, *rows, more=(), phase="quiet", ticks=0):
+    """A call in the explained form. A row has what the head names, `more` are the lines before the table."""
+    head = ("place", "AID", "state", "quota", "used", "fall-back", "provisioning", "policy")
+    longest = max(len(row[1]) for row in rows)
+    columns = (">7", f"{longest}", "12", ">7", ">7", "9", "12", "")
+    shown = ["  ".join(map(format, cells, columns)) for cells in (head, *rows)]
+    call(line, "\n".join([word, *more, *shown, f"phase {phase}", f"ticks to come {ticks}"]))
+
+
+def unreadable(what, line, reason):
+    """A line that cannot be read. It stops its script, so it stands in one of its own, between two ticks."""
+    bad_lines.append((f"# {what}\ntick\n{line}\ntick\n", f"{no('6F00')}\nline 3: {reason}\n"))
+
+
+def answered(script, *form):
+    return subprocess.run([PEER, *form, script], capture_output=True, text=True).stdout
+
+
+def differences(form, answers):
+    """How many calls are answered otherwise than by hand, each shown."""
+    calls = [line for line in lines if line.strip() and not line.lstrip().startswith("#")]
+    assert len(calls) == len(wanted)
+    wrong = [triple for triple in zip(calls, wanted, answers) if triple[1] != triple[2]]
+    for line, want, answer in wrong:
+        print(f"{form}: {line}\n  wanted {want}\n  got    {answer}")
+    return len(wrong) + abs(len(answers) - len(wanted))
+
+
+def store_away(stem, end="\n", forms=("plain", "ask")):
+    """Stores what is written of the calls so far; `end` is what ends an answer."""
     global lines, wanted, names
     script = HERE / f"{stem}.script"
     script.write_text("\n".join(lines) + "\n")
-    got = subprocess.run([PEER, script], capture_output=True, text=True).stdout
-    answers = got.splitlines()
-    calls = [l for l in lines if l.strip() and not l.lstrip().startswith("#")]
-    assert len(calls) == len(wanted)
-    wrong = [x for x in zip(calls, wanted, answers) if x[1] != x[2]]
-    for line, want, answer in wrong:
-        print(f"{stem}: {line}\n  wanted {want}\n  got    {answer}")
-    if wrong or len(answers) != len(wanted):
-        print(f"{stem}: {len(wrong)} differ, {len(answers)} answers to {len(wanted)}; stdout not written")
-        sys.exit(1)
+    for form in forms:
+        got = answered(script, *[form] * (form != "plain"))
+        wrong = differences(f"{stem}, {form}", got.split(end)[:-1])
+        if wrong:
+            sys.exit(f"{stem}, {form}: {wrong} of {len(wanted)} calls differ; stdout not written")
     (HERE / f"{stem}.stdout").write_text(got)
-    print(f"{stem}: {names} named, {len(wanted)} calls, all as written by hand")
+    print(f"{stem}: {names} named, {len(wanted)} calls, all as written by hand, {' and '.join(forms)}")
     lines, wanted, names = [], [], 0
+
+
+def store_bad_lines():
+    for old in HERE.glob("bad-*"):
+        old.unlink()
+    for index, (content, want) in enumerate(bad_lines, 1):
+        script = HERE / f"bad-{index:02}.script"
+        script.write_text(content)
+        got = answered(script)
+        if got != want:
+            sys.exit(f"{content}wanted\n{want}got\n{got}")
+        script.with_suffix(".stdout").write_text(got)
+    print(f"bad lines: {len(bad_lines)}, all named as written by hand")
 
 
 # ---------------------------------------------------------------- the twelve marked examples
@@ -171,11 +218,15 @@ name("Example 1: GET STATUS on a fresh card")
 fresh()
 command("80F24002024F0000", "9000 E30E4F05A0000000019F70013F530101 - 0")
 
-name("Example 2: set fall-back on 02, DISABLED; then with 02 not held")
+name("Example 2: set fall-back on 02, DISABLED, which bears the mark; unmarked; then with 02 not held")
 fresh()
-profile(2)
+profile(2, mark=1)
 command("80E288000A3A05074F05A000000002", "9000 - - 0")
 table((1, E), (2, D, True))
+fresh()
+profile(2, mark=0)
+command("80E288000A3A05074F05A000000002", "6985 - - 0")
+table((1, E, True), (2, D))
 fresh()
 command("80E288000A3A05074F05A000000002", "6A88 - - 0")
 
@@ -267,6 +318,7 @@ keyed(1, no("6F00"))
 call("keyed -", no("6F00"))
 stored(1, 0, no("6F00"))
 finished(1, 255, no("6F00"))
+finished(1, 0, no("6F00"), mark=2)
 command("80CAFF2100", no("6F00"))
 command("", no("6F00"), buffer=0)
 
@@ -829,7 +881,7 @@ card(done(), fall_back=7, places=[place(a, s) for a, s in zip(reversed(longs), (
 table(*[(a, s) for a, s in zip(reversed(longs), (S, P, D, E, S, P, D))], (longs[0], D, True))
 
 name("Ruling 51: GET DATA, high byte first, less quotas and not less used")
-card(done(), capacity=1048576, volatile=4278255360, places=[place(1, E, 65793, 65793), place(2, D, 1, 0)])
+card(done(), capacity=1048576, volatile=4278255360, places=[place(1, E, quota=65793, used=65793), place(2, D, quota=1, used=0)])
 command("80CAFF2100", done(response="FF210F810102" + "8204000EFEFE" + "8304FF00FF00"))
 
 name("Ruling 52: tick in Quiet and lost on the fall-back do nothing; lost restarts no wait")
@@ -868,11 +920,11 @@ card(done(), places=good)
 card(no("6F00"), capacity=0, places=good)
 card(no("6F00"), capacity=1048577, places=good)
 card(no("6F00"), places=[place("A0000000", E), place(2, D)])
-card(no("6F00"), places=[place(1, E), "-:1F:50:5:0"])
-card(no("6F00"), places=[place(1, E), place(2, D), "-:00:1:0:0"])
-card(no("6F00"), places=[place(1, E), place(2, D), "-:00:0:0:1"])
-card(no("6F00"), places=[place(1, E), place(2, D), "-:07:0:0:0"])
-card(done(), places=[place(1, E), place(2, D), "-:00:0:0:0"])
+card(no("6F00"), places=[place(1, E), "-:1F:50:5:0:0"])
+card(no("6F00"), places=[place(1, E), place(2, D), "-:00:1:0:0:0"])
+card(no("6F00"), places=[place(1, E), place(2, D), "-:00:0:0:1:0"])
+card(no("6F00"), places=[place(1, E), place(2, D), "-:07:0:0:0:0"])
+card(done(), places=[place(1, E), place(2, D), "-:00:0:0:0:0"])
 for state in ("00", "03", "0B", "2F", "7F", "FF", "83"):
     card(no("6F00"), places=[place(1, E), place(2, state)])
 card(no("6F00"), places=[place(1, E), place(2, D, quota=0, used=0)])
@@ -965,6 +1017,317 @@ enables(2, done(20, notification=note(2, 5, 2)))
 confirms(5)
 table((1, D, True), (2, E))
 
+# ---------------------------------------------------------------- request 2026-02: the mark of provisioning capability
+
+name("B55: finished gives the mark: 0, 1, and 1 where none is given; GET STATUS does not show it")
+fresh()
+for n, mark in ((2, 0), (3, 1), (4, None)):
+    loaded(n)
+    finished(n, mark=mark)
+table((1, E, True), (2, D), (3, D), (4, D))
+sets(2, no("6985"))
+sets(3)
+table((1, E), (2, D), (3, D, True), (4, D))
+sets(2, no("6985"))
+sets(4)
+table((1, E), (2, D), (3, D), (4, D, True))
+sets(1)
+
+name("B55: finished with any other mark is wrong data, and the profile can be finished afterwards")
+fresh()
+loaded(2)
+for mark in (2, 3, 4, 16, 127, 128, 129, 254, 255):
+    finished(2, 0, no("6A80"), mark)
+table((1, E, True), (2, P))
+sets(2, no("6985"))
+finished(2, mark=1)
+sets(2)
+table((1, E), (2, D, True))
+
+name("B57: a wrong mark comes before an AID that is not held and before a wrong state")
+fresh()
+makes(2)
+for n in (1, 2, 3):
+    finished(n, 0, no("6A80"), mark=2)
+keyed(2)
+for mark in (2, 255):
+    finished(2, 0, no("6A80"), mark)
+    finished(3, 0, no("6A80"), mark)
+for mark in (0, 1):
+    finished(1, 0, no("6985"), mark)
+    finished(2, 0, no("6985"), mark)
+    finished(3, 0, no("6A88"), mark)
+call("finished A0000000 0 1", no("6A80"))
+call("finished A0000000 0 2", no("6A80"))
+call("finished - 0 0", no("6A80"))
+call("finished " + "A0" * 17 + " 0 1", no("6A80"))
+
+name("B57: a wrong mark, a wrong policy and both; each is asked with the other right")
+fresh()
+loaded(2)
+for policy, mark in ((5, 0), (5, 1), (8, 1), (255, 0), (0, 2), (4, 2), (5, 2), (255, 255)):
+    finished(2, policy, no("6A80"), mark)
+    finished(3, policy, no("6A80"), mark)
+    finished(1, policy, no("6A80"), mark)
+# Neither is read in the other's place: 2 is a policy and no mark.
+finished(2, 1, no("6A80"), mark=2)
+finished(2, 2, mark=1)
+deletes(2, no("69E1"))
+sets(2)
+
+name("B55: a refused finished writes no mark")
+fresh()
+profile(2, mark=0)
+profile(3, mark=1)
+finished(2, 0, no("6985"), mark=1)
+finished(3, 0, no("6985"), mark=0)
+finished(3, 0, no("6A80"), mark=2)
+finished(1, 0, no("6985"), mark=0)
+sets(2, no("6985"))
+sets(3)
+sets(1)
+
+name("B55: finished with each mark while a change is open")
+fresh()
+profile(2)
+loaded(3)
+loaded(4)
+enables(2, done(20, notification=note(2, 1, 2)))
+finished(3, 0, no("6A80", 20), mark=2)
+finished(3, 0, done(20), mark=0)
+finished(4, 0, done(20), mark=1)
+confirms(1)
+sets(3, no("6985"))
+sets(4)
+
+name("B58: set fall-back on an unmarked DISABLED target is 69 85, and the card is as it was")
+fresh()
+profile(2, mark=0)
+table((1, E, True), (2, D))
+sets(2, no("6985"))
+table((1, E, True), (2, D))
+figures(2, 850)
+call("lost", done())
+enables(2, done(20, notification=note(2, 1, 2)))
+confirms(1)
+call("lost", done(10, notification=note(5, 2, 1)))
+confirms(2)
+deletes(2)
+
+name("B58: set fall-back on an unmarked ENABLED target is 69 85")
+fresh()
+profile(2, mark=0)
+enables(2, done(20, notification=note(2, 1, 2)))
+confirms(1)
+sets(2, no("6985"))
+table((1, D, True), (2, E))
+disables(2, done(30, notification=note(2, 2, 1)))
+
+name("B58: set fall-back on a marked target is taken, DISABLED and ENABLED")
+fresh()
+profile(2, mark=1)
+profile(3, mark=1)
+sets(2)
+table((1, E), (2, D, True), (3, D))
+enables(3, done(30, notification=note(2, 1, 3)))
+confirms(1)
+sets(3)
+table((1, D), (2, D), (3, E, True))
+call("lost", done())
+
+name("B58: the state is asked too: marked or not, SELECTABLE and PERSONALIZED are 69 85")
+fresh()
+makes(2)
+sets(2, no("6985"))
+keyed(2)
+sets(2, no("6985"))
+card(done(), [place(1, E), place(2, S, mark=1), place(3, S, mark=0), place(4, P, mark=1), place(5, P, mark=0)])
+for n in range(2, 6):
+    sets(n, no("6985"))
+table((1, E, True), (2, S), (3, S), (4, P), (5, P))
+
+name("B58: the order of set fall-back: the data field, a change open, not held, then state and mark")
+fresh()
+profile(2, mark=0)
+profile(3, mark=1)
+command(store("3A05", four_f("A0000000")), no("6A80"))
+sets(9, no("6A88"))
+sets(2, no("6985"))
+enables(2, done(20, notification=note(2, 1, 2)))
+for n in (1, 2, 3, 9):
+    sets(n, no("6985", 20))
+command(store("3A05", four_f("A0000000")), no("6A80", 20))
+ticks([*count(19, 11), (10, note(3, 2, 1))])
+for n in (1, 2, 3, 9):
+    sets(n, no("6985", 10))
+
+name("B58: naming the holder stays 90 00, beside unmarked ones")
+fresh()
+profile(2, mark=0)
+sets(1)
+enables(2, done(20, notification=note(2, 1, 2)))
+confirms(1)
+sets(1)
+table((1, D, True), (2, E))
+
+name("B58: enable, roll-back, fall-back and ticks ask no mark")
+fresh()
+profile(2, mark=0)
+profile(3, mark=0)
+enables(2, done(20, notification=note(2, 1, 2)))
+confirms(1)
+enables(3, done(30, notification=note(2, 2, 3)))
+ticks([*count(29, 21), (20, note(3, 3, 2))])
+table((1, D, True), (2, E), (3, D), ticks=20)
+ticks([*count(19, 11), (10, note(5, 4, 1)), *count(9, 0)])
+table((1, E, True), (2, D), (3, D))
+
+name("B58: disable, lost and both deletes ask no mark")
+fresh()
+profile(2, mark=0)
+profile(3, 2, mark=0)
+enables(2, done(20, notification=note(2, 1, 2)))
+confirms(1)
+disables(2, done(30, notification=note(2, 2, 1)))
+confirms(2)
+enables(2, done(20, notification=note(2, 3, 2)))
+confirms(3)
+call("lost", done(10, notification=note(5, 4, 1)))
+ticks(count(9, 0))
+deletes(2)
+deletes(3, no("69E1"))
+master(3)
+table((1, E, True))
+
+name("B58: the deletion at confirmation asks no mark")
+fresh()
+profile(2, 4, mark=0)
+profile(3, 4, mark=1)
+enables(2, done(20, notification=note(2, 1, 2)))
+confirms(1)
+enables(3, done(30, notification=note(2, 2, 3)))
+confirms(2, done(response="80074F05A000000002"))
+enables(1, done(30, notification=note(2, 3, 1)))
+confirms(3, done(response="80074F05A000000003"))
+table((1, E, True))
+
+name("B55: nothing but finished writes a mark, and none of another profile")
+fresh()
+profile(2, mark=0)
+profile(3, mark=1)
+profile(4, mark=0)
+enables(2, done(20, notification=note(2, 1, 2)))
+ticks([*count(19, 11), (10, note(3, 2, 1))])
+confirms(2)
+enables(3, done(20, notification=note(2, 3, 3)))
+confirms(3)
+sets(3)
+call("lost", done())
+makes(5)
+deletes(4)
+sets(2, no("6985"))
+sets(1)
+sets(3)
+sets(5, no("6985"))
+table((1, D), (2, D), (3, E, True), (5, S))
+
+name("B55: a deleted profile takes its mark along; created again it has none until it is finished")
+fresh()
+profile(2, mark=1)
+deletes(2)
+profile(2, mark=0)
+sets(2, no("6985"))
+deletes(2)
+profile(2, mark=1)
+sets(2)
+sets(1)
+master(2)
+makes(2)
+sets(2, no("6985"))
+keyed(2)
+sets(2, no("6985"))
+stored(2, 1)
+finished(2, 0, no("6A80"), mark=2)
+finished(2, mark=0)
+sets(2, no("6985"))
+
+name("B55: another profile in the place of a marked one has its own mark")
+fresh()
+profile(2, 4, mark=1)
+enables(2, done(20, notification=note(2, 1, 2)))
+confirms(1)
+enables(1, done(30, notification=note(2, 2, 1)))
+confirms(2, done(response="80074F05A000000002"))
+profile(5, mark=0)
+table((1, E, True), (5, D))
+sets(5, no("6985"))
+sets(2, no("6A88"))
+
+name("B56: a card whose fall-back is not marked is not sound, in every phase")
+unmarked = [place(1, E, mark=0), place(2, D, mark=1)]
+card(no("6F00"), unmarked)
+sets(1, no("6F00"))
+sets(2, no("6F00"))
+call("tick", no("6F00"))
+finished(2, 0, no("6F00"), mark=1)
+card(no("6F00"), [place(1, E, mark=1), place(2, D, mark=0)], fall_back=1)
+card(no("6F00"), [place(1, E, mark=0)])
+card(no("6F00"), unmarked, last=9, phase="T:1:5:9")
+card(no("6F00"), unmarked, last=9, phase="B:5:9")
+card(no("6F00"), unmarked, last=9, phase="F:5:9")
+card(no("6F00"), [place(1, D, mark=0), place(2, E, mark=1)], last=9, phase="T:0:5:9")
+card(done(), unmarked, fall_back=1)
+sets(1, no("6985"))
+
+name("B55: a mark over 1 is not sound, on the fall-back and on any other, in each state")
+for mark in (2, 3, 128, 255):
+    card(no("6F00"), [place(1, E, mark=mark), place(2, D)])
+    for state in (S, P, D):
+        card(no("6F00"), [place(1, E), place(2, state, mark=mark)])
+    card(no("6F00"), [place(1, D), place(2, E, mark=mark)])
+card(no("6F00"), [place(1, E), place(2, D, mark=1), place(3, D, mark=2)])
+call("tick", no("6F00"))
+
+name("B55: a place that is not held has no mark")
+for mark in (1, 2, 255):
+    card(no("6F00"), [place(1, E), not_held(mark=mark)])
+card(no("6F00"), [place(1, E), *["-"] * (PLACES - 2), not_held(mark=1)])
+card(no("6F00"), [not_held(mark=1), place(2, E)], fall_back=1)
+card(no("6F00"), [place(1, E), not_held(mark=1)], fall_back=1)
+card(done(), [place(1, E), not_held(mark=0)])
+makes(2)
+
+name("B56: either mark is sound in a profile that is not the fall-back, whatever its state")
+for mark in (0, 1):
+    for state in (S, P, D):
+        card(done(), [place(1, E), place(2, state, mark=mark)])
+    card(done(), [place(1, D), place(2, E, mark=mark)])
+    card(done(15), [place(1, D), place(2, D), place(3, E, mark=mark)], last=9, phase="B:5:9")
+    card(done(25), [place(1, D), place(2, D, mark=mark), place(3, E, mark=mark)], last=9, phase="T:1:5:9")
+ticks([*count(24, 21), (20, note(3, 10, 2))])
+
+name("B56: a mark handed in on a SELECTABLE or PERSONALIZED profile gives way to that of finished")
+card(done(), [place(1, E), place(2, S, mark=1), place(3, P, mark=1), place(4, P, mark=0), place(5, P, mark=1)])
+keyed(2)
+finished(2, mark=0)
+finished(3, mark=0)
+finished(4, mark=1)
+finished(5)
+sets(2, no("6985"))
+sets(3, no("6985"))
+sets(4)
+sets(5)
+
+name("B56: eight profiles, the fall-back alone marked: it cannot be moved")
+card(done(), [place(n, E if n == 1 else D, mark=int(n == 8)) for n in range(1, 9)], fall_back=7)
+for n in range(1, 8):
+    sets(n, no("6985"))
+sets(8)
+table((1, E), *[(n, D) for n in range(2, 8)], (8, D, True))
+call("lost", done(10, notification=note(5, 1, 8)))
+
+# ---------------------------------------------------------------- how a line may be written
+
 name("words: spaces, hex in either case, numbers with leading zeros")
 lines.append("")
 lines.append("    ")
@@ -972,4 +1335,85 @@ lines.append("   # a comment after spaces")
 call(f"  fresh   {EID.lower()} a000000001  0001000 100 0 000  ", done())
 call(f"command 00 80caFf2100 0256", done(response="FF210F810101820400000384830400000000"))
 call(" tick ", done())
+loaded(2)
+call("finished   A000000002 000  00255 ", no("6A80"))
+call("finished A000000002 004 0000000000000000001", done())
+sets(2)
+card(no("6F00"), [place(1, E), place(2, D, mark=255)])
+card(done(), [place(1, E), place(2, D, mark="000")])
 store_away("scenarios")
+
+# ---------------------------------------------------------------- the mark in the explained form
+
+DONE, WRONG_STATE, UNSOUND = "90 00 done", "69 85 a change is open, or none is, or the target's state is wrong", "6F 00 the card is not sound"
+WRONG_VALUE, TAKEN = "6A 80 data field or values wrong, or AID already held", ["response 00"]
+
+
+def holds(line, word, two, three=None, fall_back=1, more=()):
+    """A call on a card of 01, whose row never changes, 02 and 03: of these state, used bytes, mark and policy, where they are held."""
+    profiles = [("ENABLED", 10, "yes", "none"), two, three]
+    rows = [(n - 1, aid(n), state, 100 if n == 1 else 50, used, "yes" if n == fall_back else "", mark, policy)
+            for n, profile in enumerate(profiles, 1) if profile for state, used, mark, policy in [profile]]
+    explained(line, word, *rows, more=more)
+
+
+name("B59: the column `provisioning`, from creation to deletion and creation again")
+CREATIONS = [f"command 0 {create(aid=aid(n))}" for n in (2, 3)]
+FALLS = [f"command 0 {store('3A05', four_f(aid(n)))}" for n in (2, 3)]
+MADE, KEYED, LOADED = ("SELECTABLE", 0, "", "none"), ("PERSONALIZED", 0, "", "none"), ("PERSONALIZED", 5, "", "none")
+UNMARKED, MARKED = ("DISABLED", 5, "", "none"), ("DISABLED", 5, "yes", "deletion forbidden")
+holds(f"fresh {EID} {F} 1000 100 10 0", DONE, None)
+holds(CREATIONS[0], DONE, MADE, more=TAKEN)
+holds(f"keyed {B}", DONE, KEYED)
+holds(f"stored {B} 5", DONE, LOADED)
+holds(f"finished {B} 0 2", WRONG_VALUE, LOADED)
+holds(f"finished {B} 0 0", DONE, UNMARKED)
+holds(FALLS[0], WRONG_STATE, UNMARKED)
+holds(CREATIONS[1], DONE, UNMARKED, MADE, more=TAKEN)
+holds(f"keyed {aid(3)}", DONE, UNMARKED, KEYED)
+holds(f"stored {aid(3)} 5", DONE, UNMARKED, LOADED)
+holds(f"finished {aid(3)} 2", DONE, UNMARKED, MARKED)
+holds(FALLS[1], DONE, UNMARKED, MARKED, fall_back=3)
+holds(FALLS[0], WRONG_STATE, UNMARKED, MARKED, fall_back=3)
+holds(FALLS[1], DONE, UNMARKED, MARKED, fall_back=3)
+holds(f"command 0 {store('3A05', four_f(F))}", DONE, UNMARKED, MARKED)
+holds(f"command 1 {delete(four_f(aid(3)) + b6() + TOKEN)}", DONE, UNMARKED, more=TAKEN)
+holds(CREATIONS[1], DONE, UNMARKED, MADE, more=TAKEN)
+holds(f"keyed {aid(3)}", DONE, UNMARKED, KEYED)
+holds(f"stored {aid(3)} 5", DONE, UNMARKED, LOADED)
+holds(f"finished {aid(3)} 0 0", DONE, UNMARKED, UNMARKED)
+holds(f"command 0 {delete(four_f(aid(3)))}", DONE, UNMARKED, more=TAKEN)
+
+name("B59: the column in records that are not sound, and in a sound one with a mark on a SELECTABLE profile")
+explained(
+    card_line([place(1, E, mark=0), place(2, D, mark=2), place("A0", S, mark=255), not_held(1), place(5, P, mark=1)]), UNSOUND,
+    (0, aid(1), "ENABLED", 50, 5, "yes", "", "none"),
+    (1, aid(2), "DISABLED", 50, 5, "", "02", "none"),
+    (2, "A0", "SELECTABLE", 50, 5, "", "FF", "none"),
+    (4, aid(5), "PERSONALIZED", 50, 5, "", "yes", "none"),
+)
+explained(
+    card_line([place(1, D), place(2, S, mark=1, policy=3), place(3, E, mark=0)], last=9, phase="B:7:9"), DONE,
+    (0, aid(1), "DISABLED", 50, 5, "yes", "yes", "none"),
+    (1, aid(2), "SELECTABLE", 50, 5, "", "yes", "disabling and deletion forbidden"),
+    (2, aid(3), "ENABLED", 50, 5, "", "", "none"),
+    phase="back: ticks left 7, number 9", ticks=17,
+)
+store_away("explained", "\n\n", ["explain"])
+
+# ---------------------------------------------------------------- lines that cannot be read
+
+for given in ("0 256", "0 1000", "0 65537", "0 4294967296", "0 yes", "0 -", "0 -1", "0 0x1", "0 1:", "256 1", "x 1"):
+    unreadable("a POLICY or MARK that is no number of a byte", f"finished {B} {given}", "bad number")
+unreadable("finished has three words at least", f"finished {B}", "words missing")
+unreadable("finished has four words at most", f"finished {B} 0 1 1", "too many words")
+unreadable("the number of words comes before what they are", "finished x x x x", "too many words")
+unreadable("the AID comes before POLICY and MARK", "finished A00000000 256 256", "bad hex")
+unreadable("no other inner call has a MARK", f"stored {B} 5 1", "too many words")
+for parts in ("3F:50:5", "3F:50:5:0", "3F:50:5:0:1:1", "3F:50:5:0:256", "3F:50:5:0:", "3F:50:5:0:-", "3F:50:5:0:yes", "3F:50:5:256:1", "3:50:5:0:1"):
+    unreadable("a PLACE has six parts, the last of them a MARK of a byte", card_line([f"{F}:{parts}"]), "bad place")
+unreadable("a PLACE without an AID has its MARK too", card_line([place(1, E), "-:00:0:0:0"]), "bad place")
+unreadable("the last place is read too", card_line([place(1, E), *["-"] * (PLACES - 2), place(2, D, mark=256)]), "bad place")
+unreadable("the PHASE comes before the places", card_line([place(1, E, mark=256)], phase="q"), "bad phase")
+unreadable("a long line comes before its words", f"finished {B} 0 " + "0" * 4096, "too long")
+store_bad_lines()

@@ -25,8 +25,8 @@ def stored(who, n=5):
     return [event(STORED, number(n) + aid(who))]
 
 
-def finished(who, policy=0):
-    return [event(FINISHED, bytes([policy]) + aid(who))]
+def finished(who, policy=0, mark=None):
+    return [finished_event(aid(who), policy, mark)]
 
 
 def ticks(count=1):
@@ -41,9 +41,14 @@ def makes(who, quota=50):
     return command(create(aid=aid(who).hex(), params=C9 + ef(quota), le="00"))
 
 
-def profile(who, policy=0):
+def loaded(who):
+    """A profile that has only to be finished: three events."""
+    return makes(who) + keyed(who) + stored(who)
+
+
+def profile(who, policy=0, mark=None):
     """A profile made and loaded: four events."""
-    return makes(who) + keyed(who) + stored(who) + finished(who, policy)
+    return loaded(who) + finished(who, policy, mark)
 
 
 def enables(who):

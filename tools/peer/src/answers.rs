@@ -91,18 +91,19 @@ fn put_table(out: &mut String, card: &Card) {
     let width = 2 * longest;
     let _ = writeln!(
         out,
-        "{:>7}  {:width$}  {:12}  {:>7}  {:>7}  {:9}  policy",
-        "place", "AID", "state", "quota", "used", "fall-back"
+        "{:>7}  {:width$}  {:12}  {:>7}  {:>7}  {:9}  {:12}  policy",
+        "place", "AID", "state", "quota", "used", "fall-back", "provisioning"
     );
     for (index, place) in held() {
-        let mark = if card.is_fall_back(index) { "yes" } else { "" };
+        let fall_back = if card.is_fall_back(index) { "yes" } else { "" };
         let _ = writeln!(
             out,
-            "{index:>7}  {:width$}  {:12}  {:>7}  {:>7}  {mark:9}  {}",
+            "{index:>7}  {:width$}  {:12}  {:>7}  {:>7}  {fall_back:9}  {:12}  {}",
             digits(place.aid.bytes()),
             state_name(place.life_cycle),
             place.quota,
             place.used,
+            mark_name(place.mark),
             policy_name(place.policy)
         );
     }
@@ -114,6 +115,14 @@ fn state_name(life_cycle: u8) -> String {
         PERSONALIZED => "PERSONALIZED".to_owned(),
         DISABLED => "DISABLED".to_owned(),
         ENABLED => "ENABLED".to_owned(),
+        other => format!("{other:02X}"),
+    }
+}
+
+fn mark_name(mark: u8) -> String {
+    match mark {
+        0 => String::new(),
+        MARKED => "yes".to_owned(),
         other => format!("{other:02X}"),
     }
 }

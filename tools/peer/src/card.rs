@@ -17,6 +17,9 @@ pub const DISABLING_FORBIDDEN: u8 = 0x01;
 pub const DELETION_FORBIDDEN: u8 = 0x02;
 pub const DELETE_ONCE_DISABLED: u8 = 0x04;
 
+/// The mark of a profile with provisioning capability; 0 is that of one without.
+pub const MARKED: u8 = 1;
+
 pub const CHANGED: u8 = 0x02;
 pub const ROLLED_BACK: u8 = 0x03;
 pub const FALLEN_BACK: u8 = 0x05;
@@ -24,6 +27,10 @@ pub const FALLEN_BACK: u8 = 0x05;
 /// Table 70 of 000 lets `delete once disabled` stand only alone, so 05 is as wrong as 06 and 07.
 pub fn policy_is_right(policy: u8) -> bool {
     policy == DELETE_ONCE_DISABLED || policy & !(DISABLING_FORBIDDEN | DELETION_FORBIDDEN) == 0
+}
+
+pub fn mark_is_right(mark: u8) -> bool {
+    mark <= MARKED
 }
 
 pub fn aid_length_is_right(length: usize) -> bool {
@@ -60,13 +67,20 @@ pub struct Place {
     pub quota: u32,
     pub used: u32,
     pub policy: u8,
+    /// Provisioning capability: `finished` gives it, set fall-back asks it.
+    pub mark: u8,
 }
 
 impl Place {
-    pub const ZERO: Place = Place { aid: Aid::NONE, life_cycle: 0, quota: 0, used: 0, policy: 0 };
+    pub const ZERO: Place = Place { aid: Aid::NONE, life_cycle: 0, quota: 0, used: 0, policy: 0, mark: 0 };
 
     pub fn is_held(&self) -> bool {
         self.aid.length > 0
+    }
+
+    /// One test for soundness and for set fall-back, so that naming the holder meets no refusal.
+    pub fn may_be_fall_back(&self) -> bool {
+        matches!(self.life_cycle, DISABLED | ENABLED) && self.mark == MARKED
     }
 
     fn is_sound_profile(&self, capacity: u32) -> bool {
@@ -75,6 +89,7 @@ impl Place {
             && (1..=capacity).contains(&self.quota)
             && self.used <= self.quota
             && policy_is_right(self.policy)
+            && mark_is_right(self.mark)
     }
 }
 
@@ -127,7 +142,7 @@ impl Card {
         }
         let mut card = Card { capacity, volatile, ..Card::ZEROS };
         card.eid.copy_from_slice(eid);
-        card.places[0] = Place { aid: Aid::of(aid), life_cycle: ENABLED, quota, used, policy: 0 };
+        card.places[0] = Place { aid: Aid::of(aid), life_cycle: ENABLED, quota, used, mark: MARKED, ..Place::ZERO };
         Some(card)
     }
 
@@ -151,18 +166,20 @@ impl Card {
             enabled += usize::from(place.life_cycle == ENABLED);
             quotas += u64::from(place.quota);
         }
-        let fall_back = self.life_cycle_at(self.fall_back);
         enabled == 1
             && quotas <= u64::from(self.capacity)
-            && matches!(fall_back, Some(DISABLED | ENABLED))
-            && match self.phase {
-                Phase::Quiet => true,
-                Phase::Trial { previous, left, number } => {
-                    self.clock_is_sound(left, number) && self.life_cycle_at(previous) == Some(DISABLED)
-                }
-                Phase::Back { left, number } => self.clock_is_sound(left, number),
-                Phase::Fallen { left, number } => self.clock_is_sound(left, number) && fall_back == Some(ENABLED),
-            }
+            && self.held_at(self.fall_back).is_some_and(Place::may_be_fall_back)
+            && self.phase_is_sound()
+    }
+
+    fn phase_is_sound(&self) -> bool {
+        let is = |index, life_cycle| self.held_at(index).is_some_and(|place| place.life_cycle == life_cycle);
+        match self.phase {
+            Phase::Quiet => true,
+            Phase::Trial { previous, left, number } => self.clock_is_sound(left, number) && is(previous, DISABLED),
+            Phase::Back { left, number } => self.clock_is_sound(left, number),
+            Phase::Fallen { left, number } => self.clock_is_sound(left, number) && is(self.fall_back, ENABLED),
+        }
     }
 
     /// "its one outstanding notification number, the last one issued" is a rule of the record.
@@ -170,8 +187,8 @@ impl Card {
         (1..=WAIT).contains(&left) && number == self.last
     }
 
-    fn life_cycle_at(&self, index: u8) -> Option<u8> {
-        self.places.get(index as usize).filter(|place| place.is_held()).map(|place| place.life_cycle)
+    fn held_at(&self, index: u8) -> Option<&Place> {
+        self.places.get(index as usize).filter(|place| place.is_held())
     }
 
     pub fn find(&self, aid: &[u8]) -> Option<usize> {

@@ -1,6 +1,7 @@
 //! The event file of docs/EVENTS.md: its sections, its events, and why it is refused.
 //! A file is taken as a whole, so that no event is run of one that is refused.
 
+use crate::card::MARKED;
 use crate::manager::{self, Kept};
 use crate::status::DONE;
 
@@ -51,13 +52,14 @@ const STORED: u8 = 3;
 const FINISHED: u8 = 4;
 const TICK: u8 = 5;
 const LOST: u8 = 6;
+const FINISHED_WITH_MARK: u8 = 7;
 
 #[derive(Clone, Copy, PartialEq, Eq, Debug)]
 pub enum Event<'a> {
     Command { verdict: u8, bytes: &'a [u8] },
     Keyed(&'a [u8]),
     Stored(&'a [u8], u32),
-    Finished(&'a [u8], u8),
+    Finished { aid: &'a [u8], policy: u8, mark: u8 },
     Tick,
     Lost,
 }
@@ -144,14 +146,16 @@ fn split_event(events: &[u8]) -> Option<(u8, &[u8], &[u8])> {
 }
 
 fn event(kind: u8, bytes: &[u8]) -> Result<Event<'_>, Refusal> {
-    let of_length = |event: Option<_>| event.ok_or(Refusal::EventOfWrongLength);
-    match kind {
-        COMMAND => of_length(bytes.split_first().map(|(verdict, bytes)| Event::Command { verdict: *verdict, bytes })),
-        KEYED => Ok(Event::Keyed(bytes)),
-        STORED => of_length(number(bytes).map(|(n, aid)| Event::Stored(aid, n))),
-        FINISHED => of_length(bytes.split_first().map(|(policy, aid)| Event::Finished(aid, *policy))),
-        TICK => of_length(bytes.is_empty().then_some(Event::Tick)),
-        LOST => of_length(bytes.is_empty().then_some(Event::Lost)),
+    match (kind, bytes) {
+        (COMMAND, [verdict, bytes @ ..]) => Ok(Event::Command { verdict: *verdict, bytes }),
+        (KEYED, aid) => Ok(Event::Keyed(aid)),
+        (STORED, [a, b, c, d, aid @ ..]) => Ok(Event::Stored(aid, u32::from_be_bytes([*a, *b, *c, *d]))),
+        // Of a logger that knows no mark.
+        (FINISHED, [policy, aid @ ..]) => Ok(Event::Finished { aid, policy: *policy, mark: MARKED }),
+        (FINISHED_WITH_MARK, [policy, mark, aid @ ..]) => Ok(Event::Finished { aid, policy: *policy, mark: *mark }),
+        (TICK, []) => Ok(Event::Tick),
+        (LOST, []) => Ok(Event::Lost),
+        (COMMAND | STORED | FINISHED | FINISHED_WITH_MARK | TICK | LOST, _) => Err(Refusal::EventOfWrongLength),
         _ => Err(Refusal::EventOfUnknownKind),
     }
 }

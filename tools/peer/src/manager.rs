@@ -113,14 +113,15 @@ pub fn stored(kept: &mut Kept, aid: &[u8], n: u32) -> Answer {
     })
 }
 
-pub fn finished(kept: &mut Kept, aid: &[u8], policy: u8) -> Answer {
+pub fn finished(kept: &mut Kept, aid: &[u8], policy: u8, mark: u8) -> Answer {
     on_sound(kept, |card| {
-        require(policy_is_right(policy), WRONG_DATA)?;
+        require(policy_is_right(policy) && mark_is_right(mark), WRONG_DATA)?;
         let index = named(card, aid)?;
         let place = &mut card.places[index];
         require(place.life_cycle == PERSONALIZED && place.used > 0, NOT_NOW)?;
         place.life_cycle = DISABLED;
         place.policy = policy;
+        place.mark = mark;
         Ok(Done::default())
     })
 }
@@ -171,7 +172,7 @@ fn create(card: &mut Card, aid: &[u8], quota: u32, buffer: &mut [u8]) -> Result<
     require(card.find(aid).is_none(), WRONG_DATA)?;
     let index = card.lowest_free_place().ok_or(NO_ROOM)?;
     require(quota <= card.free(), NO_ROOM)?;
-    card.places[index] = Place { aid: Aid::of(aid), life_cycle: SELECTABLE, quota, used: 0, policy: 0 };
+    card.places[index] = Place { aid: Aid::of(aid), life_cycle: SELECTABLE, quota, ..Place::ZERO };
     Ok(write_zero(buffer))
 }
 
@@ -197,7 +198,7 @@ fn disable(card: &mut Card, aid: &[u8]) -> Result<Done, u16> {
 fn set_fall_back(card: &mut Card, aid: &[u8]) -> Result<Done, u16> {
     no_change_open(card)?;
     let index = held(card, aid)?;
-    require(matches!(card.places[index].life_cycle, DISABLED | ENABLED), NOT_NOW)?;
+    require(card.places[index].may_be_fall_back(), NOT_NOW)?;
     card.fall_back = index as u8;
     Ok(Done::default())
 }

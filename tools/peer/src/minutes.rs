@@ -32,7 +32,7 @@ impl Report {
                 Event::Command { verdict, bytes } => manager::command(&mut kept, verdict, bytes, &mut buffer),
                 Event::Keyed(aid) => manager::keyed(&mut kept, aid),
                 Event::Stored(aid, n) => manager::stored(&mut kept, aid, n),
-                Event::Finished(aid, policy) => manager::finished(&mut kept, aid, policy),
+                Event::Finished { aid, policy, mark } => manager::finished(&mut kept, aid, policy, mark),
                 Event::Tick => {
                     report.count(line);
                     manager::tick(&mut kept)

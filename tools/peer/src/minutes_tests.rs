@@ -70,13 +70,18 @@ fn confirm(number: u16) -> Vec<u8> {
 }
 
 fn made(last: u8, policy: u8) -> Vec<u8> {
+    loaded(last, 4, &[policy])
+}
+
+/// A profile made and loaded, and finished by an event of this kind whose bytes before the AID are these.
+fn loaded(last: u8, kind: u8, given: &[u8]) -> Vec<u8> {
     let aid = [0xA0, 0, 0, 0, last];
     let create = "80E60C002205A00000000105A00000000105A0000000";
     [
         command(&format!("{create}{last:02X}01800CC90481020370EF048302003200")),
         event(2, &aid),
         event(3, &[&[0, 0, 0, 5][..], &aid].concat()),
-        event(4, &[&[policy][..], &aid].concat()),
+        event(kind, &[given, &aid].concat()),
     ]
     .concat()
 }
@@ -153,15 +158,34 @@ fn events_of_every_length() {
     assert_eq!(of_events(&[TICK, &[5]]), CUT);
     assert_eq!(of_events(&[TICK, &[5, 0]]), CUT);
     assert_eq!(of_events(&[&[2, 0, 6], F]), CUT);
-    assert_eq!(of_events(&[&event(7, &[]), &[5]]), CUT);
+    assert_eq!(of_events(&[&event(8, &[]), &[5]]), CUT);
     assert_eq!(of_events(&[&event(5, &[0]), &event(0, &[]), &event(5, &[0])]), UNKNOWN);
-    for (kind, wrong) in [(1, 0), (3, 0), (3, 3), (4, 0), (5, 1), (6, 1)] {
+    assert_eq!(of_events(&[&event(7, &[]), &event(8, &[0; 7])]), UNKNOWN);
+    for (kind, wrong) in [(1, 0), (3, 0), (3, 3), (4, 0), (5, 1), (6, 1), (7, 0), (7, 1)] {
         assert_eq!(of_events(&[TICK, &event(kind, &vec![0; wrong]), TICK]), LENGTH);
     }
     // A command of no bytes, AIDs of none, and a command of 300 are events that the engine refuses.
-    let refused = [event(1, &[0]), event(2, &[]), event(3, &[0; 4]), event(4, &[0]), event(1, &[0x80; 301])].concat();
-    assert_eq!(of_events(&[&refused, TICK]), "A000000001 1\nticks 1\nevents 6\n");
-    assert!(explained(&file(&fresh(), &refused)).ends_with("refused                                 5\n"));
+    let short = [event(1, &[0]), event(2, &[]), event(3, &[0; 4]), event(4, &[0]), event(7, &[0; 2])].concat();
+    let refused = [short, event(1, &[0x80; 301])].concat();
+    assert_eq!(of_events(&[&refused, TICK]), "A000000001 1\nticks 1\nevents 7\n");
+    assert!(explained(&file(&fresh(), &refused)).ends_with("refused                                 6\n"));
+}
+
+/// 02 is made the fall-back where it has the mark, and a lost network then enables it.
+#[test]
+fn the_mark_of_a_finished_event() {
+    let lost = [change(5, 2), LOST.to_vec(), TICK.repeat(3)].concat();
+    let falls = "A000000001 0\nA000000002 3\nticks 3\nevents 9\n";
+    let stays = "A000000001 3\nticks 3\nevents 9\n";
+    assert_eq!(of_events(&[&loaded(2, 4, &[0]), &lost]), falls);
+    assert_eq!(of_events(&[&loaded(2, 7, &[0, 1]), &lost]), falls);
+    assert_eq!(of_events(&[&loaded(2, 7, &[0, 0]), &lost]), stays);
+    assert_eq!(of_events(&[&loaded(2, 7, &[0, 2]), &lost]), stays);
+    // The policy stands before the mark: 01 with 00 forbids disabling, and leaves 02 unmarked.
+    let bound = [change(3, 2), confirm(1), change(4, 2), LOST.to_vec(), TICK.to_vec()].concat();
+    assert_eq!(of_events(&[&loaded(2, 7, &[1, 0]), &bound]), "A000000001 1\nA000000002 0\nticks 1\nevents 9\n");
+    let refusals = explained(&file(&fresh(), &[loaded(2, 7, &[1, 0]), change(5, 2), bound].concat()));
+    assert!(refusals.ends_with("refused                                 2\n"), "{refusals}");
 }
 
 #[test]

@@ -102,7 +102,7 @@ fn place(word: &[u8]) -> Option<Place> {
     if word == b"-" {
         return Some(Place::ZERO);
     }
-    let [aid, state, quota, used, policy] = parts(word)[..] else { return None };
+    let [aid, state, quota, used, policy, mark] = parts(word)[..] else { return None };
     let aid = hex(aid).filter(|aid| aid.len() <= AID_MOST)?;
     let [life_cycle] = hex(state)?[..] else { return None };
     Some(Place {
@@ -111,6 +111,7 @@ fn place(word: &[u8]) -> Option<Place> {
         quota: number(quota, u32::MAX)?,
         used: number(used, u32::MAX)?,
         policy: byte(policy)?,
+        mark: byte(mark)?,
     })
 }
 
@@ -119,22 +120,40 @@ enum Call {
     Command { verdict: u8, bytes: Vec<u8>, length: usize },
     Keyed(Vec<u8>),
     Stored(Vec<u8>, u32),
-    Finished(Vec<u8>, u8),
+    Finished { aid: Vec<u8>, policy: u8, mark: u8 },
     Tick,
     Lost,
     HandIn(Card),
 }
 
-fn call(words: &[&[u8]]) -> Result<Call, Bad> {
-    let (least, most) = match words[0] {
+/// How many words may follow a line's first one, at least and at most.
+fn words_after(first: &[u8]) -> Result<(usize, usize), Bad> {
+    Ok(match first {
         b"fresh" => (6, 6),
-        b"command" => (2, 3),
+        b"command" | b"finished" => (2, 3),
         b"keyed" => (1, 1),
-        b"stored" | b"finished" => (2, 2),
+        b"stored" => (2, 2),
         b"tick" | b"lost" => (0, 0),
         b"card" => (6 + PLACES, 6 + PLACES),
         _ => return Err(Bad::UnknownWord),
-    };
+    })
+}
+
+fn bytes_of(word: &[u8]) -> Result<Vec<u8>, Bad> {
+    hex(word).ok_or(Bad::Hex)
+}
+
+fn number_of(word: &[u8], most: u32) -> Result<u32, Bad> {
+    number(word, most).ok_or(Bad::Number)
+}
+
+fn byte_of(word: &[u8]) -> Result<u8, Bad> {
+    byte(word).ok_or(Bad::Number)
+}
+
+/// Fields are read in the order of the words: the first bad one gives the reason.
+fn call(words: &[&[u8]]) -> Result<Call, Bad> {
+    let (least, most) = words_after(words[0])?;
     let rest = &words[1..];
     if rest.len() < least {
         return Err(Bad::WordsMissing);
@@ -142,44 +161,47 @@ fn call(words: &[&[u8]]) -> Result<Call, Bad> {
     if rest.len() > most {
         return Err(Bad::TooManyWords);
     }
-    let bytes_at = |index: usize| hex(rest[index]).ok_or(Bad::Hex);
-    let number_at = |index: usize, most: u32| number(rest[index], most).ok_or(Bad::Number);
-    // Fields are read in the order of the words: the first bad one gives the reason.
     Ok(match words[0] {
         b"fresh" => Call::Fresh {
-            eid: bytes_at(0)?,
-            aid: bytes_at(1)?,
-            capacity: number_at(2, u32::MAX)?,
-            quota: number_at(3, u32::MAX)?,
-            used: number_at(4, u32::MAX)?,
-            volatile: number_at(5, u32::MAX)?,
+            eid: bytes_of(rest[0])?,
+            aid: bytes_of(rest[1])?,
+            capacity: number_of(rest[2], u32::MAX)?,
+            quota: number_of(rest[3], u32::MAX)?,
+            used: number_of(rest[4], u32::MAX)?,
+            volatile: number_of(rest[5], u32::MAX)?,
         },
         b"command" => Call::Command {
-            verdict: number_at(0, u8::MAX.into())? as u8,
-            bytes: bytes_at(1)?,
-            length: if rest.len() > 2 { number_at(2, BUFFER_MOST)? as usize } else { manager::BUFFER_LEAST },
+            verdict: byte_of(rest[0])?,
+            bytes: bytes_of(rest[1])?,
+            length: rest.get(2).map_or(Ok(manager::BUFFER_LEAST as u32), |word| number_of(word, BUFFER_MOST))? as usize,
         },
-        b"keyed" => Call::Keyed(bytes_at(0)?),
-        b"stored" => Call::Stored(bytes_at(0)?, number_at(1, u32::MAX)?),
-        b"finished" => Call::Finished(bytes_at(0)?, number_at(1, u8::MAX.into())? as u8),
+        b"keyed" => Call::Keyed(bytes_of(rest[0])?),
+        b"stored" => Call::Stored(bytes_of(rest[0])?, number_of(rest[1], u32::MAX)?),
+        b"finished" => Call::Finished {
+            aid: bytes_of(rest[0])?,
+            policy: byte_of(rest[1])?,
+            mark: rest.get(2).map_or(Ok(MARKED), |word| byte_of(word))?,
+        },
         b"tick" => Call::Tick,
         b"lost" => Call::Lost,
-        _ => {
-            let mut card = Card {
-                eid: bytes_at(0)?.try_into().map_err(|_| Bad::Hex)?,
-                capacity: number_at(1, u32::MAX)?,
-                volatile: number_at(2, u32::MAX)?,
-                last: number_at(3, u16::MAX.into())? as u16,
-                fall_back: number_at(4, u8::MAX.into())? as u8,
-                phase: phase(rest[5]).ok_or(Bad::Phase)?,
-                places: [Place::ZERO; PLACES],
-            };
-            for (index, word) in rest[6..].iter().enumerate() {
-                card.places[index] = place(word).ok_or(Bad::Place)?;
-            }
-            Call::HandIn(card)
-        }
+        _ => Call::HandIn(card(rest)?),
     })
+}
+
+fn card(words: &[&[u8]]) -> Result<Card, Bad> {
+    let mut card = Card {
+        eid: bytes_of(words[0])?.try_into().map_err(|_| Bad::Hex)?,
+        capacity: number_of(words[1], u32::MAX)?,
+        volatile: number_of(words[2], u32::MAX)?,
+        last: two_bytes(words[3]).ok_or(Bad::Number)?,
+        fall_back: byte_of(words[4])?,
+        phase: phase(words[5]).ok_or(Bad::Phase)?,
+        places: [Place::ZERO; PLACES],
+    };
+    for (index, word) in words[6..].iter().enumerate() {
+        card.places[index] = place(word).ok_or(Bad::Place)?;
+    }
+    Ok(card)
 }
 
 #[derive(Clone, Copy, Default)]
@@ -230,7 +252,7 @@ impl Script {
             }
             Call::Keyed(aid) => manager::keyed(kept, &aid),
             Call::Stored(aid, n) => manager::stored(kept, &aid, n),
-            Call::Finished(aid, policy) => manager::finished(kept, &aid, policy),
+            Call::Finished { aid, policy, mark } => manager::finished(kept, &aid, policy, mark),
             Call::Tick => manager::tick(kept),
             Call::Lost => manager::lost(kept),
             Call::HandIn(new) => {

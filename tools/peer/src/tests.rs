@@ -1,6 +1,6 @@
 //! The worked bytes of RULINGS part B, document 01's twelve examples, and the two claims the
 //! engine leans on: the ticks figure is the count, and no step from a sound card makes an unsound one.
-//! Every expected line is written from the papers, none is copied from a run.
+//! Then request 2026-02's mark of provisioning capability. Every expected line is written from the papers, none is copied from a run.
 
 use crate::card::*;
 use crate::manager::{self, Kept};
@@ -11,6 +11,7 @@ const FRESH: &str = "fresh 00112233445566778899AABBCCDDEEFF A000000001 1000 100 
 const CREATE_02: &str = "command 0 80E60C003C10A0000005591010FFFFFFFF8900000D0010A0000005591010FFFFFFFF8900000E0005A0000000020380C0000EC90481020370EF068304000000320000";
 const ENABLE_02: &str = "command 0 80E288000A3A03074F05A000000002";
 const DISABLE_02: &str = "command 0 80E288000A3A04074F05A000000002";
+const SET_FALL_BACK_02: &str = "command 0 80E288000A3A05074F05A000000002";
 const DELETE_02: &str = "command 0 80E40040074F05A00000000200";
 const CONFIRM_1: &str = "command 0 80E28900073A08044E02000100";
 const STATUS: &str = "command 0 80F24002024F0000";
@@ -44,9 +45,9 @@ fn card_line(eid: &str, numbers: &str, phase: &str, places: &[&str]) -> String {
     format!("card {eid} {numbers} {phase} {}{}", places.join(" "), " -".repeat(PLACES - places.len()))
 }
 
-/// A card on which 02 stands DISABLED with the given policy.
-fn with_02(policy: u8) -> Vec<String> {
-    let finished = format!("finished A000000002 {policy}");
+/// A card on which 02 stands DISABLED, finished with the given words: its policy, or its policy and mark.
+fn with_02(given: &str) -> Vec<String> {
+    let finished = format!("finished A000000002 {given}");
     [FRESH, CREATE_02, "keyed A000000002", "stored A000000002 5", &finished].map(str::to_owned).to_vec()
 }
 
@@ -65,7 +66,7 @@ fn worked_bytes() {
     assert_eq!(last(&[FRESH, CREATE_02]), "9000 00 - 0");
     let get_data = "command 0 80CAFF2100";
     assert_eq!(last(&[FRESH, CREATE_02, get_data]), "9000 FF210F810102820400000352830401020304 - 0");
-    let start = with_02(0);
+    let start = with_02("0");
     assert_eq!(after(&start, &[ENABLE_02]), "9000 - 02:0001:A000000002 20");
     assert_eq!(after(&start, &[ENABLE_02, CONFIRM_1]), "9000 - - 0");
     assert_eq!(after(&start, &[ENABLE_02, CONFIRM_1, DISABLE_02]), "9000 - 02:0002:A000000001 30");
@@ -80,7 +81,7 @@ fn worked_bytes() {
 
 #[test]
 fn deletion_at_confirmation() {
-    let start = with_02(4);
+    let start = with_02("4");
     let enable_f = "command 0 80E288000A3A03074F05A000000001";
     let confirm_2 = "command 0 80E28900073A08044E02000200";
     assert_eq!(after(&start, &[ENABLE_02, CONFIRM_1, enable_f]), "9000 - 02:0002:A000000001 30");
@@ -92,12 +93,11 @@ fn deletion_at_confirmation() {
 #[test]
 fn marked_examples_1_to_6() {
     assert_eq!(last(&[FRESH, STATUS]), "9000 E30E4F05A0000000019F70013F530101 - 0");
-    let set_fall_back = "command 0 80E288000A3A05074F05A000000002";
-    assert_eq!(after(&with_02(0), &[set_fall_back]), "9000 - - 0");
-    assert_eq!(last(&[FRESH, set_fall_back]), "6A88 - - 0");
-    assert_eq!(after(&with_02(0), &["command 0 80E287000A3A05074F05A000000002"]), "6A86 - - 0");
-    assert_eq!(after(&with_02(0), &["command 0 80E28800093A05074F05A000000002"]), "6700 - - 0");
-    assert_eq!(after(&with_02(0), &["command 0 80E28800093A05064F04A0000000"]), "6A80 - - 0");
+    assert_eq!(after(&with_02("0 1"), &[SET_FALL_BACK_02]), "9000 - - 0");
+    assert_eq!(last(&[FRESH, SET_FALL_BACK_02]), "6A88 - - 0");
+    assert_eq!(after(&with_02("0"), &["command 0 80E287000A3A05074F05A000000002"]), "6A86 - - 0");
+    assert_eq!(after(&with_02("0"), &["command 0 80E28800093A05074F05A000000002"]), "6700 - - 0");
+    assert_eq!(after(&with_02("0"), &["command 0 80E28800093A05064F04A0000000"]), "6A80 - - 0");
     assert_eq!(last(&[FRESH, &create(2, 900)]), "9000 00 - 0");
     assert_eq!(last(&[FRESH, &create(2, 901)]), "6A84 - - 0");
     let eight: Vec<String> = std::iter::once(FRESH.to_owned()).chain((2..=8).map(|aid| create(aid, 10))).collect();
@@ -110,7 +110,7 @@ fn marked_examples_1_to_6() {
 
 #[test]
 fn marked_examples_7_to_12() {
-    let start = with_02(0);
+    let start = with_02("0");
     let enabled_02 = "9000 E30E4F05A0000000019F70011F530101E30E4F05A0000000029F70013F530100 - ";
     let enabled_f = "9000 E30E4F05A0000000019F70013F530101E30E4F05A0000000029F70011F530100 - ";
     let play = |parts: &[&[&str]]| after(&start, &parts.concat());
@@ -133,7 +133,7 @@ fn marked_examples_7_to_12() {
     assert_eq!(play(&[&disabled, &ticks(30)]), "9000 - - 0");
     assert_eq!(play(&[&disabled, &ticks(30), &[STATUS]]), format!("{enabled_f}0"));
 
-    let worn = card_line(EID, "1000 0 65535 0", "Q", &["A000000001:3F:100:0:0", "A000000002:1F:50:5:0"]);
+    let worn = card_line(EID, "1000 0 65535 0", "Q", &["A000000001:3F:100:0:0:1", "A000000002:1F:50:5:0:0"]);
     assert_eq!(last(&[&worn, ENABLE_02]), "9000 - 02:0000:A000000002 20");
 
     assert_eq!(play(&[&["lost"]]), "9000 - - 0");
@@ -151,12 +151,12 @@ fn explained_form() {
         explained(&[refused]),
         "6A 80 data field or values wrong, or AID already held\n  no profile is held\nphase quiet\nticks to come 0"
     );
-    let head = "  place  AID         state           quota     used  fall-back  policy\n";
-    let start = with_02(4);
+    let head = "  place  AID         state           quota     used  fall-back  provisioning  policy\n";
+    let start = with_02("4 0");
     let mut lines: Vec<&str> = start.iter().map(String::as_str).collect();
     lines.push(ENABLE_02);
-    let table = "      0  A000000001  DISABLED          100        0  yes        none
-      1  A000000002  ENABLED            50        5             deleted once disabled
+    let table = "      0  A000000001  DISABLED          100        0  yes        yes           none
+      1  A000000002  ENABLED            50        5                           deleted once disabled
 phase trial: previous at place 0, ticks left 10, number 1
 ticks to come 20";
     assert_eq!(explained(&lines), format!("90 00 done\nnotification 1: changed, A000000002 enabled\n{head}{table}"));
@@ -164,14 +164,14 @@ ticks to come 20";
     assert_eq!(explained(&lines).lines().next().unwrap(), "67 00 command length or length shape wrong");
     lines.push("command 0 80F240020B4F05A0000000025C029F70");
     assert_eq!(explained(&lines).lines().nth(1).unwrap(), "response E30B4F05A0000000029F70013F");
-    let places = ["-", "-:3F:1:1:1", "A0:AB:4294967295:12345678:255", "A1:07:0:0:3"];
+    let places = ["-", "-:3F:1:1:1:1", "A0:AB:4294967295:12345678:255:255", "A1:07:0:0:3:1"];
     let strange = card_line(EID, "0 0 9 3", "F:255:65535", &places);
     assert_eq!(
         explained(&[&strange]),
         "6F 00 the card is not sound
-  place  AID  state           quota     used  fall-back  policy
-      2  A0  AB            4294967295  12345678             FF
-      3  A1  SELECTABLE          0        0  yes        disabling and deletion forbidden
+  place  AID  state           quota     used  fall-back  provisioning  policy
+      2  A0  AB            4294967295  12345678             FF            FF
+      3  A1  SELECTABLE          0        0  yes        yes           disabling and deletion forbidden
 phase fallen: ticks left 255, number 65535
 ticks to come 0"
     );
@@ -179,7 +179,7 @@ ticks to come 0"
 
 #[test]
 fn asking_at_every_call_changes_no_answer() {
-    let start = with_02(0);
+    let start = with_02("0");
     let mut lines: Vec<&str> = vec!["tick"];
     lines.extend(start.iter().map(String::as_str));
     lines.extend([ENABLE_02, "lost", CREATE_02]);
@@ -208,9 +208,61 @@ fn bad_lines() {
     assert_eq!(card("Q", "-"), Ok(()));
     assert_eq!(card("T:0:0", "x"), Err(Bad::Phase));
     assert_eq!(card("B:256:0", "-"), Err(Bad::Phase));
-    assert_eq!(card("F:0:65535", "-:00:0:0:0"), Ok(()));
-    assert_eq!(card("Q", "-:0:0:0:0"), Err(Bad::Place));
-    assert_eq!(card("Q", &format!("{}:07:0:0:0", "00".repeat(17))), Err(Bad::Place));
+    assert_eq!(card("F:0:65535", "-:00:0:0:0:0"), Ok(()));
+    assert_eq!(card("Q", "-:0:0:0:0:0"), Err(Bad::Place));
+    assert_eq!(card("Q", &format!("{}:07:0:0:0:0", "00".repeat(17))), Err(Bad::Place));
+    assert_eq!(card("Q", "A000000001:3F:1:1:255:255"), Ok(()));
+    for wrong in ["3F:1:1:0", "3F:1:1:0:0:0", "3F:1:1:0:256", "3F:1:1:0:", "3F:1:1:0:x", "3F:1:1:256:0"] {
+        assert_eq!(card("Q", &format!("A000000001:{wrong}")), Err(Bad::Place));
+    }
+}
+
+#[test]
+fn bad_lines_of_finished() {
+    let bad =
+        |words: &str| Script::new(Options::default()).line(format!("finished {words}").as_bytes(), &mut String::new());
+    assert_eq!(bad("- 255"), Ok(()));
+    assert_eq!(bad("- 0 00255"), Ok(()));
+    assert_eq!(bad("x"), Err(Bad::WordsMissing));
+    assert_eq!(bad("x x x x"), Err(Bad::TooManyWords));
+    assert_eq!(bad("x 256 256"), Err(Bad::Hex));
+    for wrong in ["256 1", "0 256", "0 -", "0 -1", "0 x", "0 01x", "0 99999999999"] {
+        assert_eq!(bad(&format!("A000000001 {wrong}")), Err(Bad::Number));
+    }
+}
+
+#[test]
+fn finished_gives_the_mark() {
+    let start = [FRESH, CREATE_02, "keyed A000000002", "stored A000000002 5"].map(str::to_owned);
+    let finished = |given: &str| after(&start, &[&format!("finished {given}")]);
+    for right in ["0", "0 0", "0 1"] {
+        assert_eq!(finished(&format!("A000000002 {right}")), "9000 - - 0");
+        assert_eq!(finished(&format!("A000000003 {right}")), "6A88 - - 0");
+        assert_eq!(finished(&format!("A000000001 {right}")), "6985 - - 0");
+        assert_eq!(finished(&format!("A0000000 {right}")), "6A80 - - 0");
+    }
+    // A wrong mark comes before the AID that is not held, and before the state.
+    for aid in [1, 2, 3] {
+        for wrong in ["0 2", "0 255", "5 1", "5 2"] {
+            assert_eq!(finished(&format!("A00000000{aid} {wrong}")), "6A80 - - 0");
+        }
+    }
+    assert_eq!(last(&["finished A000000002 0 2"]), "6F00 - - 0");
+}
+
+#[test]
+fn set_fall_back_asks_the_mark() {
+    for given in ["0", "0 1"] {
+        assert_eq!(after(&with_02(given), &[SET_FALL_BACK_02]), "9000 - - 0");
+        assert_eq!(after(&with_02(given), &[ENABLE_02, CONFIRM_1, SET_FALL_BACK_02]), "9000 - - 0");
+    }
+    let unmarked = with_02("0 0");
+    assert_eq!(after(&unmarked, &[SET_FALL_BACK_02]), "6985 - - 0");
+    assert_eq!(after(&unmarked, &[ENABLE_02, CONFIRM_1, SET_FALL_BACK_02]), "6985 - - 0");
+    let as_it_was = "9000 E30E4F05A0000000019F70013F530101E30E4F05A0000000029F70011F530100 - 0";
+    assert_eq!(after(&unmarked, &[SET_FALL_BACK_02, STATUS]), as_it_was);
+    let again = [DELETE_02, CREATE_02, "keyed A000000002", "stored A000000002 5", "finished A000000002 0 0"];
+    assert_eq!(after(&with_02("0 1"), &[&again[..], &[SET_FALL_BACK_02]].concat()), "6985 - - 0");
 }
 
 #[test]
@@ -226,32 +278,38 @@ fn readings_name_the_request() {
     assert_eq!(read("-"), "6700\n");
 }
 
-/// Small cards in every shape of phase, previous, fall-back and enabled place.
-fn sound_cards() -> Vec<Card> {
-    let mut base = Card::fresh(&[7; 16], &[1; 5], 100, 10, 1, 9).unwrap();
-    for index in 1..4 {
-        base.places[index] = Place {
-            aid: Aid::of(&[index as u8 + 1; 6]),
-            life_cycle: DISABLED,
-            quota: 10,
-            used: 1,
-            policy: index as u8 + 1,
-        };
+/// Four DISABLED profiles with these marks.
+fn four_profiles(marks: [u8; 4]) -> Card {
+    let mut card = Card::fresh(&[7; 16], &[1; 5], 100, 10, 1, 9).unwrap();
+    card.places[0].life_cycle = DISABLED;
+    for number in 2..=4 {
+        let (aid, policy) = (Aid::of(&[number; 6]), number);
+        card.places[usize::from(number) - 1] = Place { aid, policy, ..card.places[0] };
     }
+    for (place, mark) in card.places.iter_mut().zip(marks) {
+        place.mark = mark;
+    }
+    card
+}
+
+fn every_phase(number: u16) -> Vec<Phase> {
+    let mut phases = vec![Phase::Quiet];
+    for left in [1, 2, 10] {
+        phases.extend([Phase::Back { left, number }, Phase::Fallen { left, number }]);
+        phases.extend((0..4).map(|previous| Phase::Trial { previous, left, number }));
+    }
+    phases
+}
+
+/// Small cards in every shape of phase, previous, fall-back and enabled place, marked in several ways.
+fn sound_cards() -> Vec<Card> {
     let mut cards = Vec::new();
-    for enabled in 0..4usize {
-        for fall_back in 0..4u8 {
-            for left in [1, 2, 10] {
-                let mut card = base;
-                card.places[0].life_cycle = DISABLED;
-                card.places[enabled].life_cycle = ENABLED;
-                card.fall_back = fall_back;
-                card.last = 65535;
-                let number = 65535;
-                let phases = [Phase::Quiet, Phase::Back { left, number }, Phase::Fallen { left, number }];
-                let trials = [0, 1, 2, 3].map(|previous| Phase::Trial { previous, left, number });
-                for phase in phases.into_iter().chain(trials) {
-                    card.phase = phase;
+    for marks in [[1, 1, 1, 1], [1, 0, 0, 1], [0, 1, 1, 0]] {
+        for enabled in 0..4 {
+            for fall_back in 0..4 {
+                for phase in every_phase(65535) {
+                    let mut card = Card { last: 65535, fall_back, phase, ..four_profiles(marks) };
+                    card.places[enabled].life_cycle = ENABLED;
                     cards.push(card);
                 }
             }
@@ -334,6 +392,10 @@ fn unsound_cards() {
     broken(&|card| card.fall_back = 4);
     broken(&|card| card.places[3].policy = 5);
     broken(&|card| card.places[3].policy = 8);
+    broken(&|card| card.places[3].mark = 2);
+    broken(&|card| card.places[3].mark = 255);
+    broken(&|card| card.places[0].mark = 0);
+    broken(&|card| card.places[0].mark = 2);
     broken(&|card| card.places[3].life_cycle = 3);
     broken(&|card| card.places[3].life_cycle = ENABLED);
     broken(&|card| card.places[3].used = 11);
@@ -341,6 +403,7 @@ fn unsound_cards() {
     broken(&|card| card.places[3].quota = 71);
     broken(&|card| card.places[3].aid = card.places[2].aid);
     broken(&|card| card.places[5].used = 1);
+    broken(&|card| card.places[5].mark = 1);
     broken(&|card| card.phase = Phase::Back { left: 0, number: card.last });
     broken(&|card| card.phase = Phase::Back { left: 11, number: card.last });
     broken(&|card| card.phase = Phase::Back { left: 5, number: card.last - 1 });

@@ -70,6 +70,10 @@ fn counted(value: &[u8]) -> Vec<u8> {
     tlv(&[], value)
 }
 
+fn held_places(card: &Card) -> Vec<usize> {
+    (0..PLACES).filter(|index| card.places[*index].is_held()).collect()
+}
+
 struct Generator {
     random: Random,
     model: Script,
@@ -159,6 +163,15 @@ impl Generator {
         }
     }
 
+    fn mark(&mut self) -> u8 {
+        if self.random.chance(10) {
+            let any = self.random.byte();
+            self.random.pick(&[2, 3, 254, 255, any])
+        } else {
+            self.random.pick(&[0, MARKED])
+        }
+    }
+
     fn eid(&mut self) -> String {
         let eid: Vec<u8> = (0..16).map(|_| self.random.byte()).collect();
         hex_word(&eid)
@@ -194,13 +207,31 @@ impl Generator {
     }
 
     /// Any sound card, also of kinds that no run from fresh makes: a SELECTABLE one with used
-    /// bytes, a previous that is the fall-back, eight places full, numbers about to wrap.
+    /// bytes or a mark, a previous that is the fall-back, eight places full, numbers about to wrap.
     fn sound_card(&mut self) -> Card {
         let capacity = self.random.pick(&[100, 1000, 1_048_576]);
         let mut card = Card { capacity, volatile: self.random.next() as u32, ..Card::ZEROS };
         for byte in &mut card.eid {
             *byte = self.random.byte();
         }
+        self.fill(&mut card);
+        let held = held_places(&card);
+        let enabled = self.random.pick(&held);
+        card.places[enabled].life_cycle = ENABLED;
+        let fall_back = self.random.pick(&held);
+        if fall_back != enabled {
+            card.places[fall_back].life_cycle = DISABLED;
+        }
+        card.places[fall_back].mark = MARKED;
+        card.fall_back = fall_back as u8;
+        let any = self.random.next() as u16;
+        card.last = self.random.pick(&[0, 1, 65533, 65534, 65535, any]);
+        card.phase = self.phase(&card);
+        card
+    }
+
+    /// Profiles in some of the places, at least in one; none is ENABLED yet.
+    fn fill(&mut self, card: &mut Card) {
         let mut names = self.aids.clone();
         let full = self.random.chance(25);
         for index in 0..PLACES {
@@ -208,7 +239,7 @@ impl Generator {
                 continue;
             }
             let name = names.swap_remove(self.random.below(names.len()));
-            let quota = self.random.number(1, capacity / PLACES as u32);
+            let quota = self.random.number(1, card.capacity / PLACES as u32);
             let most = self.random.pick(&[0, 3.min(quota), quota]);
             card.places[index] = Place {
                 aid: Aid::of(&name),
@@ -216,71 +247,72 @@ impl Generator {
                 quota,
                 used: self.random.number(0, most),
                 policy: self.random.pick(&[0, 0, 0, 1, 2, 3, 4, 4]),
+                mark: self.random.pick(&[0, MARKED]),
             };
         }
         if card.held() == 0 {
-            card.places[5] = Place { aid: Aid::of(&names[0]), life_cycle: ENABLED, quota: 7, used: 0, policy: 0 };
+            card.places[5] = Place { aid: Aid::of(&names[0]), life_cycle: DISABLED, quota: 7, ..Place::ZERO };
         }
-        let held: Vec<usize> = (0..PLACES).filter(|index| card.places[*index].is_held()).collect();
-        let enabled = self.random.pick(&held);
-        card.places[enabled].life_cycle = ENABLED;
-        let fall_back = self.random.pick(&held);
-        if fall_back != enabled {
-            card.places[fall_back].life_cycle = DISABLED;
-        }
-        card.fall_back = fall_back as u8;
-        let any = self.random.next() as u16;
-        card.last = self.random.pick(&[0, 1, 65533, 65534, 65535, any]);
+    }
+
+    fn phase(&mut self, card: &Card) -> Phase {
         let number = card.last;
         let left = self.random.number(1, 10) as u8;
-        let disabled: Vec<usize> =
-            held.into_iter().filter(|index| card.places[*index].life_cycle == DISABLED).collect();
-        card.phase = match self.random.below(10) {
+        let mut disabled = held_places(card);
+        disabled.retain(|index| card.places[*index].life_cycle == DISABLED);
+        match self.random.below(10) {
             0..=3 if !disabled.is_empty() => {
                 let previous = self.random.pick(&disabled) as u8;
                 Phase::Trial { previous, left, number }
             }
             4 | 5 => Phase::Back { left, number },
-            6 if fall_back == enabled => Phase::Fallen { left, number },
+            6 if card.is_fall_back(card.enabled()) => Phase::Fallen { left, number },
             _ => Phase::Quiet,
-        };
-        card
+        }
     }
 
     fn broken_card(&mut self) -> Card {
         let mut card = self.sound_card();
-        let enabled = card.enabled();
+        match self.random.below(22) {
+            0 => card.capacity = self.random.pick(&[0, 1, 1_048_577, u32::MAX]),
+            1 => card.fall_back = self.random.pick(&[PLACES as u8, PLACES as u8 + 1, 200, 255]),
+            2 => card.phase = Phase::Back { left: self.random.pick(&[0, 11, 255]), number: card.last },
+            3 => card.phase = Phase::Back { left: 5, number: card.last.wrapping_add(1) },
+            4 => {
+                let any = self.random.below(PLACES) as u8;
+                let previous = self.random.pick(&[card.enabled() as u8, PLACES as u8, 200, any]);
+                card.phase = Phase::Trial { previous, left: 5, number: card.last };
+            }
+            5 => card.phase = Phase::Fallen { left: 5, number: card.last },
+            6 => card.places = card.places.map(|place| Place { quota: u32::MAX, ..place }),
+            7 => card.capacity = card.places.iter().map(|place| place.quota).sum::<u32>() - 1,
+            8 => card.capacity = card.places.iter().map(|place| place.quota).sum(),
+            9 => card.places[usize::from(card.fall_back)].life_cycle = self.random.pick(&[SELECTABLE, PERSONALIZED]),
+            10 => card.places[usize::from(card.fall_back)].mark = self.random.pick(&[0, 0, 0, 2]),
+            11 => card = Card::ZEROS,
+            _ => self.break_place(&mut card),
+        }
+        card
+    }
+
+    /// A place that is not held is broken by most of these too.
+    fn break_place(&mut self, card: &mut Card) {
+        let (enabled, enabled_aid) = (card.enabled(), card.enabled_aid());
         let index = self.random.below(PLACES);
         let any = self.random.byte();
         let place = &mut card.places[index];
-        match self.random.below(19) {
-            0 => card.capacity = self.random.pick(&[0, 1, 1_048_577, u32::MAX]),
-            1 => card.fall_back = self.random.pick(&[PLACES as u8, PLACES as u8 + 1, 200, 255]),
-            2 => place.life_cycle = self.random.pick(&[0x00, 0x03, 0x0B, 0x7F, 0x83, any]),
-            3 => place.quota = self.random.pick(&[0, u32::MAX, 1_048_577]),
-            4 => place.used = self.random.pick(&[1, u32::MAX]),
-            5 => place.policy = self.random.pick(&[5, 6, 7, 8, any]),
+        match self.random.below(10) {
+            0 => place.life_cycle = self.random.pick(&[0x00, 0x03, 0x0B, 0x7F, 0x83, any]),
+            1 => place.quota = self.random.pick(&[0, u32::MAX, 1_048_577]),
+            2 => place.used = self.random.pick(&[1, u32::MAX]),
+            3 => place.policy = self.random.pick(&[5, 6, 7, 8, any]),
+            4 => place.mark = self.random.pick(&[2, 3, 255, any]),
+            5 => *place = Place { mark: self.random.pick(&[MARKED, MARKED, any]), ..Place::ZERO },
             6 => place.aid = Aid::of(&[0xA0, 0, 0, 0][..self.random.below(5)]),
             7 => place.life_cycle = ENABLED,
             8 => card.places[enabled].life_cycle = DISABLED,
-            9 => card.places[index].aid = card.places[enabled].aid,
-            10 => card.phase = Phase::Back { left: self.random.pick(&[0, 11, 255]), number: card.last },
-            11 => card.phase = Phase::Back { left: 5, number: card.last.wrapping_add(1) },
-            12 => {
-                let previous = self.random.pick(&[enabled as u8, PLACES as u8, 200, index as u8]);
-                card.phase = Phase::Trial { previous, left: 5, number: card.last };
-            }
-            13 => card.phase = Phase::Fallen { left: 5, number: card.last },
-            14 => card.places = card.places.map(|place| Place { quota: u32::MAX, ..place }),
-            15 => card.capacity = card.places.iter().map(|place| place.quota).sum::<u32>() - 1,
-            16 => card.capacity = card.places.iter().map(|place| place.quota).sum(),
-            17 => {
-                let unready = self.random.pick(&[SELECTABLE, PERSONALIZED]);
-                card.places[usize::from(card.fall_back)].life_cycle = unready;
-            }
-            _ => card = Card::ZEROS,
+            _ => place.aid = enabled_aid,
         }
-        card
     }
 
     fn hand_in(&mut self, card: &Card) {
@@ -302,8 +334,8 @@ impl Generator {
             if *place == Place::ZERO {
                 line.push_str(" -");
             } else {
-                let Place { aid, life_cycle, quota, used, policy } = place;
-                line.push_str(&format!(" {}:{life_cycle:02X}:{quota}:{used}:{policy}", hex_word(aid.bytes())));
+                let Place { aid, life_cycle, quota, used, policy, mark } = place;
+                line.push_str(&format!(" {}:{life_cycle:02X}:{quota}:{used}:{policy}:{mark}", hex_word(aid.bytes())));
             }
         }
         self.put(line);
@@ -467,8 +499,12 @@ impl Generator {
     fn set_fall_back(&mut self) {
         // A fall-back that forbids disabling is the last profile of a month.
         let forbidden = if self.is_month { DISABLING_FORBIDDEN } else { 0 };
-        let suits = |place: &Place| matches!(place.life_cycle, DISABLED | ENABLED) && place.policy & forbidden == 0;
-        let aid = self.target(|_, place| suits(place));
+        let ready = self.random.chance(85);
+        let mark = if ready { self.random.pick(&[0, MARKED, MARKED]) } else { MARKED };
+        let aid = self.target(|_, place| {
+            let is_ready = matches!(place.life_cycle, DISABLED | ENABLED);
+            is_ready == ready && place.mark == mark && place.policy & forbidden == 0
+        });
         self.store_data(5, tlv(&[0x4F], &aid));
     }
 
@@ -548,10 +584,18 @@ impl Generator {
         self.put(format!("stored {} {n}", hex_word(&aid)));
     }
 
+    /// Wrong values come before all that the card is asked, so half of them meet any name.
     fn finished(&mut self) {
-        let aid = self.target(|_, place| place.life_cycle == PERSONALIZED && place.used > 0);
         let policy = self.policy();
-        self.put(format!("finished {} {policy}", hex_word(&aid)));
+        let mark = if self.random.chance(35) { None } else { Some(self.mark()) };
+        let right = policy_is_right(policy) && mark.is_none_or(mark_is_right);
+        let aid = if right || self.random.chance(50) {
+            self.target(|_, place| place.life_cycle == PERSONALIZED && place.used > 0)
+        } else {
+            self.any_aid()
+        };
+        let mark = mark.map_or(String::new(), |mark| format!(" {mark}"));
+        self.put(format!("finished {} {policy}{mark}", hex_word(&aid)));
     }
 
     /// Carries the download of some profile one call further, where there is one.
@@ -725,71 +769,100 @@ impl Generator {
     }
 
     fn bad_line(&mut self) -> String {
-        let eid = "00".repeat(16);
-        let rest = " -".repeat(PLACES - 1);
-        let none = " -".repeat(PLACES);
-        let lines = [
-            "x".repeat(4097),
-            format!("#{}", " ".repeat(4096)),
-            "ticks".to_owned(),
-            "Tick".to_owned(),
-            "tick\r".to_owned(),
-            "tick\t".to_owned(),
-            "tick 0".to_owned(),
-            "lost -".to_owned(),
-            "keyed".to_owned(),
-            "keyed A0 A0".to_owned(),
-            "keyed A".to_owned(),
-            "keyed --".to_owned(),
-            "keyed A0000000G1".to_owned(),
-            "keyed 0xA0".to_owned(),
-            "stored A000000001".to_owned(),
-            "stored A000000001 -1".to_owned(),
-            "stored A000000001 +1".to_owned(),
-            "stored A000000001 1.0".to_owned(),
-            "stored A000000001 4294967296".to_owned(),
-            "stored A000000001 99999999999999999999999".to_owned(),
-            "stored A0000000011 x".to_owned(),
-            "finished A000000001 256".to_owned(),
-            "finished A000000001 0x1".to_owned(),
-            "command 0".to_owned(),
-            "command 256 80".to_owned(),
-            "command 0 8".to_owned(),
-            "command 0 80 1025".to_owned(),
-            "command 0 80 -".to_owned(),
-            "command 0 80 256 1".to_owned(),
-            "command x 8 y".to_owned(),
-            "command 0 8 y".to_owned(),
-            format!("fresh {eid} A000000001 1000 100 0"),
-            format!("fresh {eid} A000000001 1000 100 0 0 0"),
-            format!("fresh {eid} A000000001 1000 100 0 4294967296"),
-            format!("fresh {eid}0 A000000001 1000 100 0 0"),
-            format!("card {eid} 1000 0 0 0 Q{rest}"),
-            format!("card {eid} 1000 0 0 0 Q{none} -"),
-            format!("card {eid}00 1000 0 0 0 Q{none}"),
-            format!("card - 1000 0 0 0 Q{none}"),
-            format!("card {eid} 1000 0 65536 0 Q{none}"),
-            format!("card {eid} 1000 0 0 256 Q{none}"),
-            format!("card {eid} 1000 0 0 0 q{none}"),
-            format!("card {eid} 1000 0 0 0 Q:{none}"),
-            format!("card {eid} 1000 0 0 0 T:0:1{none}"),
-            format!("card {eid} 1000 0 0 0 T:256:1:0{none}"),
-            format!("card {eid} 1000 0 0 0 B:1:65536{none}"),
-            format!("card {eid} 1000 0 0 0 B::0{none}"),
-            format!("card {eid} 1000 0 0 0 F:1:0:0{none}"),
-            format!("card {eid} 1000 0 0 0 Q x{rest}"),
-            format!("card {eid} 1000 0 0 0 Q A000000001:3F:1:1{rest}"),
-            format!("card {eid} 1000 0 0 0 Q A000000001:3F:1:1:0:0{rest}"),
-            format!("card {eid} 1000 0 0 0 Q A000000001:3:1:1:0{rest}"),
-            format!("card {eid} 1000 0 0 0 Q A000000001:-:1:1:0{rest}"),
-            format!("card {eid} 1000 0 0 0 Q A000000001:3F:1:1:256{rest}"),
-            format!("card {eid} 1000 0 0 0 Q :3F:1:1:0{rest}"),
-            format!("card {eid} 1000 0 0 0 Q {}:3F:1:1:0{rest}", "A0".repeat(17)),
-            format!("card {eid} 1000 0 0 0 X x{rest}"),
-        ];
-        lines[self.random.below(lines.len())].clone()
+        match self.random.below(60) {
+            0 => "x".repeat(4097),
+            1 => format!("#{}", " ".repeat(4096)),
+            2..=14 => format!("card EID 1000 0 0 0 Q {} REST", self.random.pick(&BAD_PLACES)),
+            15..=28 => self.random.pick(&BAD_CARDS).to_owned(),
+            _ => self.random.pick(&BAD_CALLS).to_owned(),
+        }
+        .replace("EID", &"00".repeat(EID_LENGTH))
+        .replace("LONG", &"A0".repeat(AID_MOST + 1))
+        .replace("NONE", &["-"; PLACES].join(" "))
+        .replace("REST", &["-"; PLACES - 1].join(" "))
     }
 }
+
+/// In the lines and places below EID stands for one of zeros, LONG for an AID that is too long, NONE for the words
+/// of all places and REST for those of all but one.
+const BAD_CALLS: [&str; 42] = [
+    "ticks",
+    "Tick",
+    "tick\r",
+    "tick\t",
+    "tick 0",
+    "lost -",
+    "keyed",
+    "keyed A0 A0",
+    "keyed A",
+    "keyed --",
+    "keyed A0000000G1",
+    "keyed 0xA0",
+    "stored A000000001",
+    "stored A000000001 -1",
+    "stored A000000001 +1",
+    "stored A000000001 1.0",
+    "stored A000000001 4294967296",
+    "stored A000000001 99999999999999999999999",
+    "stored A0000000011 x",
+    "finished A000000001",
+    "finished A000000001 256",
+    "finished A000000001 0x1",
+    "finished A000000001 256 1",
+    "finished A000000001 0 256",
+    "finished A000000001 0 65537",
+    "finished A000000001 0 -",
+    "finished A000000001 0 yes",
+    "finished A0000000011 256 256",
+    "finished A000000001 0 1 1",
+    "finished x x x x",
+    "command 0",
+    "command 256 80",
+    "command 0 8",
+    "command 0 80 1025",
+    "command 0 80 -",
+    "command 0 80 256 1",
+    "command x 8 y",
+    "command 0 8 y",
+    "fresh EID A000000001 1000 100 0",
+    "fresh EID A000000001 1000 100 0 0 0",
+    "fresh EID A000000001 1000 100 0 4294967296",
+    "fresh EID0 A000000001 1000 100 0 0",
+];
+
+const BAD_CARDS: [&str; 14] = [
+    "card EID 1000 0 0 0 Q REST",
+    "card EID 1000 0 0 0 Q NONE -",
+    "card EID00 1000 0 0 0 Q NONE",
+    "card - 1000 0 0 0 Q NONE",
+    "card EID 1000 0 65536 0 Q NONE",
+    "card EID 1000 0 0 256 Q NONE",
+    "card EID 1000 0 0 0 q NONE",
+    "card EID 1000 0 0 0 Q: NONE",
+    "card EID 1000 0 0 0 T:0:1 NONE",
+    "card EID 1000 0 0 0 T:256:1:0 NONE",
+    "card EID 1000 0 0 0 B:1:65536 NONE",
+    "card EID 1000 0 0 0 B::0 NONE",
+    "card EID 1000 0 0 0 F:1:0:0 NONE",
+    "card EID 1000 0 0 0 X x REST",
+];
+
+const BAD_PLACES: [&str; 13] = [
+    "x",
+    "A000000001:3F:1:1",
+    // As it was spelled before each ISD-P had its mark.
+    "A000000001:3F:1:1:0",
+    "A000000001:3F:1:1:0:0:0",
+    "A000000001:3:1:1:0:0",
+    "A000000001:-:1:1:0:0",
+    "A000000001:3F:1:1:256:0",
+    "A000000001:3F:1:1:0:256",
+    "A000000001:3F:1:1:0:",
+    "A000000001:3F:1:1:0:-",
+    "A000000001:3F:1:1:0:yes",
+    ":3F:1:1:0:0",
+    "LONG:3F:1:1:0:0",
+];
 
 fn main() -> ExitCode {
     let arguments: Vec<String> = std::env::args().skip(1).collect();
