@@ -24,8 +24,8 @@ enum-known-why-2 c = search needs
 enum-known-bytes : tie.Need-enum-known-bytes
 enum-known-bytes c = search needs
 
-next-room-requires : tie.Need-next-room-requires
-next-room-requires c κs = search needs
+next-or-requires : tie.Need-next-or-requires
+next-or-requires c κs = search needs
 
 enum-known-why-3 : tie.Need-enum-known-why-3
 enum-known-why-3 c = search needs
@@ -49,11 +49,11 @@ returns-2 c = rw (← (sym (c .before .before .before .before .before .n .given 
 
 returns-3 : tie.Need-returns-3
 unfolding commandAt
-returns-3 c = rw (← (sym (c .before .before .before .before .before .before .before .before .before .n .given .1) ∙ c .before .before .before .before .before .before .before .before .before .before .before .next-value .ensures)) (rw (← (sym (c .before .before .before .before .before .bytes .given .1) ∙ c .before .before .before .before .before .before .before .next-bytes .ensures)) (rw (← (sym (c .before .why3 .given .1) ∙ c .before .before .before .next-room .ensures)) refl))
+returns-3 c = rw (← (sym (c .before .before .before .before .before .before .before .before .before .n .given .1) ∙ c .before .before .before .before .before .before .before .before .before .before .before .next-value .ensures)) (rw (← (sym (c .before .before .before .before .before .bytes .given .1) ∙ c .before .before .before .before .before .before .before .next-bytes .ensures)) (rw (← (sym (c .before .why3 .given .1) ∙ c .before .before .before .next-or .ensures)) refl))
 
 returns-4 : tie.Need-returns-4
 unfolding commandAt
-returns-4 c = rw (← (sym (c .before .before .before .before .before .before .before .before .before .n .given .1) ∙ c .before .before .before .before .before .before .before .before .before .before .before .next-value .ensures)) (rw (← (sym (c .before .before .before .before .before .bytes .given .1) ∙ c .before .before .before .before .before .before .before .next-bytes .ensures)) (rw (← (sym (c .before .room .given .1) ∙ c .before .before .before .next-room .ensures)) refl))
+returns-4 c = rw (← (sym (c .before .before .before .before .before .before .before .before .before .n .given .1) ∙ c .before .before .before .before .before .before .before .before .before .before .before .next-value .ensures)) (rw (← (sym (c .before .before .before .before .before .bytes .given .1) ∙ c .before .before .before .before .before .before .before .next-bytes .ensures)) (rw (← (sym (c .before .room .given .1) ∙ c .before .before .before .next-or .ensures)) refl))
 
 pub command-order-spec : {M : Type 1} → statement M
 command-order-spec =
@@ -65,7 +65,7 @@ command-order-spec =
     next-bytes-requires
     enum-known-why-2
     enum-known-bytes
-    next-room-requires
+    next-or-requires
     enum-known-why-3
     enum-known-room
     cast-verdict
