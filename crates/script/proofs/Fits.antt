@@ -82,14 +82,14 @@ module _ (s : List ℕ) (l : length s ≤ longest) where
       by-count 3 4 n _
       (by-value (valueAt most8 s at) _ λ m b q.
       by-bytes b _ λ x c h.
-      by-value (valueOr 256 1024 s c) _ λ room e r. (h, or-within s 256 1024 c room e (omega arith) r))
+      by-value (valueOr _ _ s c) _ λ room e r. (h, or-within s _ _ c room e (omega arith) r))
   verb-fits verb.Keyed n at = by-count 2 2 n _ (by-bytes at _ λ aid b h. (h, omega arith))
   verb-fits verb.Stored n at = by-count 3 3 n _ (by-bytes at _ λ aid b h. by-value (valueAt most32 s b) _ λ m e q. (h, omega arith))
   verb-fits verb.Finished n at =
       by-count 3 4 n _
       (by-bytes at _ λ aid b h.
       by-value (valueAt most8 s b) _ λ m c q.
-      by-value (valueOr 1 most8 s c) _ λ v e r. (h, omega arith))
+      by-value (valueOr _ _ s c) _ λ v e r. (h, omega arith))
   verb-fits verb.Tick n at = by-count 1 1 n (inner call.Tick) (tt, omega arith)
   verb-fits verb.Lost n at = by-count 1 1 n (inner call.Lost) (tt, omega arith)
   verb-fits verb.Card n at = by-count recordWords recordWords n (order.Record at) tt

@@ -44,7 +44,7 @@ cast-t17 c =
 cast-t18 : tie.Need-cast-t18
 cast-t18 c =
     let m = c in
-    let h = or-within _ 1 255 _ _ _ (omega arith) (sym (m .before .mark .given .1) ∙ m .before .before .before .next-or .ensures) in
+    let h = or-within _ _ _ _ _ _ (omega arith) (sym (m .before .mark .given .1) ∙ m .before .before .before .next-or .ensures) in
     search needs
 
 inner-requires : tie.Need-inner-requires
