@@ -28,6 +28,7 @@ pub mod Uses
 pub mod Blind
 pub mod Influence
 pub mod Free
+pub mod Provisioning
 pub mod InfluenceMet
 pub mod Notified
 pub mod SilentEngines

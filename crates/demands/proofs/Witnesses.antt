@@ -45,4 +45,5 @@ witnesses =
       fallback-at-last = record { open-before = refl; quiet-after = refl; confirming = refl; ticked = refl; enabled = refl };
       disabled-stays = record { open-before = refl; quiet-after = refl; confirming = refl; ticked = refl; enabled = refl };
       lost-ends = record { open-before = refl; quiet-after = refl; confirming = refl; ticked = refl; enabled = refl };
+      lost-falls = refl;
     }

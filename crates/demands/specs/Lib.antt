@@ -21,5 +21,6 @@ pub mod SampleRun
 pub mod Influence
 pub mod Others
 pub mod Free
+pub mod Provisioning
 pub mod Notified
 pub mod SilentEngines

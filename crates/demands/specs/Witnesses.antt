@@ -7,6 +7,7 @@ use mathlib.Core.Bool.{Bool, true, false}
 use Rattle.card.specs.Cards.{isQuiet, onFallback}
 use Rattle.card.specs.Sound.{sound}
 use Rattle.card.specs.declared.Card.{Card}
+use Rattle.card.specs.declared.Phase.the-variants.{Fallen}
 use Rattle.manager.specs.Calls.{Call, Call.Tick, Call.Lost}
 use Rattle.manager.specs.Manager.{step, run}
 use Rattle.demands.specs.Change.{enabledBytes, fallbackBytes, confirms, staysOpen, ticksAmong, Opens}
@@ -39,3 +40,5 @@ pub record Witnesses : Type 0 where
   -- the same from a disable, and a lost network
   pub disabled-stays : Ends (disable 2) (ticks 9) (confirm 2) true 9 1
   pub lost-ends : Ends Lost (ticks 9) Tick false 9 1
+  -- it has fallen back, as `FallenProvisioned` asks
+  pub lost-falls : run second (Lost ∷ []) .phase ≡ Fallen 10 2

@@ -1,0 +1,21 @@
+-- In Fallen the fall-back is enabled, no other profile is, and the fall-back of a sound card is marked; every run from fresh is sound.
+use mathlib.Core.Path.{subst}
+use Prim.Native.Nat.{ℕ}
+use borrow.Author.Tests.{eq-eqb}
+use Rattle.card.specs.declared.Card.{Card}
+use Rattle.card.specs.declared.Phase.{Phase}
+use Rattle.card.proofs.Sounds.{Phased, parts, fall-back-marked}
+use Rattle.card.proofs.Freshness.{fresh-sound}
+use Rattle.steps.proofs.Opens.{only}
+use Rattle.manager.proofs.Kept.{run-sound}
+use Rattle.manager.specs.Manager.{run}
+use Rattle.demands.specs.Inputs.{freshOf}
+use Rattle.demands.specs.Provisioning.{FallenProvisioned}
+
+pub fallen-provisioned : FallenProvisioned
+fallen-provisioned x calls left number made fell place on =
+    let c = run (freshOf x .card) calls in
+    let s = run-sound (freshOf x .card) calls (fresh-sound (x .eid) (x .aid) (x .capacity) (x .quota) (x .used) (x .volatile) made) in
+    let w = parts c s in
+    let h = subst (λ (p : Phase). Phased p c) fell (w .phased) .1 in
+    rw (only (c .places) place (c .fallback) (w .roles .one) (eq-eqb _ _ on) (eq-eqb _ _ h)) (fall-back-marked c s)
