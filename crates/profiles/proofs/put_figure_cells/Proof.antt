@@ -1,4 +1,4 @@
--- `table::put_figure_cells`: the cells one after the other.
+-- `profiles::put_figure_cells`: the cells one after the other.
 use Rattle.profiles.proofs.Pieces.{wrote-size}
 use Rattle.profiles.specs.Profiles.{figureCells}
 use Rattle.byte_string.proofs.PutLaws.{wrote-then}

@@ -1,4 +1,4 @@
--- `table::put_head`: the test tells which text it is.
+-- `profiles::put_head`: the test tells which text it is.
 use mathlib.Core.Path.{refl}
 use Rattle.byte_string.proofs.PutLaws.{wrote-as, wrote-then}
 use Rattle.choice.proofs.Branches.{eq!, ne! }

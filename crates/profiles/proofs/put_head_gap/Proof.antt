@@ -1,4 +1,4 @@
--- `table::put_head_gap`: where the column is no wider there is nothing to write.
+-- `profiles::put_head_gap`: where the column is no wider there is nothing to write.
 use mathlib.Core.Path.{sym}
 use native.Mathlib.Omega.{arith}
 use Rattle.byte_string.proofs.PutLaws.{wrote-as, wrote-none}

@@ -1,4 +1,4 @@
--- `table::put_name_cells`: the cells one after the other.
+-- `profiles::put_name_cells`: the cells one after the other.
 use Rattle.byte_string.proofs.PutLaws.{wrote-then, wrote-as}
 use mathlib.Core.Path.{ap}
 use Prim.Native.Nat.{ℕ, _-_, _*_}

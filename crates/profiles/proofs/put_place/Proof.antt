@@ -1,4 +1,4 @@
--- `table::put_place`: a place that is not held has nothing to write.
+-- `profiles::put_place`: a place that is not held has nothing to write.
 use mathlib.Core.Path.{refl}
 use Rattle.byte_string.proofs.PutLaws.{wrote-as, wrote-none, wrote-then}
 use Rattle.choice.proofs.Branches.{eq!, ne! }

@@ -1,4 +1,4 @@
--- `table::put_role_cells`: the cells one after the other.
+-- `profiles::put_role_cells`: the cells one after the other.
 use Rattle.profiles.proofs.Pieces.{wrote-size}
 use Rattle.profiles.specs.Profiles.{roleCells}
 use Rattle.byte_string.proofs.PutLaws.{wrote-then}

@@ -1,4 +1,4 @@
--- `table::put_rows`: the rows from place i on are still to write, which leaves what writing all of them leaves.
+-- `profiles::put_rows`: the rows from place i on are still to write, which leaves what writing all of them leaves.
 use borrow.Author.Needs.{needs}
 use mathlib.Core.Path.{_≡_}
 use Prim.Native.Nat.{_-_, _≤_}

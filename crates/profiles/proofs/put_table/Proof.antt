@@ -1,4 +1,4 @@
--- `table::put_table`: the head, then the rows; a card of the code has a row for each of its places.
+-- `profiles::put_table`: the head, then the rows; a card of the code has a row for each of its places.
 use Rattle.byte_string.proofs.PutLaws.{wrote-then, wrote-as}
 use mathlib.Core.Path.{_≡_, ap}
 use Prim.Native.Nat.{ℕ, _≤_}

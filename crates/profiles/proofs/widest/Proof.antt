@@ -1,4 +1,4 @@
--- `table::widest`: m is the longest of the places before i.
+-- `profiles::widest`: m is the longest of the places before i.
 use borrow.Author.Needs.{needs}
 use mathlib.Core.Path.{_≡_}
 use Prim.Native.Nat.{_-_, _≤_, max}

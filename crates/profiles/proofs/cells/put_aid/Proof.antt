@@ -1,4 +1,4 @@
--- `line::put_aid`: a length over sixteen takes the whole array, as `take` does.
+-- `cells::put_aid`: a length over sixteen takes the whole array, as `take` does.
 use mathlib.Core.Path.{_≡_, sym, ap}
 use native.Mathlib.Omega.{arith}
 use lib.ListN.{length}
