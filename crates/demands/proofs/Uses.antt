@@ -18,7 +18,7 @@ use Rattle.card.specs.Notifications.{issued, noticeSince, kindOf}
 use Rattle.card.specs.declared.Card.{Card}
 use Rattle.card.specs.declared.Phase.{Phase}
 use Rattle.card.specs.declared.Phase.the-variants.{Quiet, Trial, Back, Fallen}
-use Rattle.responses.specs.Responses.{markOf, statusBody, statusRow, rowOf, rowsFrom, statusResponse, oneStatus, dataResponse}
+use Rattle.responses.specs.Responses.{attributeOf, statusBody, statusRow, rowOf, rowsFrom, statusResponse, oneStatus, dataResponse}
 
 -- the places, and the card, with u used bytes at place i
 unfoldable pub useAt : List Isdp → ℕ → ℕ → List Isdp
@@ -169,14 +169,14 @@ module _ (i u : ℕ) where
   issued-reuse c = ap (λ (a : Aid). record { kind = kindOf (c .phase); number = c .last; eid = c .eid; aid = a }) (named-reuse c)
 
   -- the responses
-  row-reuse : (p : Isdp) (v mark : ℕ) (life fallback : Bool) → rowOf (withUsed p v) mark life fallback ≡ rowOf p mark life fallback
+  row-reuse : (p : Isdp) (v attribute : ℕ) (life fallback : Bool) → rowOf (withUsed p v) attribute life fallback ≡ rowOf p attribute life fallback
   unfolding rowOf statusRow statusBody
-  row-reuse p v mark life fallback = refl
+  row-reuse p v attribute life fallback = refl
 
   pub rows-reuse : (l : List Isdp) (j holder place : ℕ) (life fallback : Bool) → rowsFrom holder place life fallback (useAt l j u) ≡ rowsFrom holder place life fallback l
   unfolding rowsFrom useAt
   rows-reuse [] j holder place life fallback = refl
-  rows-reuse (p ∷ ps) zero holder place life fallback = rw (row-reuse p u (markOf holder place) life fallback)
+  rows-reuse (p ∷ ps) zero holder place life fallback = rw (row-reuse p u (attributeOf holder place) life fallback)
   rows-reuse (p ∷ ps) (suc j) holder place life fallback = rw (rows-reuse ps j holder (suc place) life fallback)
 
   pub status-reuse : (c : Card) (life fallback : Bool) → statusResponse (reuseAt i u c) life fallback ≡ statusResponse c life fallback
@@ -185,7 +185,7 @@ module _ (i u : ℕ) where
 
   pub one-reuse : (c : Card) (j : ℕ) (life fallback : Bool) → oneStatus (reuseAt i u c) j life fallback ≡ oneStatus c j life fallback
   unfolding oneStatus
-  one-reuse c j life fallback = rw (use-at (c .places) i u j, row-reuse (at (c .places) j) (at (useAt (c .places) i u) j .used) (markOf (c .fallback) j) life fallback)
+  one-reuse c j life fallback = rw (use-at (c .places) i u j, row-reuse (at (c .places) j) (at (useAt (c .places) i u) j .used) (attributeOf (c .fallback) j) life fallback)
 
   pub room-reuse : (c : Card) → freeIn (reuseAt i u c) ≡ freeIn c
   room-reuse c = rw (use-quotas (c .places) i u)

@@ -46,4 +46,5 @@ witnesses =
       disabled-stays = record { open-before = refl; quiet-after = refl; confirming = refl; ticked = refl; enabled = refl };
       lost-ends = record { open-before = refl; quiet-after = refl; confirming = refl; ticked = refl; enabled = refl };
       lost-falls = refl;
+      tick-falls = refl;
     }

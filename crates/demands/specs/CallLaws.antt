@@ -46,9 +46,9 @@ pub record EveryCall : Type 0 where
   pub set-fall-back : (aid : List ℕ) → WrittenLaw (field.storeData (field.setFallBack aid)) (λ c verdict. SetFallBackAnswers c aid)
   pub confirmation : (number : ℕ) → WrittenLaw (field.storeData (field.confirmation number)) (λ c verdict. ConfirmationAnswers c number)
   -- 4F is empty
-  pub status-of-all : (life mark : Bool) → WrittenLaw (field.getStatus (field.asked [] life mark)) (λ c verdict. StatusOfAllAnswers c life mark)
+  pub status-of-all : (life attribute : Bool) → WrittenLaw (field.getStatus (field.asked [] life attribute)) (λ c verdict. StatusOfAllAnswers c life attribute)
   -- 4F is an AID
-  pub status-of-one : (first : ℕ) (rest : List ℕ) (life mark : Bool) → WrittenLaw (field.getStatus (field.asked (first ∷ rest) life mark)) (λ c verdict. StatusOfOneAnswers c (first ∷ rest) life mark)
+  pub status-of-one : (first : ℕ) (rest : List ℕ) (life attribute : Bool) → WrittenLaw (field.getStatus (field.asked (first ∷ rest) life attribute)) (λ c verdict. StatusOfOneAnswers c (first ∷ rest) life attribute)
   pub get-data : WrittenLaw field.getData (λ c verdict. GetDataAnswers c)
   pub keyed : (aid : List ℕ) → CallLaw (Keyed aid) (λ c. KeyedAnswers c aid)
   pub stored : (aid : List ℕ) (n : ℕ) → CallLaw (Stored aid n) (λ c. StoredAnswers c aid n)

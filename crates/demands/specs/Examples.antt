@@ -7,9 +7,10 @@ use mathlib.Core.List.{List, [], _∷_, _++_}
 use lib.ListN.{length, replicate}
 use Rattle.status.specs.StatusWords.{numberOf}
 use Rattle.isdp.specs.Sizes.{mostPlaces}
-use Rattle.isdp.specs.Aids.{padded}
-use Rattle.isdp.specs.LifeCycle.{selectable, disabled, enabled, withMark}
-use Rattle.isdp.specs.Place.{vacant, made}
+use Rattle.isdp.specs.Aids.{padded, named}
+use Rattle.isdp.specs.LifeCycle.{selectable, disabled, enabled}
+use Rattle.isdp.specs.Profile.{profile}
+use Rattle.isdp.specs.Place.{vacant}
 use Rattle.isdp.specs.declared.Isdp.{Isdp}
 use Rattle.card.specs.Cards as cards
 use Rattle.card.specs.Answers.{Outcome}
@@ -86,21 +87,21 @@ abbrev pub cardWith : List Isdp → ℕ → ℕ → Phase → Card
 cardWith profiles last fallback phase =
     cards.cardWith (replicate 16 0x89) 1000 7 last fallback phase (profiles ++ replicate (mostPlaces - length profiles) vacant)
 
--- F, which has the mark, alone; F and 02, with their life cycles, 02 with this mark or marked too; new profiles of quota 1, with AIDs from
+-- the profiles field by field: AID, life cycle, quota, used, policy, mark. F, which has the mark, alone; F and 02, with their life cycles, 02 with this mark or marked too; new profiles of quota 1, with AIDs from
 -- n on
 abbrev pub alone : List Isdp
-alone = withMark (made (aid 1) enabled 100 10) 1 ∷ []
+alone = profile (named (aid 1)) enabled 100 10 0 1 ∷ []
 
 abbrev pub twoWith : ℕ → ℕ → ℕ → List Isdp
 twoWith mark first second =
-    withMark (made (aid 1) first 100 10) 1 ∷ withMark (made (aid 2) second 50 5) mark ∷ []
+    profile (named (aid 1)) first 100 10 0 1 ∷ profile (named (aid 2)) second 50 5 0 mark ∷ []
 
 abbrev pub two : ℕ → ℕ → List Isdp
 two first second = twoWith 1 first second
 
 unfoldable pub created : ℕ → ℕ → List Isdp
 created n zero = []
-created n (suc k) = made (aid n) selectable 1 0 ∷ created (suc n) k
+created n (suc k) = profile (named (aid n)) selectable 1 0 0 0 ∷ created (suc n) k
 
 -- F is the fall-back, 02 the other, Quiet
 abbrev pub cardOfTwo : ℕ → ℕ → ℕ → Card
@@ -132,12 +133,12 @@ examples =
     ∷ record { number = 3; start = fresh; before = load 2 0; call = command (0x80 ∷ 0xE2 ∷ 0x87 ∷ 0x00 ∷ 0x0A ∷ 0x3A ∷ 0x05 ∷ 0x07 ∷ 0x4F ∷ 0x05 ∷ aid 2); word = 0x6A86; response = []; notification = silent; ticks = 0; card = cardWith (two enabled disabled) 0 0 Quiet }
     ∷ record { number = 3; start = fresh; before = load 2 0; call = command (0x80 ∷ 0xE2 ∷ 0x88 ∷ 0x00 ∷ 0x09 ∷ 0x3A ∷ 0x05 ∷ 0x07 ∷ 0x4F ∷ 0x05 ∷ aid 2); word = 0x6700; response = []; notification = silent; ticks = 0; card = cardWith (two enabled disabled) 0 0 Quiet }
     ∷ record { number = 4; start = fresh; before = load 2 0; call = command (0x80 ∷ 0xE2 ∷ 0x88 ∷ 0x00 ∷ 0x09 ∷ 0x3A ∷ 0x05 ∷ 0x06 ∷ 0x4F ∷ 0x04 ∷ 0xA0 ∷ 0x00 ∷ 0x00 ∷ 0x00 ∷ []); word = 0x6A80; response = []; notification = silent; ticks = 0; card = cardWith (two enabled disabled) 0 0 Quiet }
-    ∷ record { number = 5; start = fresh; before = []; call = create 2 900; word = 0x9000; response = 0x00 ∷ []; notification = silent; ticks = 0; card = cardWith (alone ++ made (aid 2) selectable 900 0 ∷ []) 0 0 Quiet }
+    ∷ record { number = 5; start = fresh; before = []; call = create 2 900; word = 0x9000; response = 0x00 ∷ []; notification = silent; ticks = 0; card = cardWith (alone ++ profile (named (aid 2)) selectable 900 0 0 0 ∷ []) 0 0 Quiet }
     ∷ record { number = 5; start = fresh; before = []; call = create 2 901; word = 0x6A84; response = []; notification = silent; ticks = 0; card = cardWith alone 0 0 Quiet }
     ∷ record { number = 6; start = fresh; before = load 2 0 ++ creates 3 (mostPlaces - 3); call = create mostPlaces 1; word = 0x9000; response = 0x00 ∷ []; notification = silent; ticks = 0; card = cardWith (two enabled disabled ++ created 3 (mostPlaces - 2)) 0 0 Quiet }
     ∷ record { number = 6; start = fresh; before = load 2 0 ++ creates 3 (mostPlaces - 2); call = create (mostPlaces + 1) 1; word = 0x6A84; response = []; notification = silent; ticks = 0; card = cardWith (two enabled disabled ++ created 3 (mostPlaces - 2)) 0 0 Quiet }
     ∷ record { number = 6; start = fresh; before = load 2 0 ++ creates 3 (mostPlaces - 2); call = delete 2; word = 0x9000; response = 0x00 ∷ []; notification = silent; ticks = 0; card = cardWith (alone ++ vacant ∷ created 3 (mostPlaces - 2)) 0 0 Quiet }
-    ∷ record { number = 6; start = fresh; before = load 2 0 ++ creates 3 (mostPlaces - 2) ++ delete 2 ∷ []; call = create (mostPlaces + 1) 1; word = 0x9000; response = 0x00 ∷ []; notification = silent; ticks = 0; card = cardWith (alone ++ made (aid (mostPlaces + 1)) selectable 1 0 ∷ created 3 (mostPlaces - 2)) 0 0 Quiet }
+    ∷ record { number = 6; start = fresh; before = load 2 0 ++ creates 3 (mostPlaces - 2) ++ delete 2 ∷ []; call = create (mostPlaces + 1) 1; word = 0x9000; response = 0x00 ∷ []; notification = silent; ticks = 0; card = cardWith (alone ++ profile (named (aid (mostPlaces + 1))) selectable 1 0 0 0 ∷ created 3 (mostPlaces - 2)) 0 0 Quiet }
     ∷ record { number = 7; start = fresh; before = load 2 0; call = enable 2; word = 0x9000; response = []; notification = notice Changed 1 2; ticks = 20; card = cardWith (two disabled enabled) 1 0 (Trial 0 10 1) }
     ∷ record { number = 7; start = fresh; before = load 2 0 ++ enable 2 ∷ ticks 9; call = confirm 1; word = 0x9000; response = []; notification = silent; ticks = 0; card = cardWith (two disabled enabled) 1 0 Quiet }
     ∷ record { number = 8; start = fresh; before = load 2 0 ++ enable 2 ∷ ticks 9; call = Tick; word = 0x9000; response = []; notification = notice RolledBack 2 1; ticks = 10; card = cardWith (two enabled disabled) 2 0 (Back 10 2) }

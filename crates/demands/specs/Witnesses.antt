@@ -1,4 +1,4 @@
--- Runs that meet the hypotheses of demand 3, one for each ending: from the fresh card of the examples, by command bytes.
+-- Runs that meet the hypotheses of demand 3, one for each ending, and of `FallenProvisioned`: from the fresh card of the examples, by command bytes.
 -- The change shown is the second one of its card, and the profile asked for, the previous one and the fall-back are three.
 use Prim.Native.Nat.{ℕ}
 use mathlib.Core.Path.{_≡_}
@@ -14,8 +14,11 @@ use Rattle.demands.specs.Change.{enabledBytes, fallbackBytes, confirms, 
 use Rattle.demands.specs.Examples.{aid, fresh, load, enable, disable, confirm, ticks}
 
 -- F is the fall-back, 02 is enabled by a change that is closed, 03 is DISABLED
+abbrev pub toSecond : List Call
+toSecond = load 2 0 ++ load 3 0 ++ enable 2 ∷ confirm 1 ∷ []
+
 unfoldable pub second : Card
-second = run fresh (load 2 0 ++ load 3 0 ++ enable 2 ∷ confirm 1 ∷ [])
+second = run fresh toSecond
 
 -- after the opening come these calls, then the one that closes the change, confirmed or not, with so many ticks before it and this profile enabled
 pub record Ends (opening : Call) (calls : List Call) (closing : Call) (confirmed : Bool) (seen profile : ℕ) : Type 0 where
@@ -40,5 +43,6 @@ pub record Witnesses : Type 0 where
   -- the same from a disable, and a lost network
   pub disabled-stays : Ends (disable 2) (ticks 9) (confirm 2) true 9 1
   pub lost-ends : Ends Lost (ticks 9) Tick false 9 1
-  -- it has fallen back, as `FallenProvisioned` asks
-  pub lost-falls : run second (Lost ∷ []) .phase ≡ Fallen 10 2
+  -- cards that have fallen back, by a lost network and by the twentieth tick, as `FallenProvisioned` asks
+  pub lost-falls : run fresh (toSecond ++ Lost ∷ []) .phase ≡ Fallen 10 2
+  pub tick-falls : run fresh (toSecond ++ enable 3 ∷ ticks 20) .phase ≡ Fallen 10 4

@@ -48,7 +48,7 @@ stateText life =
     (pick (isSame life enabled) (text "ENABLED     ")
     (hex8 life ++ text "          "))))
 
--- the fall-back's mark in a column of nine
+-- whether it is the fall-back, in a column of nine
 unfoldable pub fallBackText : ℕ → ℕ → List ℕ
 fallBackText holder place = pick (isSame place holder) (text "yes      ") (text "         ")
 

@@ -1,5 +1,5 @@
--- "PHASE `Q`, `T:PREVIOUS:LEFT:NUMBER`, `B:LEFT:NUMBER` or `F:LEFT:NUMBER`; PLACE `-`, or `AID:STATE:QUOTA:USED:POLICY:MARK`
--- (AID up to 16 bytes or `-`, STATE two hex digits)". A field after the last one is wrong.
+-- docs/SCRIPT.md, 'The lines': PHASE is `Q`, `T:PREVIOUS:LEFT:NUMBER`, `B:LEFT:NUMBER` or `F:LEFT:NUMBER`; PLACE is `-` or
+-- `AID:STATE:QUOTA:USED:POLICY:MARK`, its AID of up to 16 bytes or `-`, STATE two hex digits. A field after the last one is wrong.
 use Prim.Native.Nat.{ℕ, _+_}
 use mathlib.Core.List.{List}
 use mathlib.Core.Bool.{true, false}

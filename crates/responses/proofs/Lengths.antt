@@ -17,30 +17,30 @@ use Rattle.card.specs.Sound.{sound}
 use Rattle.card.specs.declared.Card.{Card}
 use Rattle.isdp.proofs.Bools.{and-l, and-r, both}
 use Rattle.card.proofs.Sounds.{parts}
-use Rattle.responses.specs.Responses.{mostRow, aidElement, markOf, statusRow, rowOf, rowsFrom, statusResponse, oneStatus, dataResponse, deletedResponse}
+use Rattle.responses.specs.Responses.{mostRow, aidElement, attributeOf, statusRow, rowOf, rowsFrom, statusResponse, oneStatus, dataResponse, deletedResponse}
 use Rattle.responses.proofs.Rows.{body-length, listed-small}
 
 -- the AID's bytes are sixteen at the most, as they are in every record of the code
 abbrev pub aidFits : Isdp → Bool
 aidFits p = leb (length (p .aid .bytes)) mostAid
 
-row-case : (p : Isdp) (mark : ℕ) (life fallback there : Bool) → length (p .aid .bytes) ≤ 16 → length (cond there (statusRow p mark life fallback) []) ≤ mostRow
+row-case : (p : Isdp) (attribute : ℕ) (life fallback there : Bool) → length (p .aid .bytes) ≤ 16 → length (cond there (statusRow p attribute life fallback) []) ≤ mostRow
 unfolding statusRow
-row-case p mark life fallback true h =
-    omega (arith, body-length p mark life fallback, listed-small life fallback, length-take (p .aid .len) (p .aid .bytes))
-row-case p mark life fallback false h = omega arith
+row-case p attribute life fallback true h =
+    omega (arith, body-length p attribute life fallback, listed-small life fallback, length-take (p .aid .len) (p .aid .bytes))
+row-case p attribute life fallback false h = omega arith
 
-pub row-length : (p : Isdp) (mark : ℕ) (life fallback : Bool) → aidFits p ≡ true → length (rowOf p mark life fallback) ≤ mostRow
+pub row-length : (p : Isdp) (attribute : ℕ) (life fallback : Bool) → aidFits p ≡ true → length (rowOf p attribute life fallback) ≤ mostRow
 unfolding rowOf
-row-length p mark life fallback e = row-case p mark life fallback (held p) (leb-true (length (p .aid .bytes)) mostAid e)
+row-length p attribute life fallback e = row-case p attribute life fallback (held p) (leb-true (length (p .aid .bytes)) mostAid e)
 
 pub rows-length : (holder place : ℕ) (life fallback : Bool) (l : List Isdp) → allOf aidFits l ≡ true → length (rowsFrom holder place life fallback l) ≤ mostRow * length l
 unfolding rowsFrom allOf
 rows-length holder place life fallback [] e = omega arith
 rows-length holder place life fallback (p ∷ ps) e =
-    let h = row-length p (markOf holder place) life fallback (and-l (aidFits p) (allOf aidFits ps) e) in
+    let h = row-length p (attributeOf holder place) life fallback (and-l (aidFits p) (allOf aidFits ps) e) in
     let k = rows-length holder (suc place) life fallback ps (and-r (aidFits p) (allOf aidFits ps) e) in
-    omega (arith, length-append (rowOf p (markOf holder place) life fallback) (rowsFrom holder (suc place) life fallback ps))
+    omega (arith, length-append (rowOf p (attributeOf holder place) life fallback) (rowsFrom holder (suc place) life fallback ps))
 
 -- GET STATUS of all, over any number of places
 pub status-length : (c : Card) (life fallback : Bool) → allOf aidFits (c .places) ≡ true → length (statusResponse c life fallback) ≤ mostRow * length (c .places)
@@ -57,7 +57,7 @@ all-at t (p ∷ ps) (suc i) e n = all-at t ps i (and-r (t p) (allOf t ps) e) n
 -- GET STATUS of one
 pub one-length : (c : Card) (place : ℕ) (life fallback : Bool) → allOf aidFits (c .places) ≡ true → length (oneStatus c place life fallback) ≤ mostRow
 unfolding oneStatus
-one-length c place life fallback e = row-length (at (c .places) place) (markOf (c .fallback) place) life fallback (all-at aidFits (c .places) place e refl)
+one-length c place life fallback e = row-length (at (c .places) place) (attributeOf (c .fallback) place) life fallback (all-at aidFits (c .places) place e refl)
 
 all-more : (t u : Isdp → Bool) (l : List Isdp) → ((p : Isdp) → t p ≡ true → u p ≡ true) → allOf t l ≡ true → allOf u l ≡ true
 unfolding allOf

@@ -18,7 +18,7 @@ use Rattle.places.proofs.Records.{unread}
 use Rattle.card.specs.Cards.{freeIn}
 use Rattle.card.specs.declared.Card.{Card}
 use Rattle.byte_string.specs.Bytes.{fourBytes}
-use Rattle.responses.specs.Responses.{aidElement, lifeElement, markElement, markOf, listed, statusBody, statusRow, rowOf, rowsFrom, statusResponse, oneStatus, dataResponse, deletedResponse}
+use Rattle.responses.specs.Responses.{aidElement, lifeElement, attributeElement, attributeOf, listed, statusBody, statusRow, rowOf, rowsFrom, statusResponse, oneStatus, dataResponse, deletedResponse}
 
 -- as many bytes as the AID has, after their tag and their number
 pub aid-element : (a : Aid) (n : ℕ) → n ≡ length (bytesOf a) → 0x4F ∷ n ∷ take n (a .bytes) ≡ aidElement (bytesOf a)
@@ -30,46 +30,46 @@ listed-small true false = omega arith
 listed-small false true = omega arith
 listed-small false false = omega arith
 
-listed-length : (life fallback : Bool) (state mark : ℕ) → length (listed life (lifeElement state) ++ listed fallback (markElement mark)) ≡ cond life 4 0 + cond fallback 3 0
-listed-length true true state mark = refl
-listed-length true false state mark = refl
-listed-length false true state mark = refl
-listed-length false false state mark = refl
+listed-length : (life fallback : Bool) (state attribute : ℕ) → length (listed life (lifeElement state) ++ listed fallback (attributeElement attribute)) ≡ cond life 4 0 + cond fallback 3 0
+listed-length true true state attribute = refl
+listed-length true false state attribute = refl
+listed-length false true state attribute = refl
+listed-length false false state attribute = refl
 
 -- what E3 holds, counted
-pub body-length : (p : Isdp) (mark : ℕ) (life fallback : Bool) → length (statusBody p mark life fallback) ≡ length (aidOf p) + 2 + (cond life 4 0 + cond fallback 3 0)
+pub body-length : (p : Isdp) (attribute : ℕ) (life fallback : Bool) → length (statusBody p attribute life fallback) ≡ length (aidOf p) + 2 + (cond life 4 0 + cond fallback 3 0)
 unfolding statusBody
-body-length p mark life fallback =
-    let e = length-append (aidOf p) (listed life (lifeElement (p .life)) ++ listed fallback (markElement mark)) in
-    let f = listed-length life fallback (p .life) mark in
+body-length p attribute life fallback =
+    let e = length-append (aidOf p) (listed life (lifeElement (p .life)) ++ listed fallback (attributeElement attribute)) in
+    let f = listed-length life fallback (p .life) attribute in
     omega (arith, e, f)
 
-pub status-row : (p : Isdp) (mark : ℕ) (life fallback : Bool) (n m : ℕ) → n ≡ length (aidOf p) → m ≡ cond life 4 0 + cond fallback 3 0
-    → (((0xE3 ∷ (n + 2 + m) ∷ []) ++ aidElement (aidOf p)) ++ listed life (lifeElement (p .life))) ++ listed fallback (markElement mark) ≡ statusRow p mark life fallback
+pub status-row : (p : Isdp) (attribute : ℕ) (life fallback : Bool) (n m : ℕ) → n ≡ length (aidOf p) → m ≡ cond life 4 0 + cond fallback 3 0
+    → (((0xE3 ∷ (n + 2 + m) ∷ []) ++ aidElement (aidOf p)) ++ listed life (lifeElement (p .life))) ++ listed fallback (attributeElement attribute) ≡ statusRow p attribute life fallback
 unfolding statusRow statusBody
-status-row p mark life fallback n m e f =
-    let h = body-length p mark life fallback in
-    let g : n + 2 + m ≡ length (statusBody p mark life fallback) = rw (h, e, f) refl in
-    let rest = append-assoc (aidElement (aidOf p)) (listed life (lifeElement (p .life))) (listed fallback (markElement mark)) in
-    rw g (ap (λ (xs : List ℕ). 0xE3 ∷ length (statusBody p mark life fallback) ∷ xs) rest)
+status-row p attribute life fallback n m e f =
+    let h = body-length p attribute life fallback in
+    let g : n + 2 + m ≡ length (statusBody p attribute life fallback) = rw (h, e, f) refl in
+    let rest = append-assoc (aidElement (aidOf p)) (listed life (lifeElement (p .life))) (listed fallback (attributeElement attribute)) in
+    rw g (ap (λ (xs : List ℕ). 0xE3 ∷ length (statusBody p attribute life fallback) ∷ xs) rest)
 
-pub row-none : (p : Isdp) (mark : ℕ) (life fallback : Bool) → p .aid .len ≡ 0 → [] ≡ rowOf p mark life fallback
+pub row-none : (p : Isdp) (attribute : ℕ) (life fallback : Bool) → p .aid .len ≡ 0 → [] ≡ rowOf p attribute life fallback
 unfolding rowOf
-row-none p mark life fallback e = rw (eq-eqb (p .aid .len) 0 e)
+row-none p attribute life fallback e = rw (eq-eqb (p .aid .len) 0 e)
 
-pub row-some : (p : Isdp) (mark : ℕ) (life fallback : Bool) → (p .aid .len ≡ 0 → ⊥) → statusRow p mark life fallback ≡ rowOf p mark life fallback
+pub row-some : (p : Isdp) (attribute : ℕ) (life fallback : Bool) → (p .aid .len ≡ 0 → ⊥) → statusRow p attribute life fallback ≡ rowOf p attribute life fallback
 unfolding rowOf
-row-some p mark life fallback e = rw (ne-eqb (p .aid .len) 0 e)
+row-some p attribute life fallback e = rw (ne-eqb (p .aid .len) 0 e)
 
-pub one-row : (c : Card) (place : ℕ) (life fallback : Bool) (p : Isdp) (mark : ℕ) → p ≡ at (c .places) place → mark ≡ markOf (c .fallback) place → rowOf p mark life fallback ≡ oneStatus c place life fallback
+pub one-row : (c : Card) (place : ℕ) (life fallback : Bool) (p : Isdp) (attribute : ℕ) → p ≡ at (c .places) place → attribute ≡ attributeOf (c .fallback) place → rowOf p attribute life fallback ≡ oneStatus c place life fallback
 unfolding oneStatus
-one-row c place life fallback p mark e f = rw (e, f)
+one-row c place life fallback p attribute e f = rw (e, f)
 
 -- one turn of the loop over the places, and its end
-pub rows-step : (holder : ℕ) (life fallback : Bool) (l : List Isdp) (i mark : ℕ) → i < length l → mark ≡ markOf holder i
-    → rowsFrom holder i life fallback (drop i l) ≡ rowOf (getD l i unread) mark life fallback ++ rowsFrom holder (i + 1) life fallback (drop (i + 1) l)
+pub rows-step : (holder : ℕ) (life fallback : Bool) (l : List Isdp) (i attribute : ℕ) → i < length l → attribute ≡ attributeOf holder i
+    → rowsFrom holder i life fallback (drop i l) ≡ rowOf (getD l i unread) attribute life fallback ++ rowsFrom holder (i + 1) life fallback (drop (i + 1) l)
 unfolding rowsFrom
-rows-step holder life fallback l i mark h e = rw (drop-cons l i unread, add-one, e)
+rows-step holder life fallback l i attribute h e = rw (drop-cons l i unread, add-one, e)
 
 pub rows-end : (holder : ℕ) (life fallback : Bool) (l : List Isdp) (i : ℕ) → length l ≤ i → rowsFrom holder i life fallback (drop i l) ≡ []
 unfolding rowsFrom

@@ -24,12 +24,12 @@ aidElement aid = 0x4F ∷ length aid ∷ aid
 abbrev pub lifeElement : ℕ → List ℕ
 lifeElement life = 0x9F ∷ 0x70 ∷ 1 ∷ life ∷ []
 
--- "53 is 01 for the fall-back, else 00"
-abbrev pub markElement : ℕ → List ℕ
-markElement mark = 0x53 ∷ 1 ∷ mark ∷ []
+-- "53 is 01 for the fall-back, else 00": the Fall-back Attribute of 000
+abbrev pub attributeElement : ℕ → List ℕ
+attributeElement attribute = 0x53 ∷ 1 ∷ attribute ∷ []
 
-abbrev pub markOf : ℕ → ℕ → ℕ
-markOf holder place = cond (eqb place holder) 1 0
+abbrev pub attributeOf : ℕ → ℕ → ℕ
+attributeOf holder place = cond (eqb place holder) 1 0
 
 -- "4F is always there and the others if listed"
 abbrev pub listed : Bool → List ℕ → List ℕ
@@ -37,12 +37,12 @@ listed asked bytes = cond asked bytes []
 
 -- what E3 holds of a place
 unfoldable pub statusBody : Isdp → ℕ → Bool → Bool → List ℕ
-statusBody p mark life fallback =
-    aidElement (aidOf p) ++ (listed life (lifeElement (p .life)) ++ listed fallback (markElement mark))
+statusBody p attribute life fallback =
+    aidElement (aidOf p) ++ (listed life (lifeElement (p .life)) ++ listed fallback (attributeElement attribute))
 
 unfoldable pub statusRow : Isdp → ℕ → Bool → Bool → List ℕ
-statusRow p mark life fallback =
-    0xE3 ∷ length (statusBody p mark life fallback) ∷ statusBody p mark life fallback
+statusRow p attribute life fallback =
+    0xE3 ∷ length (statusBody p attribute life fallback) ∷ statusBody p attribute life fallback
 
 -- a row is 27 bytes at the most: E3 and its length, 4F with 16 bytes, 9F70, 53
 abbrev pub mostRow : ℕ
@@ -50,13 +50,13 @@ mostRow = 27
 
 -- a place that is not held has no row
 unfoldable pub rowOf : Isdp → ℕ → Bool → Bool → List ℕ
-rowOf p mark life fallback = cond (held p) (statusRow p mark life fallback) []
+rowOf p attribute life fallback = cond (held p) (statusRow p attribute life fallback) []
 
 -- the rows of these places, the first of which has the number `place`
 unfoldable pub rowsFrom : ℕ → ℕ → Bool → Bool → List Isdp → List ℕ
 rowsFrom holder place life fallback [] = []
 rowsFrom holder place life fallback (p ∷ ps) =
-    rowOf p (markOf holder place) life fallback ++ rowsFrom holder (suc place) life fallback ps
+    rowOf p (attributeOf holder place) life fallback ++ rowsFrom holder (suc place) life fallback ps
 
 -- GET STATUS of all: "for each place from the lowest"
 unfoldable pub statusResponse : Card → Bool → Bool → List ℕ
@@ -64,7 +64,7 @@ statusResponse c life fallback = rowsFrom (c .fallback) 0 life fallback (c .plac
 
 -- GET STATUS of one AID, held at this place
 unfoldable pub oneStatus : Card → ℕ → Bool → Bool → List ℕ
-oneStatus c place life fallback = rowOf (at (c .places) place) (markOf (c .fallback) place) life fallback
+oneStatus c place life fallback = rowOf (at (c .places) place) (attributeOf (c .fallback) place) life fallback
 
 -- GET DATA: "FF21 holding 81 (number of ISD-Ps, 1 byte), 82 (free, 4 bytes), 83 (volatile figure, 4 bytes)"
 unfoldable pub dataResponse : Card → List ℕ

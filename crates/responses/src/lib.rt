@@ -15,7 +15,7 @@ ghost use Rattle.isdp.specs.Sizes.{mostPlaces};
 ghost use Rattle.isdp.specs.Aids.{bytesOf};
 ghost use Rattle.isdp.specs.Place.{held};
 ghost use Rattle.places.specs.Places.{countOf};
-ghost use Rattle.responses.specs.Responses.{mostRow, aidElement, lifeElement, markElement, markOf, listed, statusRow, rowOf, statusResponse, oneStatus, dataResponse, informationOf, deletedResponse};
+ghost use Rattle.responses.specs.Responses.{mostRow, aidElement, lifeElement, attributeElement, attributeOf, listed, statusRow, rowOf, statusResponse, oneStatus, dataResponse, informationOf, deletedResponse};
 
 // The number of ISD-Ps, in the one byte that GET DATA has for it.
 pub fn count_held(places: [Isdp; PLACES]) -> u8
@@ -53,18 +53,18 @@ fn write_life(life: u8, asked: bool, buf: &mut [u8], at: usize) -> usize
     at
 }
 
-fn write_mark(mark: u8, asked: bool, buf: &mut [u8], at: usize) -> usize
-    ensures { λ r. ⌜ Wrote (now (buf .entry)) at (listed asked (markElement mark)) r (now (buf .exit)) ⌝ }
+fn write_attribute(attribute: u8, asked: bool, buf: &mut [u8], at: usize) -> usize
+    ensures { λ r. ⌜ Wrote (now (buf .entry)) at (listed asked (attributeElement attribute)) r (now (buf .exit)) ⌝ }
 {
     if asked {
-        let element = [0x53, 1, mark];
+        let element = [0x53, 1, attribute];
         return put_bytes(buf, at, &element);
     }
     at
 }
 
-fn mark_of(holder: u8, place: u8) -> u8
-    ensures { λ r. ⌜ r ≡ markOf holder place ⌝ }
+fn attribute_of(holder: u8, place: u8) -> u8
+    ensures { λ r. ⌜ r ≡ attributeOf holder place ⌝ }
 {
     if place == holder {
         return 1;
@@ -88,8 +88,8 @@ fn listed_size(life: bool, fallback: bool) -> u8
     0
 }
 
-fn write_row(p: Isdp, mark: u8, life: bool, fallback: bool, buf: &mut [u8], at: usize) -> usize
-    ensures { λ r. ⌜ Wrote (now (buf .entry)) at (statusRow p mark life fallback) r (now (buf .exit)) ⌝ }
+fn write_row(p: Isdp, attribute: u8, life: bool, fallback: bool, buf: &mut [u8], at: usize) -> usize
+    ensures { λ r. ⌜ Wrote (now (buf .entry)) at (statusRow p attribute life fallback) r (now (buf .exit)) ⌝ }
 {
     let aid = p.aid;
     let n = aid.size();
@@ -99,17 +99,24 @@ fn write_row(p: Isdp, mark: u8, life: bool, fallback: bool, buf: &mut [u8], at: 
     let body = put_bytes(buf, at, &head);
     let state = write_aid(aid, buf, body);
     let last = write_life(p.life, life, buf, state);
-    write_mark(mark, fallback, buf, last)
+    write_attribute(attribute, fallback, buf, last)
 }
 
 // A place that is not held has no row.
-fn write_place(p: Isdp, mark: u8, life: bool, fallback: bool, buf: &mut [u8], at: usize) -> usize
-    ensures { λ r. ⌜ Wrote (now (buf .entry)) at (rowOf p mark life fallback) r (now (buf .exit)) × (length (rowOf p mark life fallback) ≤ mostRow) ⌝ }
+fn write_place(
+    p: Isdp,
+    attribute: u8,
+    life: bool,
+    fallback: bool,
+    buf: &mut [u8],
+    at: usize,
+) -> usize
+    ensures { λ r. ⌜ Wrote (now (buf .entry)) at (rowOf p attribute life fallback) r (now (buf .exit)) × (length (rowOf p attribute life fallback) ≤ mostRow) ⌝ }
 {
     if p.aid.len == 0 {
         return at;
     }
-    write_row(p, mark, life, fallback, buf, at)
+    write_row(p, attribute, life, fallback, buf, at)
 }
 
 // GET STATUS of all.
@@ -122,8 +129,8 @@ fn write_status(card: Card, life: bool, fallback: bool, buf: &mut [u8], at: usiz
     let mut k = at;
     while i < PLACES {
         let p = places[i];
-        let mark = mark_of(holder, i as u8);
-        k = write_place(p, mark, life, fallback, buf, k);
+        let attribute = attribute_of(holder, i as u8);
+        k = write_place(p, attribute, life, fallback, buf, k);
         i += 1;
     }
     k
@@ -141,8 +148,8 @@ fn write_one_status(
     ensures { λ r. ⌜ Wrote (now (buf .entry)) at (oneStatus card place life fallback) r (now (buf .exit)) × (length (oneStatus card place life fallback) ≤ mostRow) ⌝ }
 {
     let p = card.profile(place);
-    let mark = mark_of(card.fallback, place);
-    write_place(p, mark, life, fallback, buf, at)
+    let attribute = attribute_of(card.fallback, place);
+    write_place(p, attribute, life, fallback, buf, at)
 }
 
 // Four bytes, high byte first.

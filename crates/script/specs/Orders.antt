@@ -58,7 +58,7 @@ freshAt s at =
 unfoldable pub valueOr : ℕ → ℕ → List ℕ → ℕ → Value
 valueOr missing most s at = onWord (wordAt s at) (value.Is missing at) λ a e. valueAt most s at
 
--- VERDICT HEX, or VERDICT HEX LENGTH: "`command` lends a buffer of 256 bytes, or of LENGTH (0 to 1,024)"
+-- VERDICT HEX, or VERDICT HEX LENGTH: "a response buffer of 256 bytes, or of LENGTH", 0 to 1,024
 unfoldable pub commandAt : List ℕ → ℕ → Order
 commandAt s at =
     onValue (valueAt most8 s at) order.Wrong λ verdict b.

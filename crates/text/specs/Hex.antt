@@ -26,7 +26,7 @@ pairsOf [] = true
 pairsOf (a ∷ []) = false
 pairsOf (a ∷ b ∷ r) = pick (isBelow 15 (nibbleOf a)) false (pick (isBelow 15 (nibbleOf b)) false (pairsOf r))
 
--- is it a byte string? The empty text is none: `-` stands for no bytes
+-- it is a byte string; the empty text is none: `-` stands for no bytes
 unfoldable pub isHex : List ℕ → Bool
 isHex [] = false
 isHex (c ∷ cs) = pick (sameBytes (c ∷ cs) (45 ∷ [])) true (pairsOf (c ∷ cs))

@@ -1,4 +1,4 @@
--- `responses::write_one_status`: the place and its mark are those of the definition (`one-row`).
+-- `responses::write_one_status`: the place and its attribute are those of the definition (`one-row`).
 use Rattle.byte_string.proofs.PutLaws.{wrote-as}
 use Rattle.responses.proofs.Rows.{one-row}
 use borrow.Author.Needs.{needs}
@@ -8,8 +8,8 @@ use Rattle.responses.proofs.write_one_status.Tie as tie
 profile-requires : tie.Need-profile-requires
 profile-requires c κs = search needs
 
-mark-of-requires : tie.Need-mark-of-requires
-mark-of-requires c κs = search needs
+attribute-of-requires : tie.Need-attribute-of-requires
+attribute-of-requires c κs = search needs
 
 write-place-requires : tie.Need-write-place-requires
 write-place-requires c κs = search needs
@@ -18,10 +18,10 @@ same-length : tie.Need-same-length
 same-length c = search needs
 
 returns : tie.Need-returns
-returns c = let e = one-row _ _ _ _ _ _ (c .before .before .before .before .before .profile .ensures) (c .before .before .before .before .mark-of .ensures) in
+returns c = let e = one-row _ _ _ _ _ _ (c .before .before .before .before .before .profile .ensures) (c .before .before .before .before .attribute-of .ensures) in
     let w = c .before .before .write-place .ensures in
     (wrote-as _ e (w .0), rw (← e) (w .1))
 
 pub write-one-status-spec : {M : Type 1} → statement M
 write-one-status-spec =
-    tie.close (tie.spec profile-requires mark-of-requires write-place-requires same-length returns)
+    tie.close (tie.spec profile-requires attribute-of-requires write-place-requires same-length returns)

@@ -35,15 +35,15 @@ write-aid-requires c κs = search needs
 write-life-requires : tie.Need-write-life-requires
 write-life-requires c κs = search needs
 
-write-mark-requires : tie.Need-write-mark-requires
-write-mark-requires c κs = search needs
+write-attribute-requires : tie.Need-write-attribute-requires
+write-attribute-requires c κs = search needs
 
 same-length : tie.Need-same-length
 same-length c = search needs
 
 returns : tie.Need-returns
 returns c = let s = c .before .before .before .before .before .before .before .before .before .before .before .before .before .before .before .before .before .before .before .before .before .args in
-    wrote-as _ (status-row (s .p) (s .mark) (s .life) (s .fallback) _ _ (c .before .before .before .before .before .before .before .before .before .before .before .before .before .before .before .before .before .before .size .ensures .0) (c .before .before .before .before .before .before .before .before .before .before .before .before .before .before .before .before .before .listed-size .ensures)) (wrote-then (wrote-then (wrote-then (c .before .before .before .before .before .before .before .before .before .before .before .before .before .before .put-bytes .ensures) (c .before .before .before .before .before .before .before .before .before .before .write-aid .ensures)) (c .before .before .before .before .before .before .write-life .ensures)) (c .before .before .write-mark .ensures))
+    wrote-as _ (status-row (s .p) (s .attribute) (s .life) (s .fallback) _ _ (c .before .before .before .before .before .before .before .before .before .before .before .before .before .before .before .before .before .before .size .ensures .0) (c .before .before .before .before .before .before .before .before .before .before .before .before .before .before .before .before .before .listed-size .ensures)) (wrote-then (wrote-then (wrote-then (c .before .before .before .before .before .before .before .before .before .before .before .before .before .before .put-bytes .ensures) (c .before .before .before .before .before .before .before .before .before .before .write-aid .ensures)) (c .before .before .before .before .before .before .write-life .ensures)) (c .before .before .write-attribute .ensures))
 
 pub write-row-spec : {M : Type 1} → statement M
 write-row-spec =
@@ -58,6 +58,6 @@ write-row-spec =
     put-bytes-requires
     write-aid-requires
     write-life-requires
-    write-mark-requires
+    write-attribute-requires
     same-length
     returns)

@@ -28,11 +28,11 @@ mul-p c = search needs
 array-copy-out-p : tie.Need-array-copy-out-p Inv-loop μ-loop
 array-copy-out-p c = search needs
 
-cast-mark-of : tie.Need-cast-mark-of Inv-loop μ-loop
-cast-mark-of c = search needs
+cast-attribute-of : tie.Need-cast-attribute-of Inv-loop μ-loop
+cast-attribute-of c = search needs
 
-mark-of-requires : tie.Need-mark-of-requires Inv-loop μ-loop
-mark-of-requires c κs = search needs
+attribute-of-requires : tie.Need-attribute-of-requires Inv-loop μ-loop
+attribute-of-requires c κs = search needs
 
 write-place-requires : tie.Need-write-place-requires Inv-loop μ-loop
 write-place-requires c κs = search needs
@@ -49,9 +49,9 @@ loop-again c = let s = c .before .before .before .before .before .before .before
     let o = c .before .before .before .before .before .before .before .loop in
     let l = s .args .card .places in
     let p = getD l (o .i) unread in
-    let r = rows-step (s .args .card .fallback) (s .args .life) (s .args .fallback) l (o .i) _ (omega arith) (c .before .before .before .before .mark-of .ensures) in
+    let r = rows-step (s .args .card .fallback) (s .args .life) (s .args .fallback) l (o .i) _ (omega arith) (c .before .before .before .before .attribute-of .ensures) in
     let f = c .before .before .write-place .ensures .1 in
-    let a = length-append (rowOf p (c .before .before .before .before .mark-of .result) (s .args .life) (s .args .fallback)) (rowsFrom (s .args .card .fallback) (o .i + 1) (s .args .life) (s .args .fallback) (drop (o .i + 1) l)) in
+    let a = length-append (rowOf p (c .before .before .before .before .attribute-of .result) (s .args .life) (s .args .fallback)) (rowsFrom (s .args .card .fallback) (o .i + 1) (s .args .life) (s .args .fallback) (drop (o .i + 1) l)) in
     let z = ap length r in
     (omega arith, (writing-goes _ (writing-as _ r (o .inv .1 .0)) (c .before .before .write-place .ensures .0), omega (arith, o .inv .1 .1, a, z, f)))
 
@@ -75,8 +75,8 @@ write-status-spec =
     loop-holds
     mul-p
     array-copy-out-p
-    cast-mark-of
-    mark-of-requires
+    cast-attribute-of
+    attribute-of-requires
     write-place-requires
     add-i
     loop-less

@@ -30,5 +30,5 @@ laws-met =
       confirms-trial = refl;
       confirms-back = refl;
       confirms-fallen = refl;
-      tells-status = λ life mark. refl;
+      tells-status = λ life attribute. refl;
     }

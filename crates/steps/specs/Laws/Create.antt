@@ -5,7 +5,9 @@ use mathlib.Core.List.{List, [], _∷_}
 use mathlib.Core.Bool.{true, false}
 use lib.ListN.{length}
 use Rattle.isdp.specs.LifeCycle.{selectable}
-use Rattle.isdp.specs.Place.{held, made}
+use Rattle.isdp.specs.Aids.{named}
+use Rattle.isdp.specs.Profile.{profile}
+use Rattle.isdp.specs.Place.{held}
 use Rattle.places.specs.Places.{quotas}
 use Rattle.card.specs.Sound.{sound}
 use Rattle.card.specs.Answers.{Outcome, outcome}
@@ -26,11 +28,11 @@ pub record MayCreate (c : Card) (aid : List ℕ) (quota : ℕ) : Type 0 where
   pub not-held : (i : ℕ) → Holds c aid i → ⊥
   pub room : quotas (c .places) + quota ≤ c .capacity
 
--- a response of one byte 00 (000, 4.1.1.1)
+-- the new profile field by field: AID, SELECTABLE, quota, used, policy, mark; a response of one byte 00 (000, 4.1.1.1)
 abbrev pub CreateAnswers : Card → List ℕ → ℕ → Outcome → Type 0
 CreateAnswers c aid quota =
     OnPlace (LowestFree c) (λ t. MayCreate c aid quota)
-    (λ t. Answers c (replaced c (onlyAt c t (made aid selectable quota 0)) (0x00 ∷ []) 0))
+    (λ t. Answers c (replaced c (onlyAt c t (profile (named aid) selectable quota 0 0 0)) (0x00 ∷ []) 0))
 
 abbrev pub CreateLaw : Type 0
 CreateLaw =

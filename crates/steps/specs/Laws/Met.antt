@@ -66,4 +66,4 @@ pub record LawsMet : Type 0 where
   pub confirms-trial : Accepts (on02 1 (Trial 0 10 1)) (confirm 1)
   pub confirms-back : Accepts (on01 2 (Back 10 2)) (confirm 2)
   pub confirms-fallen : Accepts (on01 3 (Fallen 10 3)) (confirm 3)
-  pub tells-status : (life mark : Bool) → Accepts (on01 0 Quiet) (on (aidEnding 2) (status life mark))
+  pub tells-status : (life attribute : Bool) → Accepts (on01 0 Quiet) (on (aidEnding 2) (status life attribute))

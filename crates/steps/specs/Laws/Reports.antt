@@ -19,29 +19,29 @@ use Rattle.steps.specs.Steps.{askedWork}
 use Rattle.steps.specs.Laws.Answer.{profileAt, Holds, element, Still, OnPlace}
 
 -- "53 is 01 for the fall-back, else 00"
-abbrev pub fallBackMark : Card → ℕ → ℕ
-fallBackMark c i = cond (eqb i (c .fallback)) 0x01 0x00
+abbrev pub attributeAt : Card → ℕ → ℕ
+attributeAt c i = cond (eqb i (c .fallback)) 0x01 0x00
 
 -- of the profile at place i: is 9F70 listed, is 53 listed
 abbrev pub statusAt : Card → Bool → Bool → ℕ → List ℕ
-statusAt c life mark i =
+statusAt c life attribute i =
     element 0xE3
     (element 0x4F (aidOf (profileAt c i))
     ++ (cond life (0x9F ∷ 0x70 ∷ 0x01 ∷ profileAt c i .life ∷ []) []
-    ++ cond mark (0x53 ∷ 0x01 ∷ fallBackMark c i ∷ []) []))
+    ++ cond attribute (0x53 ∷ 0x01 ∷ attributeAt c i ∷ []) []))
 
 -- the places below this one, from the lowest; a place that is not held says nothing
 unfoldable pub statusBelow : Card → Bool → Bool → ℕ → List ℕ
-statusBelow c life mark zero = []
-statusBelow c life mark (suc i) =
-    statusBelow c life mark i ++ cond (held (profileAt c i)) (statusAt c life mark i) []
+statusBelow c life attribute zero = []
+statusBelow c life attribute (suc i) =
+    statusBelow c life attribute i ++ cond (held (profileAt c i)) (statusAt c life attribute i) []
 
 abbrev pub StatusOfAllAnswers : Card → Bool → Bool → Outcome → Type 0
-StatusOfAllAnswers c life mark = Still c (statusBelow c life mark (length (c .places)))
+StatusOfAllAnswers c life attribute = Still c (statusBelow c life attribute (length (c .places)))
 
 -- accepted exactly where the AID is held
 abbrev pub StatusOfOneAnswers : Card → List ℕ → Bool → Bool → Outcome → Type 0
-StatusOfOneAnswers c aid life mark = OnPlace (Holds c aid) (λ t. Unit {0}) (λ t. Still c (statusAt c life mark t))
+StatusOfOneAnswers c aid life attribute = OnPlace (Holds c aid) (λ t. Unit {0}) (λ t. Still c (statusAt c life attribute t))
 
 abbrev pub GetDataAnswers : Card → Outcome → Type 0
 GetDataAnswers c =
@@ -53,15 +53,15 @@ GetDataAnswers c =
 
 abbrev pub StatusOfAllLaw : Type 0
 StatusOfAllLaw =
-    (c : Card) (life mark : Bool)
+    (c : Card) (life attribute : Bool)
     → sound c ≡ true
-    → StatusOfAllAnswers c life mark (outcome c (askedWork c (statusOfAll life mark)))
+    → StatusOfAllAnswers c life attribute (outcome c (askedWork c (statusOfAll life attribute)))
 
 abbrev pub StatusOfOneLaw : Type 0
 StatusOfOneLaw =
-    (c : Card) (aid : List ℕ) (life mark : Bool)
+    (c : Card) (aid : List ℕ) (life attribute : Bool)
     → sound c ≡ true
-    → StatusOfOneAnswers c aid life mark (outcome c (askedWork c (on aid (status life mark))))
+    → StatusOfOneAnswers c aid life attribute (outcome c (askedWork c (on aid (status life attribute))))
 
 abbrev pub GetDataLaw : Type 0
 GetDataLaw = (c : Card) → sound c ≡ true → GetDataAnswers c (outcome c (askedWork c getData))

@@ -1,8 +1,8 @@
--- `responses::write_mark`: the element where it is asked for, else nothing.
+-- `responses::write_attribute`: the element where it is asked for, else nothing.
 use Rattle.byte_string.proofs.PutLaws.{wrote-none}
 use borrow.Author.Needs.{needs}
-use Rattle.responses.proofs.write_mark.Statement.{statement}
-use Rattle.responses.proofs.write_mark.Tie as tie
+use Rattle.responses.proofs.write_attribute.Statement.{statement}
+use Rattle.responses.proofs.write_attribute.Tie as tie
 
 slice-aggregate-put-bytes : tie.Need-slice-aggregate-put-bytes
 slice-aggregate-put-bytes c = search needs
@@ -19,6 +19,6 @@ returns c = rw (c .before .before .before .before .before .if1 .taken) (c .befor
 returns-2 : tie.Need-returns-2
 returns-2 c = rw (c .if1 .left) (wrote-none _ _)
 
-pub write-mark-spec : {M : Type 1} → statement M
-write-mark-spec =
+pub write-attribute-spec : {M : Type 1} → statement M
+write-attribute-spec =
     tie.close (tie.spec slice-aggregate-put-bytes put-bytes-requires same-length returns returns-2)
