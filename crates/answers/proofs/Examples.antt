@@ -11,7 +11,7 @@ use Rattle.status.specs.declared.Status.the-variants.{Done, NotHeld, Unsound}
 use Rattle.isdp.specs.Aids.{named, padded}
 use Rattle.isdp.specs.LifeCycle.{disabled, enabled}
 use Rattle.isdp.specs.Profile.{profile}
-use Rattle.isdp.specs.Place.{vacant, made}
+use Rattle.isdp.specs.Place.{vacant}
 use Rattle.card.specs.Cards.{cardWith}
 use Rattle.card.specs.Fresh.{zeroCard}
 use Rattle.card.specs.Notifications.{silent}
@@ -22,7 +22,7 @@ use Rattle.card.specs.declared.Notification.{Notification}
 use Rattle.card.specs.declared.Phase.the-variants.{Trial}
 use Rattle.profiles.specs.Letters.{text}
 use Rattle.answers.specs.Lines.{issuedWord, noticeWord, answerLine}
-use Rattle.profiles.specs.Profiles.{spaces, leadOf, columnText, stateText, fallBackText, provisioningText, policyText, nameCells, figureCells, roleCells, rowText, placeText, rowsText, widestOf, headText, tableText}
+use Rattle.profiles.specs.Profiles.{spaces, leadOf, columnText, stateText, yesText, provisioningText, policyText, nameCells, figureCells, roleCells, rowText, placeText, rowsText, widestOf, headText, tableText}
 use Rattle.answers.specs.Explained.{meaningOf, wordText, responseText, kindText, issuedText, noticeText, openText, trialText, phaseText, explainedText}
 
 abbrev aid-01 : List ℕ
@@ -69,7 +69,7 @@ pub enabled-explained : explainedText (answered Done changed first-number 20) []
     ++ text "phase trial: previous at place 0, ticks left 10, number 1\n"
     ++ text "ticks to come 20\n"
     ++ text "\n"
-unfolding explainedText wordText meaningOf responseText noticeText issuedText kindText tableText widestOf headText rowsText placeText rowText nameCells figureCells roleCells columnText leadOf spaces stateText fallBackText provisioningText policyText phaseText trialText openText hexText glyphOf digitsText pick isBelow isSame padded
+unfolding explainedText wordText meaningOf responseText noticeText issuedText kindText tableText widestOf headText rowsText placeText rowText nameCells figureCells roleCells columnText leadOf spaces stateText yesText provisioningText policyText phaseText trialText openText hexText glyphOf digitsText pick isBelow isSame padded
 enabled-explained = refl
 
 pub unsound-explained : explainedText (answered Unsound zeroCard silent 0) []

@@ -1,8 +1,6 @@
 -- In Fallen the fall-back is enabled, no other profile is, and the fall-back of a sound card is marked; every run from fresh is sound.
 use mathlib.Core.Path.{subst}
-use Prim.Native.Nat.{ℕ}
 use borrow.Author.Tests.{eq-eqb}
-use Rattle.card.specs.declared.Card.{Card}
 use Rattle.card.specs.declared.Phase.{Phase}
 use Rattle.card.proofs.Sounds.{Phased, parts, fall-back-marked}
 use Rattle.card.proofs.Freshness.{fresh-sound}

@@ -13,7 +13,7 @@ use Rattle.card.specs.Clock.{dropped}
 use Rattle.card.specs.declared.Card.{Card}
 use Rattle.card.specs.declared.Phase.{Phase}
 use Rattle.card.specs.declared.Phase.the-variants.{Quiet, Trial, Back, Fallen}
-use Rattle.steps.specs.Asked.{Asked, Asked.unread, Asked.create, Asked.on, Asked.confirm, Asked.statusOfAll, Asked.getData, Asked.tick, Asked.lost}
+use Rattle.steps.specs.Asked.{Asked, Asked.unread, Asked.create, Asked.on, Asked.confirm, Asked.statusOfAll, Asked.getData, Asked.tick, Asked.lost, onTarget}
 use Rattle.manager.specs.Calls.{Call, asked}
 use Rattle.manager.specs.Manager.{step}
 use Rattle.demands.specs.Examples as sample
@@ -29,14 +29,7 @@ pub record AsItWas (before after : Isdp) : Type 0 where
 
 -- the call's target stands at this place
 abbrev pub targets : Card → Asked → ℕ → Bool
-targets c unread place = false
-targets c (create aid quota) place = false
-targets c (on aid act) place = eqb (placeOf c aid) place
-targets c (confirm number) place = false
-targets c (statusOfAll life fallback) place = false
-targets c getData place = false
-targets c tick place = false
-targets c lost place = false
+targets c a place = onTarget false (λ aid act. eqb (placeOf c aid) place) a
 
 -- "In Trial the previous profile is then deleted if its policy says delete once disabled and it is not the fall-back."
 abbrev pub leavesIn : Phase → Card → ℕ → Bool

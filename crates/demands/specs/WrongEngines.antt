@@ -24,7 +24,7 @@ use Rattle.card.specs.Answers.{Outcome, refused, accepted}
 use Rattle.card.specs.declared.Card.{Card}
 use Rattle.card.specs.declared.Phase.{Phase}
 use Rattle.card.specs.declared.Phase.the-variants.{Quiet, Trial, Back, Fallen}
-use Rattle.steps.specs.Asked.{Act, Act.enable, Act.disable, Act.delete, Act.masterDelete, Act.setFallBack, Act.status, Act.keyed, Act.stored, Act.finished, Asked, Asked.unread, Asked.create, Asked.on, Asked.confirm, Asked.statusOfAll, Asked.getData, Asked.tick, Asked.lost}
+use Rattle.steps.specs.Asked.{Act, Act.enable, Act.disable, Act.delete, Act.masterDelete, Act.setFallBack, Act.status, Act.keyed, Act.stored, Act.finished, Asked, Asked.unread, Asked.create, Asked.on, Asked.confirm, Asked.statusOfAll, Asked.getData, Asked.tick, Asked.lost, onTarget}
 use Rattle.manager.specs.Calls.{Call, Call.Command, Call.Keyed, Call.Stored, Call.Finished, Call.Tick, Call.Lost, asked}
 use Rattle.manager.specs.Manager.{step, work}
 use Rattle.demands.specs.Change.{taken, isTick}
@@ -190,14 +190,7 @@ enables (stored n) = false
 enables (finished policy mark) = false
 
 abbrev pub asksEnable : Asked → Bool
-asksEnable unread = false
-asksEnable (create aid quota) = false
-asksEnable (on aid act) = enables act
-asksEnable (confirm number) = false
-asksEnable (statusOfAll life fallback) = false
-asksEnable getData = false
-asksEnable tick = false
-asksEnable lost = false
+asksEnable a = onTarget false (λ aid act. enables act) a
 
 -- "The previous profile deleted at the enable command, so nothing is left to return to": where its policy has it deleted once disabled
 abbrev pub previousDeletedAtEnable : Engine
@@ -236,28 +229,25 @@ isLate phase lost = false
 abbrev pub lateConfirmationTaken : Engine
 lateConfirmationTaken = plain (λ c call. cond (isLate (c .phase) (asked c call)) (accepted Done (confirmStep c) []) (step c call))
 
--- request 2026-02, "Field staff moved the fall-back to a data-only profile": set fall-back ignores the mark
-abbrev pub unmarkedAct : Card → List ℕ → Act → Outcome → Outcome
-unmarkedAct c aid enable right = right
-unmarkedAct c aid disable right = right
-unmarkedAct c aid delete right = right
-unmarkedAct c aid (masterDelete verdict) right = right
-unmarkedAct c aid setFallBack right =
-    cond (isQuiet (c .phase) && isFinished (profileOf c aid .life)) (accepted Done (stepTo c (withFallback c (placeOf c aid)) noAid) []) right
-unmarkedAct c aid (status life fallback) right = right
-unmarkedAct c aid keyed right = right
-unmarkedAct c aid (stored n) right = right
-unmarkedAct c aid (finished policy mark) right = right
+abbrev pub setsFallBack : Act → Bool
+setsFallBack enable = false
+setsFallBack disable = false
+setsFallBack delete = false
+setsFallBack (masterDelete verdict) = false
+setsFallBack setFallBack = true
+setsFallBack (status life fallback) = false
+setsFallBack keyed = false
+setsFallBack (stored n) = false
+setsFallBack (finished policy mark) = false
 
+-- request 2026-02, "Field staff moved the fall-back to a data-only profile": set fall-back ignores the mark
 abbrev pub unmarkedTaken : Card → Asked → Outcome → Outcome
-unmarkedTaken c unread right = right
-unmarkedTaken c (create aid quota) right = right
-unmarkedTaken c (on aid act) right = unmarkedAct c aid act right
-unmarkedTaken c (confirm number) right = right
-unmarkedTaken c (statusOfAll life fallback) right = right
-unmarkedTaken c getData right = right
-unmarkedTaken c tick right = right
-unmarkedTaken c lost right = right
+unmarkedTaken c a right =
+    onTarget right
+    (λ aid act.
+    cond (setsFallBack act && (isQuiet (c .phase) && isFinished (profileOf c aid .life)))
+    (accepted Done (stepTo c (withFallback c (placeOf c aid)) noAid) []) right)
+    a
 
 abbrev pub ignoresMark : Engine
 ignoresMark = plain (λ c call. unmarkedTaken c (asked c call) (step c call))

@@ -13,7 +13,7 @@ use Rattle.isdp.specs.Aids.{padded, aidOk, aidOf}
 use Rattle.isdp.specs.Policy.{policyOk}
 use Rattle.isdp.specs.LifeCycle.{disabled, isEnabled, withLife, withMark, off}
 use Rattle.isdp.specs.Provisioning.{markOk}
-use Rattle.isdp.specs.Place.{vacant, made, held, zeros, lifeOk, heldOk, placeOk}
+use Rattle.isdp.specs.Place.{vacant, made, held, zeros, lifeOk, blank, heldOk, placeOk}
 use Rattle.isdp.specs.declared.Isdp.{Isdp}
 use Rattle.isdp.proofs.Bools.{and-l, and-r}
 
@@ -39,7 +39,7 @@ held-case false h a x r s z n e = absurd (false≢true e)
 pub placed : (k : ℕ) (p : Isdp) → eqb (p .life) 0 ≡ false → placeOk k p ≡ true → Placed k p
 unfolding placeOk
 placed k p n e =
-    let h = held-case (eqb (length (p .aid .bytes)) mostAid) (held p) (eqb (p .life) 0) (lifeOk (p .life)) (heldOk k p) (eqb (p .quota) 0 && (eqb (p .used) 0 && (eqb (p .policy) 0 && eqb (p .mark) 0))) (zeros (drop (p .aid .len) (p .aid .bytes))) n e in
+    let h = held-case (eqb (length (p .aid .bytes)) mostAid) (held p) (eqb (p .life) 0) (lifeOk (p .life)) (heldOk k p) (blank p) (zeros (drop (p .aid .len) (p .aid .bytes))) n e in
     let r : heldOk k p ≡ true = h .2 in
     let r1 = and-r (leb leastAid (p .aid .len)) _ r in
     let r2 = and-r (leb (p .aid .len) mostAid) _ r1 in
@@ -74,7 +74,7 @@ relife-case false h a x y r s z n e = absurd (false≢true e)
 pub relife : (k : ℕ) (p : Isdp) (v : ℕ) → eqb (p .life) 0 ≡ false → lifeOk v ≡ true → placeOk k p ≡ true → placeOk k (withLife p v) ≡ true
 unfolding placeOk
 relife k p v n o e =
-    rw o (relife-case (eqb (length (p .aid .bytes)) mostAid) (held p) (eqb (p .life) 0) (lifeOk (p .life)) (eqb v 0) (heldOk k p) (eqb (p .quota) 0 && (eqb (p .used) 0 && (eqb (p .policy) 0 && eqb (p .mark) 0))) (zeros (drop (p .aid .len) (p .aid .bytes))) n e)
+    rw o (relife-case (eqb (length (p .aid .bytes)) mostAid) (held p) (eqb (p .life) 0) (lifeOk (p .life)) (eqb v 0) (heldOk k p) (blank p) (zeros (drop (p .aid .len) (p .aid .bytes))) n e)
 
 off-ok-case : (k : ℕ) (p : Isdp) (b : Bool) → isEnabled p ≡ b → placeOk k p ≡ true → placeOk k (withLife p (cond b disabled (p .life))) ≡ true
 off-ok-case k p true e o = relife k p disabled (rw (eqb-true (p .life) _ e)) refl o

@@ -42,9 +42,12 @@ zeros (x ∷ xs) = eqb x 0 && zeros xs
 abbrev pub lifeOk : ℕ → Bool
 lifeOk v = eqb v selectable || (eqb v personalized || (eqb v disabled || eqb v enabled))
 
--- "places not held .. are zero"
+-- "places not held .. are zero": the life cycle, and all else but the AID
+abbrev pub blank : Isdp → Bool
+blank p = eqb (p .quota) 0 && (eqb (p .used) 0 && (eqb (p .policy) 0 && eqb (p .mark) 0))
+
 abbrev pub emptyOk : Isdp → Bool
-emptyOk p = eqb (p .life) 0 && (eqb (p .quota) 0 && (eqb (p .used) 0 && (eqb (p .policy) 0 && eqb (p .mark) 0)))
+emptyOk p = eqb (p .life) 0 && blank p
 
 -- the sizes and codings of a held place, its life cycle apart, which steps on the life cycle do not touch
 abbrev pub heldOk : ℕ → Isdp → Bool

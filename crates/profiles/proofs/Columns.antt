@@ -6,12 +6,13 @@ use Prim.Native.Nat.{ℕ, zero, suc, _+_, _*_, _/_, _≤_, _<_}
 use native.Mathlib.Omega.{arith}
 use mathlib.Core.List.{List}
 use lib.ListN.{length, length-append}
+use lib.Dec.{eqb}
 use Rattle.text.specs.Numbers.{digitsText}
 use Rattle.text.proofs.NumberLaws.{text-small}
 use Rattle.choice.proofs.Branches.{by-lt, by-eq}
 use Rattle.isdp.specs.LifeCycle.{selectable, personalized, disabled, enabled}
-use Rattle.profiles.specs.Profiles.{leadOf, columnText, stateText, fallBackText, provisioningText, nameCells, figureCells, roleCells, rowText, Aligned}
-use Rattle.profiles.proofs.Lengths.{hex-length, spaces-length}
+use Rattle.profiles.specs.Profiles.{leadOf, columnText, stateText, nameCells, figureCells, roleCells, rowText, Aligned}
+use Rattle.profiles.proofs.Lengths.{hex-length, spaces-length, yes-wide, provisioning-wide}
 
 -- how many digits a number has
 one-digit : (k n : ℕ) → n < 10 → length (digitsText k n) ≡ 1
@@ -66,17 +67,6 @@ state-wide life =
     (λ j. by-eq (λ (l : List ℕ). length l ≡ 12) life enabled (λ k. omega arith)
     (λ k. simp (length-append, hex-length) (omega arith)))))
 
-fall-back-wide : (holder place : ℕ) → length (fallBackText holder place) ≡ 9
-unfolding fallBackText
-fall-back-wide holder place = by-eq (λ (l : List ℕ). length l ≡ 9) place holder (λ h. omega arith) (λ h. omega arith)
-
-provisioning-wide : (mark : ℕ) → length (provisioningText mark) ≡ 12
-unfolding provisioningText
-provisioning-wide mark =
-    by-eq (λ (l : List ℕ). length l ≡ 12) mark 0 (λ h. omega arith)
-    (λ h. by-eq (λ (l : List ℕ). length l ≡ 12) mark 1 (λ i. omega arith)
-    (λ i. simp (length-append, hex-length) (omega arith)))
-
 pub aligned : Aligned
 unfolding rowText nameCells figureCells roleCells
 aligned p place holder widest h i j k =
@@ -87,6 +77,6 @@ aligned p place holder widest h i j k =
       state-wide (p .life),
       column-wide (p .quota) i,
       column-wide (p .used) j,
-      fall-back-wide holder place,
+      yes-wide (eqb place holder) 6,
       provisioning-wide (p .mark),
     ))

@@ -4,16 +4,18 @@ use mathlib.Core.Path.{_≡_, refl}
 use Prim.Native.Nat.{ℕ, zero, suc, _+_, _*_, _/_, _≤_}
 use native.Mathlib.Omega.{arith}
 use mathlib.Core.List.{List, [], _∷_}
+use mathlib.Core.Bool.{Bool}
 use lib.ListN.{length, length-append, length-take, length-replicate}
+use lib.Dec.{eqb}
 use Rattle.text.specs.Hex.{hexText}
 use Rattle.text.specs.Numbers.{digitsText, decimalText}
-use Rattle.choice.proofs.Branches.{by-lt, by-eq}
+use Rattle.choice.proofs.Branches.{each, by-lt, by-eq}
 use Rattle.isdp.specs.Aids.{aidOf}
 use Rattle.isdp.specs.LifeCycle.{selectable, personalized, disabled, enabled}
 use Rattle.isdp.specs.declared.Aid.{Aid}
 use Rattle.isdp.specs.declared.Isdp.{Isdp}
 use Rattle.card.specs.declared.Card.{Card}
-use Rattle.profiles.specs.Profiles.{aidText, spaces, leadOf, columnText, stateText, fallBackText, provisioningText, policyText, nameCells, figureCells, roleCells, rowText, placeText, rowsText, widestOf, headText, tableText, mostRow}
+use Rattle.profiles.specs.Profiles.{aidText, spaces, leadOf, columnText, stateText, yesText, provisioningText, policyText, nameCells, figureCells, roleCells, rowText, placeText, rowsText, widestOf, headText, tableText, mostRow}
 
 -- the pieces
 pub hex-length : (s : List ℕ) → length (hexText s) ≡ length s * 2
@@ -62,16 +64,19 @@ state-length life =
     (λ j. by-eq (λ (l : List ℕ). length l ≤ 12) life enabled (λ k. omega arith)
     (λ k. simp (length-append, hex-length) (omega arith)))))
 
-fall-back-length : (holder place : ℕ) → length (fallBackText holder place) ≤ 9
-unfolding fallBackText
-fall-back-length holder place = by-eq (λ (l : List ℕ). length l ≤ 9) place holder (λ h. omega arith) (λ h. omega arith)
+pub yes-wide : (told : Bool) (rest : ℕ) → length (yesText told rest) ≡ 3 + rest
+unfolding yesText
+yes-wide told rest =
+    each (λ (l : List ℕ). length l ≡ 3 + rest) told
+    (λ h. simp (length-append, spaces-length) (omega arith))
+    (λ h. simp (length-append, spaces-length) (omega arith))
 
-provisioning-length : (mark : ℕ) → length (provisioningText mark) ≤ 12
+pub provisioning-wide : (mark : ℕ) → length (provisioningText mark) ≡ 12
 unfolding provisioningText
-provisioning-length mark =
-    by-eq (λ (l : List ℕ). length l ≤ 12) mark 0 (λ h. omega arith)
-    (λ h. by-eq (λ (l : List ℕ). length l ≤ 12) mark 1 (λ i. omega arith)
-    (λ i. simp (length-append, hex-length) (omega arith)))
+provisioning-wide mark =
+    by-lt (λ (l : List ℕ). length l ≡ 12) 1 mark
+    (λ h. simp (length-append, hex-length, spaces-length) (omega arith))
+    (λ h. omega (arith, yes-wide (eqb mark 1) 9))
 
 policy-length : (policy : ℕ) → length (policyText policy) ≤ 32
 unfolding policyText
@@ -98,7 +103,7 @@ role-length : (p : Isdp) (place holder : ℕ) → length (roleCells p place hold
 unfolding roleCells
 role-length p place holder =
     simp length-append
-    (omega (arith, fall-back-length holder place, provisioning-length (p .mark), policy-length (p .policy)))
+    (omega (arith, yes-wide (eqb place holder) 6, provisioning-wide (p .mark), policy-length (p .policy)))
 
 place-length : (p : Isdp) (place holder widest : ℕ) → length (aidOf p) ≤ widest → widest ≤ 16 → length (placeText p place holder widest) ≤ mostRow
 unfolding placeText rowText

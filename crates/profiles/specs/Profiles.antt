@@ -3,7 +3,9 @@
 use mathlib.Core.Path.{_≡_}
 use Prim.Native.Nat.{ℕ, suc, _+_, _-_, _*_, _≤_, _<_, max}
 use mathlib.Core.List.{List, [], _∷_, _++_}
+use mathlib.Core.Bool.{Bool}
 use lib.ListN.{length, replicate}
+use lib.Dec.{eqb}
 use Rattle.choice.specs.Choice.{pick, isBelow, isSame}
 use Rattle.text.specs.Hex.{hexText}
 use Rattle.text.specs.Numbers.{decimalText}
@@ -48,16 +50,13 @@ stateText life =
     (pick (isSame life enabled) (text "ENABLED     ")
     (hex8 life ++ text "          "))))
 
--- whether it is the fall-back, in a column of nine
-unfoldable pub fallBackText : ℕ → ℕ → List ℕ
-fallBackText holder place = pick (isSame place holder) (text "yes      ") (text "         ")
+-- yes or nothing, and so many spaces after it
+unfoldable pub yesText : Bool → ℕ → List ℕ
+yesText told rest = pick told (text "yes" ++ spaces rest) (text "   " ++ spaces rest)
 
 -- the mark of provisioning capability in a column of twelve; one that no profile of a sound card has in hex
 unfoldable pub provisioningText : ℕ → List ℕ
-provisioningText mark =
-    pick (isSame mark 0) (text "            ")
-    (pick (isSame mark 1) (text "yes         ")
-    (hex8 mark ++ text "          "))
+provisioningText mark = pick (isBelow 1 mark) (hex8 mark ++ spaces 10) (yesText (eqb mark 1) 9)
 
 unfoldable pub policyText : ℕ → List ℕ
 policyText policy =
@@ -68,7 +67,8 @@ policyText policy =
     (pick (isSame policy 4) (text "deleted once disabled")
     (hex8 policy)))))
 
--- the first two columns, of which the second is as wide as the longest AID; the state and the figures; the roles and rules
+-- the first two columns, of which the second is as wide as the longest AID; the state and the figures; the roles and rules, the fall-back's
+-- in a column of nine
 unfoldable pub nameCells : Isdp → ℕ → ℕ → List ℕ
 nameCells p place widest =
     columnText place ++ text "  " ++ hexText (aidOf p) ++ spaces ((widest - length (aidOf p)) * 2)
@@ -80,7 +80,7 @@ figureCells p =
 unfoldable pub roleCells : Isdp → ℕ → ℕ → List ℕ
 roleCells p place holder =
     text "  "
-    ++ fallBackText holder place
+    ++ yesText (eqb place holder) 6
     ++ text "  "
     ++ provisioningText (p .mark)
     ++ text "  "

@@ -11,7 +11,7 @@ ghost use Prim.Native.Nat.{_≤_};
 ghost use lib.ListN.{length};
 ghost use Rattle.byte_string.specs.Put.{Wrote};
 ghost use Rattle.isdp.specs.Aids.{aidOf};
-ghost use Rattle.profiles.specs.Profiles.{aidText, spaces, leadOf, columnText, stateText, fallBackText, provisioningText, policyText};
+ghost use Rattle.profiles.specs.Profiles.{aidText, spaces, leadOf, columnText, stateText, yesText, provisioningText, policyText};
 
 // An AID in hex, with its true length; a length over sixteen takes the whole array.
 pub fn put_aid(aid: Aid, buf: &mut [u8], at: usize) -> usize
@@ -88,26 +88,26 @@ pub fn put_state(life: u8, buf: &mut [u8], at: usize) -> usize
     put_bytes(buf, a, b"          ")
 }
 
-pub fn put_fall_back(holder: usize, place: usize, buf: &mut [u8], at: usize) -> usize
-    ensures { λ r. ⌜ Wrote (now (buf .entry)) at (fallBackText holder place) r (now (buf .exit)) ⌝ }
+// `yes` or nothing, and so many spaces after it.
+pub fn put_yes(told: bool, rest: usize, buf: &mut [u8], at: usize) -> usize
+    ensures { λ r. ⌜ Wrote (now (buf .entry)) at (yesText told rest) r (now (buf .exit)) ⌝ }
 {
-    if place == holder {
-        return put_bytes(buf, at, b"yes      ");
+    if told {
+        let a = put_bytes(buf, at, b"yes");
+        return put_spaces(rest, buf, a);
     }
-    put_bytes(buf, at, b"         ")
+    let b = put_bytes(buf, at, b"   ");
+    put_spaces(rest, buf, b)
 }
 
 pub fn put_provisioning(mark: u8, buf: &mut [u8], at: usize) -> usize
     ensures { λ r. ⌜ Wrote (now (buf .entry)) at (provisioningText mark) r (now (buf .exit)) ⌝ }
 {
-    if mark == 0 {
-        return put_bytes(buf, at, b"            ");
+    if mark > 1 {
+        let a = put_hex_8(buf, at, mark);
+        return put_spaces(10, buf, a);
     }
-    if mark == 1 {
-        return put_bytes(buf, at, b"yes         ");
-    }
-    let a = put_hex_8(buf, at, mark);
-    put_bytes(buf, a, b"          ")
+    put_yes(mark == 1, 9, buf, at)
 }
 
 pub fn put_policy(policy: u8, buf: &mut [u8], at: usize) -> usize

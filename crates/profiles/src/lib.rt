@@ -8,11 +8,11 @@ use card::Card;
 use cells::aid_size;
 pub use cells::put_aid;
 pub use cells::put_column;
-use cells::put_fall_back;
 use cells::put_policy;
 use cells::put_provisioning;
 pub use cells::put_spaces;
 use cells::put_state;
+use cells::put_yes;
 use isdp::Isdp;
 use places::PLACES;
 ghost use mathlib.Core.Path.{_≡_};
@@ -58,7 +58,7 @@ fn put_role_cells(p: Isdp, place: usize, holder: usize, buf: &mut [u8], at: usiz
     ensures { λ r. ⌜ Wrote (now (buf .entry)) at (roleCells p place holder) r (now (buf .exit)) ⌝ }
 {
     let a = put_bytes(buf, at, b"  ");
-    let b = put_fall_back(holder, place, buf, a);
+    let b = put_yes(place == holder, 6, buf, a);
     let c = put_bytes(buf, b, b"  ");
     let d = put_provisioning(p.mark, buf, c);
     let e = put_bytes(buf, d, b"  ");

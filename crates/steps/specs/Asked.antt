@@ -30,3 +30,14 @@ pub data Asked : Type 0 where
   getData : Asked
   tick : Asked
   lost : Asked
+
+-- of a call that concerns one target, by its AID and the act; `other` where it concerns none
+abbrev pub onTarget {ℓ} : {X : Type ℓ} → X → (List ℕ → Act → X) → Asked → X
+onTarget other f unread = other
+onTarget other f (create aid quota) = other
+onTarget other f (on aid act) = f aid act
+onTarget other f (confirm number) = other
+onTarget other f (statusOfAll life fallback) = other
+onTarget other f getData = other
+onTarget other f tick = other
+onTarget other f lost = other

@@ -9,7 +9,7 @@ use Rattle.isdp.specs.declared.Aid.{Aid}
 use Rattle.places.specs.Places.{at}
 use Rattle.card.specs.Cards.{enabledAid}
 use Rattle.card.specs.declared.Card.{Card}
-use Rattle.steps.specs.Asked.{Act, Act.enable, Act.disable, Act.delete, Act.masterDelete, Act.setFallBack, Act.status, Act.keyed, Act.stored, Act.finished, Asked, Asked.unread, Asked.create, Asked.on, Asked.confirm, Asked.statusOfAll, Asked.getData, Asked.tick, Asked.lost}
+use Rattle.steps.specs.Asked.{Act, Act.enable, Act.disable, Act.delete, Act.masterDelete, Act.setFallBack, Act.status, Act.keyed, Act.stored, Act.finished, Asked, onTarget}
 use Rattle.manager.specs.Calls.{Call, asked}
 use Rattle.manager.specs.Manager.{step}
 use Rattle.demands.specs.Change.{taken, isTick}
@@ -42,14 +42,7 @@ namedOn c aid (stored n) last = last
 namedOn c aid (finished policy mark) last = last
 
 abbrev pub namedBy : Card → Asked → Aid → Aid
-namedBy c unread last = last
-namedBy c (create aid quota) last = last
-namedBy c (on aid act) last = namedOn c aid act last
-namedBy c (confirm number) last = last
-namedBy c (statusOfAll life fallback) last = last
-namedBy c getData last = last
-namedBy c tick last = last
-namedBy c lost last = last
+namedBy c a last = onTarget last (λ aid act. namedOn c aid act last) a
 
 abbrev pub lastNamed : Card → Call → Aid → Aid
 lastNamed c call last = cond (taken c call) (namedBy c (asked c call) last) last

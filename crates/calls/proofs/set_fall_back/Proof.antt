@@ -1,6 +1,6 @@
 -- `calls::set_fall_back`: the rows of the change, the target and its state, each passed or stopped at.
 use mathlib.Core.Path.{_≡_, sym, _∙_}
-use mathlib.Core.Bool.{true, false}
+use mathlib.Core.Bool.{true}
 use borrow.Author.Tests.{not-true, not-false}
 use Rattle.status.specs.Rows.{wordOf}
 use Rattle.card.specs.Cards.{isQuiet, profileOf}

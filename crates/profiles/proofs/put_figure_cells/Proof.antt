@@ -6,39 +6,6 @@ use borrow.Author.Needs.{needs}
 use Rattle.profiles.proofs.put_figure_cells.Statement.{statement}
 use Rattle.profiles.proofs.put_figure_cells.Tie as tie
 
-slice-aggregate-put-bytes : tie.Need-slice-aggregate-put-bytes
-slice-aggregate-put-bytes c = search needs
-
-put-bytes-requires : tie.Need-put-bytes-requires
-put-bytes-requires c κs = search needs
-
-put-state-requires : tie.Need-put-state-requires
-put-state-requires c κs = search needs
-
-slice-aggregate-put-bytes-2 : tie.Need-slice-aggregate-put-bytes-2
-slice-aggregate-put-bytes-2 c = search needs
-
-put-bytes-requires-2 : tie.Need-put-bytes-requires-2
-put-bytes-requires-2 c κs = search needs
-
-cast-put-column : tie.Need-cast-put-column
-cast-put-column c = search needs
-
-put-column-requires : tie.Need-put-column-requires
-put-column-requires c κs = search needs
-
-slice-aggregate-put-bytes-3 : tie.Need-slice-aggregate-put-bytes-3
-slice-aggregate-put-bytes-3 c = search needs
-
-put-bytes-requires-3 : tie.Need-put-bytes-requires-3
-put-bytes-requires-3 c κs = search needs
-
-cast-put-column-2 : tie.Need-cast-put-column-2
-cast-put-column-2 c = search needs
-
-put-column-requires-2 : tie.Need-put-column-requires-2
-put-column-requires-2 c κs = search needs
-
 returns : tie.Need-returns
 unfolding figureCells
 returns c =
@@ -57,16 +24,16 @@ pub put-figure-cells-spec : {M : Type 1} → statement M
 put-figure-cells-spec =
     tie.close
     (tie.spec
-    slice-aggregate-put-bytes
-    put-bytes-requires
-    put-state-requires
-    slice-aggregate-put-bytes-2
-    put-bytes-requires-2
-    cast-put-column
-    put-column-requires
-    slice-aggregate-put-bytes-3
-    put-bytes-requires-3
-    cast-put-column-2
-    put-column-requires-2
+    (λ c. search needs)
+    (λ c κs. search needs)
+    (λ c κs. search needs)
+    (λ c. search needs)
+    (λ c κs. search needs)
+    (λ c. search needs)
+    (λ c κs. search needs)
+    (λ c. search needs)
+    (λ c κs. search needs)
+    (λ c. search needs)
+    (λ c κs. search needs)
     same-length
     returns)

@@ -8,33 +8,6 @@ use borrow.Author.Needs.{needs}
 use Rattle.script.proofs.finished_order.Statement.{statement}
 use Rattle.script.proofs.finished_order.Tie as tie
 
-next-bytes-requires : tie.Need-next-bytes-requires
-next-bytes-requires c κs = search needs
-
-enum-known-why : tie.Need-enum-known-why
-enum-known-why c = search needs
-
-enum-known-aid : tie.Need-enum-known-aid
-enum-known-aid c = search needs
-
-next-value-requires : tie.Need-next-value-requires
-next-value-requires c κs = search needs
-
-enum-known-why-2 : tie.Need-enum-known-why-2
-enum-known-why-2 c = search needs
-
-enum-known-policy : tie.Need-enum-known-policy
-enum-known-policy c = search needs
-
-next-or-requires : tie.Need-next-or-requires
-next-or-requires c κs = search needs
-
-enum-known-why-3 : tie.Need-enum-known-why-3
-enum-known-why-3 c = search needs
-
-enum-known-mark : tie.Need-enum-known-mark
-enum-known-mark c = search needs
-
 cast-t17 : tie.Need-cast-t17
 cast-t17 c =
     let v = c .before .before .before .before in
@@ -46,9 +19,6 @@ cast-t18 c =
     let m = c in
     let h = or-within _ _ _ _ _ _ (omega arith) (sym (m .before .mark .given .1) ∙ m .before .before .before .next-or .ensures) in
     search needs
-
-inner-requires : tie.Need-inner-requires
-inner-requires c κs = search needs
 
 returns : tie.Need-returns
 unfolding finishedAt
@@ -79,18 +49,18 @@ pub finished-order-spec : {M : Type 1} → statement M
 finished-order-spec =
     tie.close
     (tie.spec
-    next-bytes-requires
-    enum-known-why
-    enum-known-aid
-    next-value-requires
-    enum-known-why-2
-    enum-known-policy
-    next-or-requires
-    enum-known-why-3
-    enum-known-mark
+    (λ c κs. search needs)
+    (λ c. search needs)
+    (λ c. search needs)
+    (λ c κs. search needs)
+    (λ c. search needs)
+    (λ c. search needs)
+    (λ c κs. search needs)
+    (λ c. search needs)
+    (λ c. search needs)
     cast-t17
     cast-t18
-    inner-requires
+    (λ c κs. search needs)
     returns
     returns-2
     returns-3

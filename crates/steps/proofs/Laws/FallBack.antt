@@ -11,7 +11,6 @@ use Rattle.isdp.specs.LifeCycle.{isFinished}
 use Rattle.isdp.specs.Provisioning.{mayBeFallBack}
 use Rattle.isdp.proofs.Bools.{and-l, and-r}
 use Rattle.card.specs.Cards.{placeOf, withFallback}
-use Rattle.card.specs.Sound.{sound}
 use Rattle.card.specs.Steps.{stepTo}
 use Rattle.card.specs.Answers.{accepted}
 use Rattle.card.specs.declared.Card.{Card}

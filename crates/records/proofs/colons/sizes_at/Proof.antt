@@ -8,28 +8,10 @@ use borrow.Author.Needs.{needs}
 use Rattle.records.proofs.colons.sizes_at.Statement.{statement}
 use Rattle.records.proofs.colons.sizes_at.Tie as tie
 
-next-number-requires : tie.Need-next-number-requires
-next-number-requires c κs = search needs
-
-enum-known-quota : tie.Need-enum-known-quota
-enum-known-quota c = search needs
-
-enum-told : tie.Need-enum-told
-enum-told c = search needs
-
 returns : tie.Need-returns
 unfolding sizesFields
 returns c =
     rw (← (sym (c .enum-told .given .1) ∙ c .before .before .next-number .ensures)) refl
-
-next-number-requires-2 : tie.Need-next-number-requires-2
-next-number-requires-2 c κs = search needs
-
-enum-known-used : tie.Need-enum-known-used
-enum-known-used c = search needs
-
-enum-told-2 : tie.Need-enum-told-2
-enum-told-2 c = search needs
 
 returns-2 : tie.Need-returns-2
 unfolding sizesFields
@@ -37,30 +19,12 @@ returns-2 c =
     let q = c .before .before .before in
     rw (← (sym (q .before .quota .given .1) ∙ q .before .before .before .next-number .ensures)) (rw (← (sym (c .enum-told2 .given .1) ∙ c .before .before .next-number2 .ensures)) refl)
 
-next-number-requires-3 : tie.Need-next-number-requires-3
-next-number-requires-3 c κs = search needs
-
-enum-known-policy : tie.Need-enum-known-policy
-enum-known-policy c = search needs
-
-enum-told-3 : tie.Need-enum-told-3
-enum-told-3 c = search needs
-
 returns-3 : tie.Need-returns-3
 unfolding sizesFields
 returns-3 c =
     let u = c .before .before .before in
     let q = u .before .before .before .before in
     rw (← (sym (q .before .quota .given .1) ∙ q .before .before .before .next-number .ensures)) (rw (← (sym (u .before .used .given .1) ∙ u .before .before .before .next-number2 .ensures)) (rw (← (sym (c .enum-told3 .given .1) ∙ c .before .before .next-number3 .ensures)) refl))
-
-next-number-requires-4 : tie.Need-next-number-requires-4
-next-number-requires-4 c κs = search needs
-
-enum-known-mark : tie.Need-enum-known-mark
-enum-known-mark c = search needs
-
-enum-told-4 : tie.Need-enum-told-4
-enum-told-4 c = search needs
 
 returns-4 : tie.Need-returns-4
 unfolding sizesFields
@@ -107,21 +71,21 @@ pub sizes-at-spec : {M : Type 1} → statement M
 sizes-at-spec =
     tie.close
     (tie.spec
-    next-number-requires
-    enum-known-quota
-    enum-told
+    (λ c κs. search needs)
+    (λ c. search needs)
+    (λ c. search needs)
     returns
-    next-number-requires-2
-    enum-known-used
-    enum-told-2
+    (λ c κs. search needs)
+    (λ c. search needs)
+    (λ c. search needs)
     returns-2
-    next-number-requires-3
-    enum-known-policy
-    enum-told-3
+    (λ c κs. search needs)
+    (λ c. search needs)
+    (λ c. search needs)
     returns-3
-    next-number-requires-4
-    enum-known-mark
-    enum-told-4
+    (λ c κs. search needs)
+    (λ c. search needs)
+    (λ c. search needs)
     returns-4
     returns-5
     cast-t17
