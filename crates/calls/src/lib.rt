@@ -120,7 +120,7 @@ pub fn master_delete(card: Card, aid: &[u8], verdict: u8) -> Answer
     let Found::At(t) = card.place_of(aid) else {
         return card.refused(Status::NotHeld);
     };
-    if !card.may_be_deleted(t) {
+    if !card.may_be_master_deleted(t) {
         return card.refused(Status::StateWrong);
     }
     if verdict != 1 {

@@ -1,5 +1,5 @@
 -- One place set anew keeps a card sound (`sets`), by what is asked of the new profile. So do a profile under way (neither DISABLED nor
--- ENABLED) rewritten with its AID and quota, and a deletion of a DISABLED profile that is not the fall-back; another fall-back
+-- ENABLED) rewritten with its AID and quota, and a deletion of a profile that may be deleted; another fall-back
 -- does. Then the confirmation, which closes and may delete. Assumes nothing.
 use mathlib.Core.Path.{_≡_, refl, sym, _∙_}
 use Prim.Native.Nat.{ℕ, _≤_}
@@ -9,7 +9,6 @@ use mathlib.Core.Bool.{Bool, true, false, not, _||_, false≢true}
 use lib.ListN.{set, length-set}
 use lib.Seq.{getD-set-other}
 use lib.Dec.{eqb}
-use borrow.Author.Tests.{eqb-false, not-true}
 use Rattle.isdp.specs.LifeCycle.{disabled, isEnabled, isFinished}
 use Rattle.isdp.specs.Provisioning.{mayBeFallBack}
 use Rattle.isdp.specs.Policy.{onceDisabled}
@@ -20,13 +19,14 @@ use Rattle.isdp.proofs.Placed.{none-ok}
 use Rattle.places.specs.Places.{at, quotas, distinct}
 use Rattle.places.proofs.Lives.{within}
 use Rattle.places.proofs.Sets.{set-all, set-count, set-quotas, set-alike, clear-distinct}
-use Rattle.card.specs.Cards.{withChange, withPhase, withFallback, cleared, rewritten}
+use Rattle.card.specs.Cards.{mayBeDeleted, withChange, withPhase, withFallback, cleared, rewritten}
 use Rattle.card.specs.Sound.{sound}
 use Rattle.card.specs.Clock.{dropped, confirmIn, confirmOf}
 use Rattle.card.specs.declared.Card.{Card}
 use Rattle.card.specs.declared.Phase.{Phase}
 use Rattle.card.specs.declared.Phase.the-variants.{Quiet, Trial, Back, Fallen}
-use Rattle.card.proofs.Sounds.{Sound, Phased, parts, whole, choose, resized, rephased, nonzero, resort-done}
+use Rattle.card.proofs.Deletions.{deletable}
+use Rattle.card.proofs.Sounds.{Sound, Phased, parts, whole, choose, resized, rephased, resort-done}
 
 -- one place is set anew, with a phase that holds of the new card
 pub sets : (c : Card) (i : ℕ) (x : Isdp) (p : Phase) → Sound c → placeOk (c .capacity) x ≡ true → isEnabled x ≡ isEnabled (at (c .places) i) → distinct (set (c .places) i x) ≡ true → quotas (set (c .places) i x) ≤ c .capacity → mayBeFallBack (at (set (c .places) i x) (c .fallback)) ≡ true → Phased p (withChange c (c .last) p (set (c .places) i x)) → Sound (withChange c (c .last) p (set (c .places) i x))
@@ -66,14 +66,14 @@ module _ (c : Card) (i : ℕ) (x : Isdp) (s : Sound c) (n : at (c .places) i .li
       (rw (other (c .fallback) (resort-done c s)) (s .roles .resort))
       (phase-kept (c .phase) (s .phased))
 
--- deletion of a DISABLED profile that is not the fall-back, where no change is open
-pub deletes : (c : Card) (i : ℕ) → Sound c → c .phase ≡ Quiet → at (c .places) i .life ≡ disabled → eqb i (c .fallback) ≡ false → Sound (cleared c i)
-deletes c i s o h n =
+-- deletion of a profile that may be deleted, where no change is open
+pub deletes : (c : Card) (i : ℕ) → Sound c → c .phase ≡ Quiet → mayBeDeleted c i ≡ true → Sound (cleared c i)
+deletes c i s o m =
     let l = c .places in
-    let k = within l i (nonzero _ 30 h) in
-    sets c i vacant (c .phase) s (none-ok (c .capacity)) (rw h) (clear-distinct l i (s .placed .apart))
-    (let q = set-quotas vacant l i k in let r = s .placed .room in omega arith)
-    (rw (getD-set-other l i (c .fallback) vacant vacant (λ q. eqb-false i (c .fallback) n (sym q))) (s .roles .resort))
+    let d = deletable c i m in
+    sets c i vacant (c .phase) s (none-ok (c .capacity)) (sym (d .off)) (clear-distinct l i (s .placed .apart))
+    (let q = set-quotas vacant l i (within l i (d .there)) in let r = s .placed .room in omega arith)
+    (rw (getD-set-other l i (c .fallback) vacant vacant (λ q. d .apart (sym q))) (s .roles .resort))
     (rw o tt)
 
 -- another profile that may be the fall-back, where no change is open
@@ -92,7 +92,7 @@ confirm-case : (c : Card) (p : Phase) → Sound c → Phased p c → Sound (conf
 confirm-case c Quiet s h = rephased c Quiet s tt
 confirm-case c (Trial q l m) s h =
     choose Sound (dropped c q) _ _
-    (λ b. deletes (withPhase c Quiet) q (rephased c Quiet s tt) refl (h .1) (not-true _ (and-r (onceDisabled (at (c .places) q .policy)) _ b)))
+    (λ b. deletes (withPhase c Quiet) q (rephased c Quiet s tt) refl (rw (h .1) (and-r (onceDisabled (at (c .places) q .policy)) _ b)))
     (λ b. rephased c Quiet s tt)
 confirm-case c (Back l m) s h = rephased c Quiet s tt
 confirm-case c (Fallen l m) s h = rephased c Quiet s tt

@@ -1,10 +1,10 @@
 -- Document 01, 'The card': what is asked of a card, the whole record, and its writes by name. The write that opens a change is `opened`, in Clock.
 use Prim.Native.Nat.{ℕ}
 use mathlib.Core.List.{List}
-use mathlib.Core.Bool.{Bool, true, false, not, _&&_}
+use mathlib.Core.Bool.{Bool, true, false, not, _&&_, _||_}
 use lib.ListN.{set}
 use lib.Dec.{eqb}
-use Rattle.isdp.specs.LifeCycle.{disabled, isEnabled}
+use Rattle.isdp.specs.LifeCycle.{disabled, isEnabled, isLoading}
 use Rattle.isdp.specs.Place.{vacant, isFor}
 use Rattle.isdp.specs.declared.Aid.{Aid}
 use Rattle.isdp.specs.declared.Isdp.{Isdp}
@@ -45,9 +45,14 @@ freeIn c = freeOf (c .capacity) (c .places)
 abbrev pub onFallback : Card → Bool
 onFallback c = isEnabled (at (c .places) (c .fallback))
 
--- "Delete: target DISABLED and not fall-back"
+-- "Delete: target DISABLED and not fall-back"; request 2026-03: "now says yes for SELECTABLE and PERSONALIZED too"
 abbrev pub mayBeDeleted : Card → ℕ → Bool
-mayBeDeleted c i = eqb (at (c .places) i .life) disabled && not (eqb i (c .fallback))
+mayBeDeleted c i =
+    (isLoading (at (c .places) i .life) || eqb (at (c .places) i .life) disabled) && not (eqb i (c .fallback))
+
+-- "master delete stays with DISABLED only"
+abbrev pub mayBeMasterDeleted : Card → ℕ → Bool
+mayBeMasterDeleted c i = eqb (at (c .places) i .life) disabled && not (eqb i (c .fallback))
 
 -- the whole record, spelled once: every other card is made of this
 abbrev pub cardWith : List ℕ → ℕ → ℕ → ℕ → ℕ → Phase → List Isdp → Card

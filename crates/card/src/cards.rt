@@ -6,7 +6,7 @@ use isdp::Isdp;
 use places::Found;
 ghost use mathlib.Core.Path.{_≡_};
 ghost use lib.ListN.{set};
-ghost use Rattle.card.specs.Cards.{isQuiet, placeOf, enabledPlace, freePlace, freeIn, mayBeDeleted, cardWith, withPhase, withPlaces, filled, cleared, rewritten, withFallback};
+ghost use Rattle.card.specs.Cards.{isQuiet, placeOf, enabledPlace, freePlace, freeIn, mayBeDeleted, mayBeMasterDeleted, cardWith, withPhase, withPlaces, filled, cleared, rewritten, withFallback};
 ghost use Rattle.places.specs.Places.{at, foundOf};
 
 impl Phase {
@@ -77,6 +77,15 @@ impl Card {
     // May the profile at a place be deleted, its policy apart?
     pub fn may_be_deleted(self, i: u8) -> bool
         ensures { λ r. ⌜ r ≡ mayBeDeleted self i ⌝ }
+    {
+        let p = self.profile(i);
+        let loading = (p.life == Isdp::SELECTABLE) | (p.life == Isdp::PERSONALIZED);
+        (loading | (p.life == Isdp::DISABLED)) & (i != self.fallback)
+    }
+
+    // May it be deleted by master delete, the token apart?
+    pub fn may_be_master_deleted(self, i: u8) -> bool
+        ensures { λ r. ⌜ r ≡ mayBeMasterDeleted self i ⌝ }
     {
         let p = self.profile(i);
         (p.life == Isdp::DISABLED) & (i != self.fallback)

@@ -29,6 +29,8 @@ pub mod Blind
 pub mod Influence
 pub mod Free
 pub mod Provisioning
+pub mod Room
+pub mod RoomMet
 pub mod InfluenceMet
 pub mod Notified
 pub mod SilentEngines

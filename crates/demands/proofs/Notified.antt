@@ -3,7 +3,7 @@
 use mathlib.Core.Path.{_≡_, refl, ap, sym, _∙_}
 use Prim.Native.Nat.{ℕ, _<_}
 use mathlib.Core.List.{List, [], _∷_}
-use mathlib.Core.Bool.{Bool, true, false, not, _&&_}
+use mathlib.Core.Bool.{Bool, true, false, not}
 use lib.ListN.{set, length}
 use lib.Dec.{ltb, eqb}
 use borrow.Author.Tests.{eqb-true, ltb-true, not-true, not-false}
@@ -12,14 +12,15 @@ use Rattle.status.specs.declared.Status.{Status}
 use Rattle.isdp.specs.Sizes.{mostPlaces}
 use Rattle.isdp.specs.Aids.{named, noAid}
 use Rattle.isdp.specs.declared.Aid.{Aid}
-use Rattle.isdp.specs.LifeCycle.{selectable, personalized, disabled, enabled, isEnabled}
+use Rattle.isdp.specs.LifeCycle.{selectable, personalized, enabled, isEnabled}
 use Rattle.isdp.specs.Place.{vacant, made, held, placeOk}
 use Rattle.isdp.specs.declared.Isdp.{Isdp}
 use Rattle.isdp.proofs.Bools.{and-l, or-l}
+use Rattle.isdp.proofs.Placed.{vacant-is}
 use Rattle.places.specs.Places.{at, seek, isFree}
 use Rattle.places.proofs.Seeks.{seek-below}
 use Rattle.places.proofs.Sets.{all-at}
-use Rattle.card.specs.Cards.{placeOf, profileOf, freePlace, enabledAid, withPlaces, withFallback}
+use Rattle.card.specs.Cards.{placeOf, profileOf, freePlace, enabledAid, mayBeDeleted, withPlaces, withFallback}
 use Rattle.card.specs.Sound.{sound}
 use Rattle.card.specs.Noticed.{JustOpened, Noticed, silently, told}
 use Rattle.card.specs.Steps.{stepTo}
@@ -30,12 +31,12 @@ use Rattle.card.specs.declared.Phase.{Phase}
 use Rattle.card.specs.declared.Phase.the-variants.{Quiet, Trial, Back, Fallen}
 use Rattle.card.specs.declared.Step.{Step}
 use Rattle.card.proofs.Sounds.{parts}
+use Rattle.card.proofs.Deletions.{deletable, master-less}
 use Rattle.card.proofs.Noticed.{found-kept, unmoved, steps-noticed}
 use Rattle.card.proofs.Freshness.{fresh-sound}
 use Rattle.steps.proofs.Rows.{Passed}
 use Rattle.steps.specs.Asked.{Act, Act.enable, Act.disable, Act.delete, Act.masterDelete, Act.setFallBack, Act.status, Act.keyed, Act.stored, Act.finished, Asked, Asked.unread, Asked.create, Asked.on, Asked.confirm, Asked.statusOfAll, Asked.getData, Asked.tick, Asked.lost}
 use Rattle.steps.specs.Steps.{stepOf, responseOf}
-use Rattle.steps.proofs.Creates.{empty}
 use Rattle.manager.specs.Calls.{Call, asked}
 use Rattle.manager.specs.Manager.{step, run}
 use Rattle.manager.proofs.Kept.{step-sound}
@@ -67,18 +68,17 @@ module _ (c : Card) (s : sound c ≡ true) where
   -- a free place is not enabled
   free-off : (i : ℕ) → i < length (c .places) → held (at (c .places) i) ≡ false → isEnabled (at (c .places) i) ≡ false
   free-off i k h =
-      let e = empty (c .capacity) (at (c .places) i) h (all-at (placeOk (c .capacity)) (c .places) i k (parts c s .placed .each)) in
-      other-life i 0 refl (eqb-true (at (c .places) i .life) 0 (and-l _ _ e))
+      other-life i 0 refl (ap (λ (p : Isdp). p .life) (vacant-is (c .capacity) (at (c .places) i) h (all-at (placeOk (c .capacity)) (c .places) i k (parts c s .placed .each))))
 
-  -- nor is one that is DISABLED and not the fall-back
-  gone-off : (aid : List ℕ) → not (eqb (profileOf c aid .life) disabled && not (eqb (placeOf c aid) (c .fallback))) ≡ false → isEnabled (profileOf c aid) ≡ false
-  gone-off aid e = other-life (placeOf c aid) disabled refl (eqb-true _ _ (and-l (eqb (profileOf c aid .life) disabled) _ (not-false _ e)))
+  -- nor is one that may be deleted
+  gone-off : (aid : List ℕ) → mayBeDeleted c (placeOf c aid) ≡ true → isEnabled (profileOf c aid) ≡ false
+  gone-off aid e = deletable c (placeOf c aid) e .off
 
   acts : (aid : List ℕ) (act : Act) → Passed c (on aid act) → Noticed c (stepOf c (on aid act))
   acts aid enable p = steps-noticed .opening c (placeOf c aid) s
   acts aid disable p = steps-noticed .opening c (c .fallback) s
-  acts aid delete p = rewrites (placeOf c aid) vacant refl (gone-off aid (p .state))
-  acts aid (masterDelete verdict) p = rewrites (placeOf c aid) vacant refl (gone-off aid (p .state))
+  acts aid delete p = rewrites (placeOf c aid) vacant refl (gone-off aid (not-false _ (p .state)))
+  acts aid (masterDelete verdict) p = rewrites (placeOf c aid) vacant refl (gone-off aid (master-less c (placeOf c aid) (not-false _ (p .state))))
   acts aid setFallBack p = unmoved c (withFallback c (placeOf c aid)) noAid refl refl
   acts aid (status life fallback) p = unmoved c c noAid refl refl
   acts aid keyed p =

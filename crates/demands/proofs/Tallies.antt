@@ -1,24 +1,22 @@
 -- The profiles counted and the profiles held are the same ones: every weight of AID and quota adds up to the same over both. So no order
 -- and no lookup is needed; a deletion is the weight that passes over one AID. By induction over the places. Assumes nothing.
-use mathlib.Core.Path.{_≡_, refl, sym, _∙_}
+use mathlib.Core.Path.{_≡_, refl, ap, sym, _∙_}
 use Prim.Native.Nat.{ℕ, zero, suc, _+_, _<_}
 use native.Mathlib.Omega.{arith}
 use mathlib.Core.List.{List, [], _∷_}
 use mathlib.Core.Bool.{Bool, true, false, not, cond, _&&_, false≢true}
 use lib.ListN.{length, set}
-use lib.Dec.{eqb}
-use borrow.Author.Tests.{not-true, eqb-true}
+use borrow.Author.Tests.{not-true}
 use Rattle.byte_string.specs.Bytes.{sameBytes}
 use Rattle.byte_string.proofs.Alike.{same-true, same-self}
 use Rattle.isdp.specs.Aids.{aidOk, aidOf}
 use Rattle.isdp.specs.Place.{vacant, made, held, isFor, clash, placeOk}
 use Rattle.isdp.specs.declared.Isdp.{Isdp}
-use Rattle.isdp.proofs.Placed.{made-held, made-aid}
+use Rattle.isdp.proofs.Placed.{vacant-is, made-held, made-aid}
 use Rattle.isdp.proofs.Bools.{and-l, and-r, both, or-l, or-r}
 use Rattle.isdp.proofs.Alike.{clash-none}
 use Rattle.places.specs.Places.{at, quotas, allOf, anyOf, distinct}
 use Rattle.places.proofs.Lives.{Lives, Lives.ended, Lives.place}
-use Rattle.steps.proofs.Creates.{empty}
 use Rattle.demands.specs.Free.{Made, without, room}
 
 abbrev pub Weight : Type 0
@@ -166,7 +164,7 @@ quota-case true q f = refl
 quota-case false q f = sym (f refl)
 
 empty-quota : (k : ℕ) (p : Isdp) → placeOk k p ≡ true → held p ≡ false → p .quota ≡ 0
-empty-quota k p o h = eqb-true (p .quota) 0 (and-l (eqb (p .quota) 0) _ (and-r (eqb (p .life) 0) _ (empty k p h o)))
+empty-quota k p o h = ap (λ (q : Isdp). q .quota) (vacant-is k p h o)
 
 sum-quotas : (k : ℕ) (l : List Isdp) → allOf (placeOk k) l ≡ true → sumHeld (λ x q. q) l ≡ quotas l
 unfolding sumHeld quotas allOf

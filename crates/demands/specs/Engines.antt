@@ -77,13 +77,20 @@ pub record Meets (e : Engine) : Type 0 where
   pub lost : MeetsLost e
   pub count : MeetsCount e
 
--- the manager of the definitions: it remembers nothing
-abbrev pub manager : Engine
-manager =
+-- an engine that remembers nothing, and such a one that leads from a card by a list of calls to this card
+abbrev pub plain : (Card → Call → Outcome) → Engine
+plain answer =
     record {
       Memory = Unit {0};
       fresh = freshOf;
       start = λ x. tt;
-      answer = λ m c call. step c call;
+      answer = λ m c call. answer c call;
       remember = λ m c call. tt;
     }
+
+abbrev pub reachedBy : (Card → Call → Outcome) → Card → List Call → Card
+reachedBy answer c calls = reached (plain answer) tt c calls
+
+-- the manager of the definitions
+abbrev pub manager : Engine
+manager = plain step

@@ -22,5 +22,6 @@ pub mod Influence
 pub mod Others
 pub mod Free
 pub mod Provisioning
+pub mod Room
 pub mod Notified
 pub mod SilentEngines

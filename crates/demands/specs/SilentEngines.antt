@@ -6,8 +6,7 @@ use Rattle.card.specs.Answers.{Outcome}
 use Rattle.manager.specs.Calls.{Call, Call.Command, Call.Keyed, Call.Stored, Call.Finished, Call.Tick, Call.Lost}
 use Rattle.manager.specs.Manager.{step}
 use Rattle.demands.specs.Change.{isTick}
-use Rattle.demands.specs.Engines.{Engine, manager}
-use Rattle.demands.specs.WrongEngines.{plain}
+use Rattle.demands.specs.Engines.{Engine, plain, manager}
 use Rattle.demands.specs.Notified.{MeetsNotified}
 
 abbrev pub isLost : Call → Bool

@@ -10,7 +10,7 @@ use lib.ListN.{replicate}
 use Rattle.status.specs.StatusWords.{numberOf}
 use Rattle.status.specs.Rows.{Row}
 use Rattle.isdp.specs.Sizes.{mostPlaces}
-use Rattle.isdp.specs.LifeCycle.{selectable, disabled, enabled, withMark}
+use Rattle.isdp.specs.LifeCycle.{selectable, personalized, disabled, enabled, withPolicy, withMark}
 use Rattle.isdp.specs.Place.{vacant, made}
 use Rattle.isdp.specs.declared.Isdp.{Isdp}
 use Rattle.card.specs.Fresh.{zeroCard}
@@ -64,6 +64,10 @@ quiet = cardOfTwo enabled disabled 0
 
 abbrev pub opening : List Call
 opening = enable 2 ∷ []
+
+-- 02 is SELECTABLE
+abbrev pub begun : List Call
+begun = create 2 50 ∷ []
 
 -- 02 is enabled with this policy, and F is the fall-back
 abbrev pub onto : ℕ → List Call
@@ -171,9 +175,26 @@ cases =
     ∷ case 16 0x9000 fresh (loadWith 2 0 0) (enable 2)
     ∷ case 16 0x9000 fresh (loadWith 2 0 0 ++ enable 2 ∷ confirm 1 ∷ []) (disable 2)
     ∷ case 12 0x6985 fresh (load 2 0) (Keyed (aid 2))
-    -- 69 E1
+    -- request 2026-03, "69 85 for Delete narrows to ENABLED or fall-back": both, either alone, neither; in an open change it is the row before
+    ∷ case 12 0x6985 fresh [] (delete 1)
+    ∷ case 12 0x6985 fresh (onto 0) (delete 2)
+    ∷ case 12 0x6985 fresh (onto 0) (delete 1)
+    ∷ case 16 0x9000 fresh begun (delete 2)
+    ∷ case 16 0x9000 fresh (begun ++ Keyed (aid 2) ∷ []) (delete 2)
+    ∷ case 16 0x9000 fresh (begun ++ Keyed (aid 2) ∷ Stored (aid 2) 50 ∷ []) (delete 2)
+    ∷ case 9 0x6985 fresh (begun ++ load 3 0 ++ enable 3 ∷ []) (delete 2)
+    ∷ case 10 0x6A88 fresh (begun ++ delete 2 ∷ []) (delete 2)
+    -- "master delete stays with DISABLED only"
+    ∷ case 12 0x6985 fresh begun (masterDelete 1 2)
+    ∷ case 12 0x6985 fresh (begun ++ Keyed (aid 2) ∷ []) (masterDelete 1 2)
+    ∷ case 12 0x6985 fresh (onto 0) (masterDelete 1 1)
+    ∷ case 16 0x9000 fresh (load 2 0) (masterDelete 1 2)
+    -- 69 E1, of a record handed in also where the profile is SELECTABLE or PERSONALIZED
     ∷ case 13 0x69E1 fresh (load 2 2) (delete 2)
     ∷ case 16 0x9000 fresh (load 2 1) (delete 2)
+    ∷ case 13 0x69E1 (handedIn 1 (withPolicy (made (aid 2) selectable 50 0) 2)) [] (delete 2)
+    ∷ case 13 0x69E1 (handedIn 1 (withPolicy (made (aid 2) personalized 50 5) 3)) [] (delete 2)
+    ∷ case 16 0x9000 (handedIn 1 (withPolicy (made (aid 2) personalized 50 5) 4)) [] (delete 2)
     ∷ case 13 0x69E1 fresh (onto 1) (disable 2)
     ∷ case 16 0x9000 fresh (onto 2) (disable 2)
     ∷ case 13 0x69E1 fresh (onto 1 ++ load 3 0) (enable 3)
@@ -186,6 +207,10 @@ cases =
     ∷ case 15 0x6A84 fresh [] (create 2 901)
     ∷ case 16 0x9000 fresh [] (create 2 900)
     ∷ case 15 0x6A84 fresh (creates 2 (mostPlaces - 1)) (create (mostPlaces + 1) 1)
+    -- "Freed places and room are used again", those of a download that broke off too
+    ∷ case 16 0x9000 fresh (creates 2 (mostPlaces - 1) ++ delete 3 ∷ []) (create (mostPlaces + 1) 1)
+    ∷ case 15 0x6A84 fresh (create 2 900 ∷ []) (create 3 1)
+    ∷ case 16 0x9000 fresh (create 2 900 ∷ Keyed (aid 2) ∷ Stored (aid 2) 900 ∷ delete 2 ∷ []) (create 3 900)
     ∷ case 15 0x6A84 fresh (create 2 50 ∷ Keyed (aid 2) ∷ []) (Stored (aid 2) 51)
     ∷ case 15 0x6A84 fresh (create 2 50 ∷ Keyed (aid 2) ∷ []) (Stored (aid 2) 4294967295)
     ∷ case 16 0x9000 fresh (create 2 50 ∷ Keyed (aid 2) ∷ []) (Stored (aid 2) 50)

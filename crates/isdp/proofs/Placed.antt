@@ -1,19 +1,21 @@
--- One place of a sound card by the names of its parts, under another life cycle, and made anew. Assumes nothing.
-use mathlib.Core.Path.{_≡_, refl, sym, _∙_}
+-- One place of a sound card by the names of its parts, under another life cycle, made anew, and where it is not held. Assumes nothing.
+use mathlib.Core.Path.{_≡_, refl, ap, sym, _∙_}
 use Prim.Native.Nat.{ℕ, zero, suc, _-_, _≤_}
 use native.Mathlib.Omega.{arith}
-use mathlib.Core.List.{List}
+use mathlib.Core.List.{List, [], _∷_}
 use mathlib.Core.Bool.{Bool, true, false, not, cond, _&&_, false≢true}
 use lib.ListN.{length, drop, take, replicate, length-append, length-replicate}
 use lib.Seq.{drop-append-seam, take-append-seam, take-all}
 use lib.Dec.{leb, eqb}
-use borrow.Author.Tests.{eqb-true, ne-eqb, leb-true}
+use borrow.Author.Tests.{eqb-true, ne-eqb, leb-true, not-false}
 use Rattle.isdp.specs.Sizes.{leastAid, mostAid}
-use Rattle.isdp.specs.Aids.{padded, aidOk, aidOf}
+use Rattle.isdp.specs.Aids.{padded, aidOk, noAid, aidOf}
 use Rattle.isdp.specs.Policy.{policyOk}
 use Rattle.isdp.specs.LifeCycle.{disabled, isEnabled, withLife, withMark, off}
 use Rattle.isdp.specs.Provisioning.{markOk}
-use Rattle.isdp.specs.Place.{vacant, made, held, zeros, lifeOk, blank, heldOk, placeOk}
+use Rattle.isdp.specs.Place.{vacant, made, held, zeros, lifeOk, blank, emptyOk, heldOk, placeOk}
+use Rattle.isdp.specs.Profile.{profile}
+use Rattle.isdp.specs.declared.Aid.{Aid}
 use Rattle.isdp.specs.declared.Isdp.{Isdp}
 use Rattle.isdp.proofs.Bools.{and-l, and-r}
 
@@ -62,6 +64,49 @@ placed k p n e =
 pub placed-ok : (k : ℕ) (p : Isdp) → lifeOk (p .life) ≡ true → Placed k p → placeOk k p ≡ true
 unfolding placeOk
 placed-ok k p l h = rw (h .wide, h .there, l, h .five, h .sixteen, h .some, h .most, h .fits, h .rule, h .mark, h .ended)
+
+-- a held place has one of the four life cycles
+lived-case : (w h x r s : Bool) → h ≡ true → (w && cond h (x && r) s) ≡ true → x ≡ true
+lived-case true true x r s n e = and-l x r e
+lived-case true false x r s n e = absurd (false≢true n)
+lived-case false h x r s n e = absurd (false≢true e)
+
+pub lived : (k : ℕ) (p : Isdp) → held p ≡ true → placeOk k p ≡ true → lifeOk (p .life) ≡ true
+unfolding placeOk
+lived k p h e =
+    let ended = zeros (drop (p .aid .len) (p .aid .bytes)) in
+    lived-case (eqb (length (p .aid .bytes)) mostAid) (held p) (lifeOk (p .life)) (heldOk k p && ended) (emptyOk p && ended) h e
+
+-- one that is not held is zero in every field
+not-held-case : (w h x s z : Bool) → h ≡ false → (w && cond h x (s && z)) ≡ true → (w ≡ true) × (s ≡ true) × (z ≡ true)
+not-held-case true true x s z n e = absurd (false≢true (sym n))
+not-held-case true false x s z n e = (refl, and-l s z e, and-r s z e)
+not-held-case false h x s z n e = absurd (false≢true e)
+
+zeros-are : (l : List ℕ) → zeros l ≡ true → l ≡ replicate (length l) 0
+unfolding zeros
+zeros-are [] e = refl
+zeros-are (x ∷ xs) e = rw (eqb-true x 0 (and-l (eqb x 0) _ e)) (ap (λ (l : List ℕ). 0 ∷ l) (zeros-are xs (and-r (eqb x 0) _ e)))
+
+unnamed : (bytes : List ℕ) (len : ℕ) → length bytes ≡ mostAid → len ≡ 0 → zeros (drop len bytes) ≡ true → _≡_ {A = Aid} (record { bytes = bytes; len = len }) noAid
+unnamed bytes len w n z = rw n (ap (λ (b : List ℕ). record { bytes = b; len = 0 }) (zeros-are bytes (rw n at z) ∙ ap (λ (k : ℕ). replicate k 0) w))
+
+all-zero : (a : Aid) (life quota used policy mark : ℕ) → a ≡ noAid → life ≡ 0 → quota ≡ 0 → used ≡ 0 → policy ≡ 0 → mark ≡ 0 → profile a life quota used policy mark ≡ vacant
+all-zero a life quota used policy mark e l q u p m = rw (e, l, q, u, p, m)
+
+pub vacant-is : (k : ℕ) (p : Isdp) → held p ≡ false → placeOk k p ≡ true → p ≡ vacant
+unfolding placeOk
+vacant-is k p h e =
+    let ended = zeros (drop (p .aid .len) (p .aid .bytes)) in
+    let n = not-held-case (eqb (length (p .aid .bytes)) mostAid) (held p) (lifeOk (p .life) && (heldOk k p && ended)) (emptyOk p) ended h e in
+    let r : emptyOk p ≡ true = n .1 in
+    let r1 = and-r (eqb (p .life) 0) _ r in
+    let r2 = and-r (eqb (p .quota) 0) _ r1 in
+    let r3 = and-r (eqb (p .used) 0) _ r2 in
+    all-zero (p .aid) (p .life) (p .quota) (p .used) (p .policy) (p .mark)
+    (unnamed (p .aid .bytes) (p .aid .len) (eqb-true _ _ (n .0)) (eqb-true _ _ (not-false _ h)) (n .2))
+    (eqb-true _ _ (and-l _ _ r)) (eqb-true _ _ (and-l _ _ r1)) (eqb-true _ _ (and-l _ _ r2)) (eqb-true _ _ (and-l _ _ r3))
+    (eqb-true _ _ (and-r (eqb (p .policy) 0) _ r3))
 
 -- the test of one place under another life cycle
 relife-case : (w h a x y r s z : Bool) → a ≡ false → (w && cond h (x && (r && z)) ((a && s) && z)) ≡ true → (w && cond h (true && (r && z)) ((y && s) && z)) ≡ true

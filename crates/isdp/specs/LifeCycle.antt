@@ -21,6 +21,10 @@ enabled = 0x3F
 abbrev pub isEnabled : Isdp → Bool
 isEnabled p = eqb (p .life) enabled
 
+-- SELECTABLE or PERSONALIZED: its download is not finished
+abbrev pub isLoading : ℕ → Bool
+isLoading v = eqb v selectable || eqb v personalized
+
 -- DISABLED or ENABLED
 abbrev pub isFinished : ℕ → Bool
 isFinished v = eqb v disabled || eqb v enabled

@@ -1,5 +1,6 @@
--- One place set anew: what every test of the places, the quotas and the AIDs sees of it. Assumes nothing.
-use mathlib.Core.Path.{_≡_, refl}
+-- One place set anew: what every test of the places, the quotas and the AIDs sees of it; and places that are the same one by one are the
+-- same list. Assumes nothing.
+use mathlib.Core.Path.{_≡_, refl, ap}
 use Prim.Native.Nat.{ℕ, zero, suc, _+_, _<_}
 use native.Mathlib.Omega.{arith}
 use mathlib.Core.List.{List, [], _∷_}
@@ -87,3 +88,9 @@ unfolding allOf
 all-at t [] i h o = absurd (omega arith)
 all-at t (p ∷ ps) zero h o = and-l (t p) _ o
 all-at t (p ∷ ps) (suc i) h o = all-at t ps i (omega arith) (and-r (t p) _ o)
+
+pub same-places : (l m : List Isdp) → length l ≡ length m → ((i : ℕ) → at l i ≡ at m i) → l ≡ m
+same-places [] [] n e = refl
+same-places [] (q ∷ qs) n e = absurd (omega arith)
+same-places (p ∷ ps) [] n e = absurd (omega arith)
+same-places (p ∷ ps) (q ∷ qs) n e = rw (e 0) (ap (λ (l : List Isdp). q ∷ l) (same-places ps qs (omega arith) (λ i. e (suc i))))

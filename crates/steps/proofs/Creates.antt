@@ -4,20 +4,18 @@ use mathlib.Core.Path.{_≡_, refl, ap, sym, _∙_}
 use Prim.Native.Nat.{ℕ, _+_, _≤_, _<_}
 use native.Mathlib.Omega.{arith}
 use mathlib.Core.List.{List, [], _∷_}
-use mathlib.Core.Bool.{Bool, true, false, not, cond, _&&_, false≢true}
-use lib.ListN.{length, drop}
+use mathlib.Core.Bool.{Bool, true, false, _&&_, false≢true}
+use lib.ListN.{length}
 use lib.Seq.{getD-set-other}
-use lib.Dec.{eqb}
-use borrow.Author.Tests.{eqb-true, le-leb, not-true}
-use Rattle.isdp.specs.Sizes.{mostAid}
+use borrow.Author.Tests.{le-leb, not-true}
 use Rattle.byte_string.specs.Bytes.{sameBytes}
 use Rattle.isdp.specs.Aids.{aidOf, aidOk}
 use Rattle.isdp.specs.LifeCycle.{selectable}
-use Rattle.isdp.specs.Place.{vacant, made, held, isFor, clash, zeros, lifeOk, emptyOk, heldOk, placeOk}
+use Rattle.isdp.specs.Place.{vacant, made, held, isFor, clash, placeOk}
 use Rattle.isdp.specs.declared.Isdp.{Isdp}
-use Rattle.isdp.proofs.Bools.{and-l, and-r, or-l, or-r}
+use Rattle.isdp.proofs.Bools.{or-l, or-r}
 use Rattle.byte_string.proofs.Alike.{same-sym}
-use Rattle.isdp.proofs.Placed.{made-held, made-aid, made-ok}
+use Rattle.isdp.proofs.Placed.{vacant-is, made-held, made-aid, made-ok}
 use Rattle.places.specs.Places.{at, seek, isFree, quotas, anyOf}
 use Rattle.places.proofs.Seeks.{seek-at, seek-below}
 use Rattle.places.proofs.Sets.{set-quotas, set-distinct, all-at}
@@ -61,25 +59,14 @@ module _ (aid : List ℕ) (quota : ℕ) (ok : aidOk aid ≡ true) where
   new-second p e =
       rw (made-aid aid selectable quota 0 ok, same-sym (aidOf p) aid) (and-swap (held new) (held p) (sameBytes (aidOf p) aid) (made-held aid selectable quota 0 ok) e)
 
--- a place not held is empty
-empty-case : (w h s x z : Bool) → h ≡ false → (w && cond h x (s && z)) ≡ true → s ≡ true
-empty-case true true s x z n e = absurd (false≢true (sym n))
-empty-case true false s x z n e = and-l s z e
-empty-case false h s x z n e = absurd (false≢true e)
-
-pub empty : (k : ℕ) (p : Isdp) → held p ≡ false → placeOk k p ≡ true → emptyOk p ≡ true
-unfolding placeOk
-empty k p h e =
-    empty-case (eqb (length (p .aid .bytes)) mostAid) (held p) (emptyOk p) (lifeOk (p .life) && (heldOk k p && zeros (drop (p .aid .len) (p .aid .bytes)))) (zeros (drop (p .aid .len) (p .aid .bytes))) h e
-
 pub creates : (c : Card) (aid : List ℕ) (quota : ℕ) → Sound c → c .phase ≡ Quiet → aidOk aid ≡ true → 1 ≤ quota → quota + quotas (c .places) ≤ c .capacity → held (profileOf c aid) ≡ false → freePlace c < length (c .places) → Sound (filled c (freePlace c) (made aid selectable quota 0))
 creates c aid quota s q ok low fits free k =
     let l = c .places in
     let t = freePlace c in
     let x = made aid selectable quota 0 in
-    let m = empty (c .capacity) (at l t) (not-true (held (at l t)) (seek-below isFree l k)) (all-at (placeOk (c .capacity)) l t k (s .placed .each)) in
-    let life : at l t .life ≡ 0 = eqb-true _ _ (and-l (eqb (at l t .life) 0) _ m) in
-    let z : at l t .quota ≡ 0 = eqb-true _ _ (and-l (eqb (at l t .quota) 0) _ (and-r (eqb (at l t .life) 0) _ m)) in
+    let m = vacant-is (c .capacity) (at l t) (not-true (held (at l t)) (seek-below isFree l k)) (all-at (placeOk (c .capacity)) l t k (s .placed .each)) in
+    let life : at l t .life ≡ 0 = ap (λ (p : Isdp). p .life) m in
+    let z : at l t .quota ≡ 0 = ap (λ (p : Isdp). p .quota) m in
     let n : c .fallback ≡ t → ⊥ = λ w. resort-nonzero c s (ap (λ (i : ℕ). at l i .life) w ∙ life) in
     let a = never l aid free in
     sets c t x (c .phase) s

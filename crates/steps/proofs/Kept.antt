@@ -14,7 +14,7 @@ use Rattle.isdp.specs.Provisioning.{markOk}
 use Rattle.isdp.specs.LifeCycle.{disabled, personalized, isEnabled}
 use Rattle.isdp.proofs.Bools.{and-l, and-r, or-l, or-r}
 use Rattle.places.specs.Places.{at}
-use Rattle.card.specs.Cards.{isQuiet, placeOf, profileOf, freePlace, freeIn, cleared}
+use Rattle.card.specs.Cards.{isQuiet, placeOf, profileOf, freePlace, freeIn, mayBeDeleted, cleared}
 use Rattle.card.specs.Clock.{opened}
 use Rattle.card.specs.Sound.{sound}
 use Rattle.card.specs.Steps.{tickStep, lostStep, confirmStep}
@@ -22,6 +22,7 @@ use Rattle.card.specs.declared.Card.{Card}
 use Rattle.card.specs.declared.Phase.{Phase}
 use Rattle.card.specs.declared.Phase.the-variants.{Quiet, Trial, Back, Fallen}
 use Rattle.card.proofs.Sounds.{parts, whole, tick-sound, lost-sound}
+use Rattle.card.proofs.Deletions.{master-less}
 use Rattle.card.proofs.Rewrites.{deletes, refalls, confirm-sound}
 use Rattle.steps.specs.Asked.{Act, Act.enable, Act.disable, Act.delete, Act.masterDelete, Act.setFallBack, Act.status, Act.keyed, Act.stored, Act.finished, Asked, Asked.unread, Asked.create, Asked.on, Asked.confirm, Asked.statusOfAll, Asked.getData, Asked.tick, Asked.lost}
 use Rattle.steps.specs.Steps.{stepOf}
@@ -69,18 +70,16 @@ module _ (c : Card) (aid : List ℕ) (s : sound c ≡ true) where
   opens-kept : (t : ℕ) → at (c .places) t .life ≡ disabled → sound (opened c t) ≡ true
   opens-kept t d = whole _ (opens c t (parts c s) d)
 
-  delete-kept : not (isQuiet (c .phase)) ≡ false → not (eqb (profileOf c aid .life) disabled && not (eqb (placeOf c aid) (c .fallback))) ≡ false → sound (cleared c (placeOf c aid)) ≡ true
-  delete-kept q d =
-      let h = not-false _ d in
-      whole _ (deletes c (placeOf c aid) (parts c s) (quietly (c .phase) q) (eqb-true _ _ (and-l (eqb (profileOf c aid .life) disabled) _ h)) (not-true _ (and-r (eqb (profileOf c aid .life) disabled) _ h)))
+  delete-kept : not (isQuiet (c .phase)) ≡ false → mayBeDeleted c (placeOf c aid) ≡ true → sound (cleared c (placeOf c aid)) ≡ true
+  delete-kept q m = whole _ (deletes c (placeOf c aid) (parts c s) (quietly (c .phase) q) m)
 
   act-kept : (act : Act) → LegalAct act → Passed c (on aid act) → sound (stepOf c (on aid act) .card) ≡ true
   act-kept enable h p = opens-kept (placeOf c aid) (eqb-true _ _ (not-false _ (p .state)))
   act-kept disable h p =
       let h = not-false _ (p .state) in
       opens-kept (c .fallback) (fallback-life c (placeOf c aid) (parts c s) (and-l (isEnabled (profileOf c aid)) _ h) (not-true _ (and-r (isEnabled (profileOf c aid)) _ h)))
-  act-kept delete h p = delete-kept (p .change) (p .state)
-  act-kept (masterDelete verdict) h p = delete-kept (p .change) (p .state)
+  act-kept delete h p = delete-kept (p .change) (not-false _ (p .state))
+  act-kept (masterDelete verdict) h p = delete-kept (p .change) (master-less c (placeOf c aid) (not-false _ (p .state)))
   act-kept setFallBack h p = whole _ (refalls c (placeOf c aid) (parts c s) (quietly (c .phase) (p .change)) (not-false _ (p .state)))
   act-kept (status life fallback) h p = s
   act-kept keyed h p = whole _ (keyed-at c (placeOf c aid) (parts c s) (eqb-true _ _ (not-false _ (p .state))))

@@ -13,7 +13,7 @@ use Rattle.isdp.specs.LifeCycle.{selectable, personalized, disabled, isEnabled}
 use Rattle.isdp.specs.Provisioning.{markOk, mayBeFallBack}
 use Rattle.isdp.specs.Place.{held}
 use Rattle.places.specs.Places.{at}
-use Rattle.card.specs.Cards.{isQuiet, placeOf, profileOf, enabledPlace, freePlace, freeIn, mayBeDeleted}
+use Rattle.card.specs.Cards.{isQuiet, placeOf, profileOf, enabledPlace, freePlace, freeIn, mayBeDeleted, mayBeMasterDeleted}
 use Rattle.card.specs.Clock.{outstanding}
 use Rattle.card.specs.declared.Card.{Card}
 use Rattle.steps.specs.Asked.{Act, Act.enable, Act.disable, Act.delete, Act.masterDelete, Act.setFallBack, Act.status, Act.keyed, Act.stored, Act.finished, Asked, Asked.unread, Asked.create, Asked.on, Asked.confirm, Asked.statusOfAll, Asked.getData, Asked.tick, Asked.lost}
@@ -76,12 +76,13 @@ alreadyHeld c tick = false
 alreadyHeld c lost = false
 
 -- "69 85: target in the wrong state (steps below)": "Keyed: SELECTABLE", "Stored n: PERSONALIZED only", "Finished ..: PERSONALIZED, used over 0";
--- request 2026-02: "69 85 for set fall-back on an unmarked target, among the wrong-state tests"
+-- request 2026-02: "69 85 for set fall-back on an unmarked target, among the wrong-state tests"; request 2026-03: "69 85 for Delete narrows
+-- to ENABLED or fall-back"
 abbrev pub actStateWrong : Card → List ℕ → Act → Bool
 actStateWrong c aid enable = not (eqb (profileOf c aid .life) disabled)
 actStateWrong c aid disable = not (isEnabled (profileOf c aid) && not (eqb (placeOf c aid) (c .fallback)))
 actStateWrong c aid delete = not (mayBeDeleted c (placeOf c aid))
-actStateWrong c aid (masterDelete verdict) = not (mayBeDeleted c (placeOf c aid))
+actStateWrong c aid (masterDelete verdict) = not (mayBeMasterDeleted c (placeOf c aid))
 actStateWrong c aid setFallBack = not (mayBeFallBack (profileOf c aid))
 actStateWrong c aid (status life fallback) = false
 actStateWrong c aid keyed = not (eqb (profileOf c aid .life) selectable)

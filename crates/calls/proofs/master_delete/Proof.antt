@@ -1,4 +1,4 @@
--- `calls::master_delete`: the rows of the change, the target, whether it may be deleted and the token verdict, each passed or stopped at.
+-- `calls::master_delete`: the rows of the change, the target, whether it may be deleted so and the token verdict, each passed or stopped at.
 use mathlib.Core.Path.{_≡_, sym, _∙_}
 use mathlib.Core.Bool.{true}
 use borrow.Author.Tests.{eq-eqb, ne-eqb, not-true, not-false}
@@ -40,7 +40,7 @@ unfolding wordOf
 returns-3 c =
     let m = c .before .before in
     let k = m .before in
-    rw (quiet (asking k), target k .there, target k .place, sym (m .may-be-deleted .ensures) ∙ not-true _ (c .before .if2 .taken)) (c .refused3 .ensures)
+    rw (quiet (asking k), target k .there, target k .place, sym (m .may-be-master-deleted .ensures) ∙ not-true _ (c .before .if2 .taken)) (c .refused3 .ensures)
 
 returns-4 : tie.Need-returns-4
 unfolding wordOf
@@ -48,7 +48,7 @@ returns-4 c =
     let e = c .before .before in
     let m = e .before in
     let k = m .before in
-    rw (quiet (asking k), target k .there, target k .place, sym (m .may-be-deleted .ensures) ∙ not-false _ (e .if2 .left), ne-eqb _ 1 (c .before .if3 .taken)) (c .refused4 .ensures)
+    rw (quiet (asking k), target k .there, target k .place, sym (m .may-be-master-deleted .ensures) ∙ not-false _ (e .if2 .left), ne-eqb _ 1 (c .before .if3 .taken)) (c .refused4 .ensures)
 
 returns-5 : tie.Need-returns-5
 unfolding wordOf
@@ -59,7 +59,7 @@ returns-5 c =
     let k = m .before in
     let s = start (asking k) .args in
     accepts (s .card) (askedWork (s .card) (on (s .aid .now) (masterDelete (s .verdict))))
-    (rw (quiet (asking k), target k .there, target k .place, sym (m .may-be-deleted .ensures) ∙ not-false _ (e .if2 .left), eq-eqb _ 1 (a .before .if3 .left)))
+    (rw (quiet (asking k), target k .there, target k .place, sym (m .may-be-master-deleted .ensures) ∙ not-false _ (e .if2 .left), eq-eqb _ 1 (a .before .if3 .left)))
     (rw (a .cleared .ensures, target k .place))
     (c .before .before .none .ensures)
     (c .before .step-since .ensures)

@@ -1,20 +1,26 @@
--- Delete and master delete: the rows that look at the card are the law's conditions, and the place is cleared in Quiet. Assumes nothing.
-use mathlib.Core.Path.{_≡_, refl}
+-- Delete and master delete: the rows that look at the card are the law's conditions, and the place is cleared in Quiet. A held place of a
+-- sound card has one of four life cycles, so one that is not ENABLED is one that delete takes. Assumes nothing.
+use mathlib.Core.Path.{_≡_, refl, ap}
 use Prim.Native.Nat.{ℕ}
 use mathlib.Core.List.{List, [], _∷_}
-use mathlib.Core.Bool.{false, not}
+use mathlib.Core.Bool.{true, false, not}
 use lib.Dec.{eqb}
-use borrow.Author.Tests.{eqb-true, eqb-false, ne-eqb, not-true, not-false}
+use borrow.Author.Tests.{eqb-true, eqb-false, ne-eqb, not-false}
 use Rattle.status.specs.declared.Status.the-variants.{Done}
 use Rattle.isdp.specs.Aids.{noAid}
-use Rattle.isdp.specs.LifeCycle.{disabled}
-use Rattle.isdp.specs.Place.{vacant}
-use Rattle.isdp.proofs.Bools.{and-l, and-r}
-use Rattle.card.specs.Cards.{cleared, placeOf, profileOf, mayBeDeleted}
+use Rattle.isdp.specs.LifeCycle.{disabled, enabled}
+use Rattle.isdp.specs.Place.{vacant, placeOk}
+use Rattle.isdp.proofs.Bools.{and-l}
+use Rattle.isdp.proofs.Placed.{lived}
+use Rattle.places.proofs.Sets.{all-at}
+use Rattle.card.specs.Cards.{cleared, placeOf, profileOf, mayBeDeleted, mayBeMasterDeleted}
+use Rattle.card.specs.Sound.{sound}
 use Rattle.card.specs.Steps.{stepTo}
 use Rattle.card.specs.Answers.{accepted}
 use Rattle.card.specs.declared.Card.{Card}
 use Rattle.card.specs.declared.Phase.the-variants.{Quiet}
+use Rattle.card.proofs.Sounds.{parts}
+use Rattle.card.proofs.Deletions.{deletable, may-be-deleted, master-less}
 use Rattle.steps.specs.Asked.{Act.delete, Act.masterDelete}
 use Rattle.steps.specs.Laws.Answer.{Holds}
 use Rattle.steps.specs.Laws.Deletion.{MayDelete, MayMasterDelete, Deleted, DeleteLaw, MasterDeleteLaw}
@@ -26,13 +32,13 @@ module _ (c : Card) (aid : List ℕ) where
   abbrev t : ℕ
   t = placeOf c aid
 
-  state : not (mayBeDeleted c t) ≡ false → (profileOf c aid .life ≡ disabled) × (t ≡ c .fallback → ⊥)
-  state e =
-      let h = not-false _ e in
-      (eqb-true _ _ (and-l (eqb (profileOf c aid .life) disabled) _ h), eqb-false _ _ (not-true _ (and-r (eqb (profileOf c aid .life) disabled) _ h)))
+  lives : sound c ≡ true → Holds c aid t → (profileOf c aid .life ≡ enabled → ⊥) → (t ≡ c .fallback → ⊥) → mayBeDeleted c t ≡ true
+  lives s h n f =
+      let k = held-within (c .places) t (h .held-there) in
+      may-be-deleted c t (lived (c .capacity) (profileOf c aid) (h .held-there) (all-at (placeOk (c .capacity)) (c .places) t k (parts c s .placed .each))) n f
 
-  stated : profileOf c aid .life ≡ disabled → (t ≡ c .fallback → ⊥) → not (mayBeDeleted c t) ≡ false
-  stated d n = rw (d, ne-eqb _ _ n)
+  master-stated : profileOf c aid .life ≡ disabled → (t ≡ c .fallback → ⊥) → not (mayBeMasterDeleted c t) ≡ false
+  master-stated d n = rw (d, ne-eqb _ _ n)
 
   clears : Holds c aid t → c .phase ≡ Quiet → Deleted c t (accepted Done (stepTo c (cleared c t) noAid) (0x00 ∷ []))
   clears h q = rewrites c t vacant (0x00 ∷ []) 0 (held-within (c .places) t (h .held-there)) (none-to-come _ q)
@@ -40,11 +46,11 @@ module _ (c : Card) (aid : List ℕ) where
 pub delete-law : DeleteLaw
 delete-law c aid s =
     command-law c aid delete (MayDelete c) (Deleted c) s
-    (λ p. let d = state c aid (p .state) in record { none-open = quietly (c .phase) (p .change); is-disabled = d .0; not-fallback = d .1; allows = p .policy })
-    (λ h m. (held-passes c aid delete h (rw (m .none-open)) (stated c aid (m .is-disabled) (m .not-fallback)) (m .allows) refl refl, clears c aid h (m .none-open)))
+    (λ p. let d = deletable c (placeOf c aid) (not-false _ (p .state)) in record { none-open = quietly (c .phase) (p .change); not-enabled = eqb-false _ _ (d .off); not-fallback = d .apart; allows = p .policy })
+    (λ h m. (held-passes c aid delete h (rw (m .none-open)) (ap not (lives c aid s h (m .not-enabled) (m .not-fallback))) (m .allows) refl refl, clears c aid h (m .none-open)))
 
 pub master-delete-law : MasterDeleteLaw
 master-delete-law c aid verdict s =
     command-law c aid (masterDelete verdict) (MayMasterDelete c verdict) (Deleted c) s
-    (λ p. let d = state c aid (p .state) in record { none-open = quietly (c .phase) (p .change); is-disabled = d .0; not-fallback = d .1; verified = eqb-true _ _ (not-false _ (p .verdict)) })
-    (λ h m. (held-passes c aid (masterDelete verdict) h (rw (m .none-open)) (stated c aid (m .is-disabled) (m .not-fallback)) refl (rw (m .verified)) refl, clears c aid h (m .none-open)))
+    (λ p. let d = not-false _ (p .state) in record { none-open = quietly (c .phase) (p .change); is-disabled = eqb-true _ _ (and-l (eqb (profileOf c aid .life) disabled) _ d); not-fallback = deletable c (placeOf c aid) (master-less c (placeOf c aid) d) .apart; verified = eqb-true _ _ (not-false _ (p .verdict)) })
+    (λ h m. (held-passes c aid (masterDelete verdict) h (rw (m .none-open)) (master-stated c aid (m .is-disabled) (m .not-fallback)) refl (rw (m .verified)) refl, clears c aid h (m .none-open)))

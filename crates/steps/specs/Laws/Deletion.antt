@@ -1,10 +1,11 @@
 -- Document 01, 'Steps': "Delete: target DISABLED and not fall-back, else 69 85; 69 E1 if it forbids deletion. Master delete is the same
--- without policy, with the token verdict. Response of both: 00."
+-- without policy, with the token verdict. Response of both: 00." Request 2026-03: "69 85 for Delete narrows to ENABLED or fall-back";
+-- "master delete stays with DISABLED only".
 use Prim.Native.Nat.{ℕ}
 use mathlib.Core.Path.{_≡_}
 use mathlib.Core.List.{List, [], _∷_}
 use mathlib.Core.Bool.{true, false}
-use Rattle.isdp.specs.LifeCycle.{disabled}
+use Rattle.isdp.specs.LifeCycle.{disabled, enabled}
 use Rattle.isdp.specs.Policy.{forbidsDeletion}
 use Rattle.isdp.specs.Place.{vacant}
 use Rattle.card.specs.Sound.{sound}
@@ -15,9 +16,10 @@ use Rattle.steps.specs.Asked.{Act.delete, Act.masterDelete, Asked.on}
 use Rattle.steps.specs.Steps.{askedWork}
 use Rattle.steps.specs.Laws.Answer.{profileAt, Holds, Answers, OnPlace, onlyAt, replaced}
 
+-- a delete is accepted exactly where this holds of the place that holds its AID
 pub record MayDelete (c : Card) (t : ℕ) : Type 0 where
   pub none-open : c .phase ≡ Quiet
-  pub is-disabled : profileAt c t .life ≡ disabled
+  pub not-enabled : profileAt c t .life ≡ enabled → ⊥
   pub not-fallback : t ≡ c .fallback → ⊥
   pub allows : forbidsDeletion (profileAt c t .policy) ≡ false
 

@@ -60,7 +60,8 @@ pub record LawsMet : Type 0 where
   pub finishes : AcceptsInner (on01 0 Quiet) 4 (finished 0 0) × AcceptsInner (on01 0 Quiet) 4 (finished 0 1)
   pub enables : Accepts (on01 0 Quiet) (on (aidEnding 2) enable)
   pub disables : Accepts (on02 0 Quiet) (on (aidEnding 2) disable)
-  pub deletes : Accepts (on01 0 Quiet) (on (aidEnding 2) delete)
+  -- DISABLED, SELECTABLE, PERSONALIZED
+  pub deletes : Accepts (on01 0 Quiet) (on (aidEnding 2) delete) × Accepts (on01 0 Quiet) (on (aidEnding 3) delete) × Accepts (on01 0 Quiet) (on (aidEnding 4) delete)
   pub master-deletes : Accepts (on01 0 Quiet) (on (aidEnding 2) (masterDelete 1))
   pub sets-fall-back : Accepts (on01 0 Quiet) (on (aidEnding 2) setFallBack)
   pub confirms-trial : Accepts (on02 1 (Trial 0 10 1)) (confirm 1)

@@ -1,0 +1,13 @@
+-- `Card::may_be_master_deleted`: the profile's promise; the tests are the definition's own.
+use borrow.Author.Needs.{needs}
+use Rattle.card.proofs.Card.may_be_master_deleted.Statement.{statement}
+use Rattle.card.proofs.Card.may_be_master_deleted.Tie as tie
+
+profile-requires : tie.Need-profile-requires
+profile-requires c κs = search needs
+
+returns : tie.Need-returns
+returns c = rw (c .before .before .profile .ensures)
+
+pub may-be-master-deleted-spec : {M : Type 1} → statement M
+may-be-master-deleted-spec = tie.close (tie.spec profile-requires returns)

@@ -1,0 +1,51 @@
+-- What the two tests of a deletion tell: the profile is there, it is not ENABLED and not the fall-back; of a place with one of the four life
+-- cycles that is all that delete's test asks. By the life cycles that the tests name. Assumes nothing.
+use mathlib.Core.Path.{_≡_, refl, sym, _∙_}
+use Prim.Native.Nat.{ℕ}
+use native.Mathlib.Omega.{arith}
+use mathlib.Core.Bool.{Bool, true, false, not, _&&_, _||_, false≢true}
+use lib.Dec.{eqb}
+use borrow.Author.Tests.{eqb-true, eqb-false, ne-eqb, not-true}
+use Rattle.isdp.specs.LifeCycle.{selectable, personalized, disabled, enabled, isEnabled, isLoading}
+use Rattle.isdp.specs.Place.{lifeOk}
+use Rattle.isdp.proofs.Bools.{and-l, and-r, both}
+use Rattle.places.specs.Places.{at}
+use Rattle.card.specs.Cards.{mayBeDeleted, mayBeMasterDeleted}
+use Rattle.card.specs.declared.Card.{Card}
+
+-- the profile at place i may be deleted
+pub record Deletable (c : Card) (i : ℕ) : Type 0 where
+  pub there : at (c .places) i .life ≡ 0 → ⊥
+  pub off : isEnabled (at (c .places) i) ≡ false
+  pub apart : i ≡ c .fallback → ⊥
+
+-- a life cycle that delete takes
+taken-case : (v : ℕ) (x y z : Bool) → eqb v selectable ≡ x → eqb v personalized ≡ y → eqb v disabled ≡ z → ((x || y) || z) ≡ true → (v ≡ 0 → ⊥) × (eqb v enabled ≡ false)
+taken-case v true y z e f g h = rw (eqb-true v selectable e) ((λ n. omega arith), refl)
+taken-case v false true z e f g h = rw (eqb-true v personalized f) ((λ n. omega arith), refl)
+taken-case v false false true e f g h = rw (eqb-true v disabled g) ((λ n. omega arith), refl)
+taken-case v false false false e f g h = absurd (false≢true h)
+
+-- and one that it does not take
+left-case : (x y z w : Bool) → (x || (y || (z || w))) ≡ true → w ≡ false → ((x || y) || z) ≡ true
+left-case true y z w h n = refl
+left-case false true z w h n = refl
+left-case false false true w h n = refl
+left-case false false false w h n = absurd (false≢true (sym n ∙ h))
+
+module _ (c : Card) (i : ℕ) where
+  abbrev v : ℕ
+  v = at (c .places) i .life
+
+  pub deletable : mayBeDeleted c i ≡ true → Deletable c i
+  deletable e =
+      let k = taken-case v (eqb v selectable) (eqb v personalized) (eqb v disabled) refl refl refl (and-l (isLoading v || eqb v disabled) _ e) in
+      record { there = k .0; off = k .1; apart = eqb-false _ _ (not-true _ (and-r (isLoading v || eqb v disabled) _ e)) }
+
+  pub may-be-deleted : lifeOk v ≡ true → (v ≡ enabled → ⊥) → (i ≡ c .fallback → ⊥) → mayBeDeleted c i ≡ true
+  may-be-deleted l n f =
+      rw (left-case (eqb v selectable) (eqb v personalized) (eqb v disabled) (eqb v enabled) l (ne-eqb _ _ n), ne-eqb _ _ f)
+
+  -- what master delete may take delete may take too, its policy apart
+  pub master-less : mayBeMasterDeleted c i ≡ true → mayBeDeleted c i ≡ true
+  master-less e = rw (eqb-true v disabled (and-l (eqb v disabled) _ e)) (and-r (eqb v disabled) _ e)
