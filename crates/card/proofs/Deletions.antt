@@ -3,12 +3,12 @@
 use mathlib.Core.Path.{_≡_, refl, sym, _∙_}
 use Prim.Native.Nat.{ℕ}
 use native.Mathlib.Omega.{arith}
-use mathlib.Core.Bool.{Bool, true, false, not, _&&_, _||_, false≢true}
+use mathlib.Core.Bool.{Bool, true, false, _||_, false≢true}
 use lib.Dec.{eqb}
 use borrow.Author.Tests.{eqb-true, eqb-false, ne-eqb, not-true}
 use Rattle.isdp.specs.LifeCycle.{selectable, personalized, disabled, enabled, isEnabled, isLoading}
 use Rattle.isdp.specs.Place.{lifeOk}
-use Rattle.isdp.proofs.Bools.{and-l, and-r, both}
+use Rattle.isdp.proofs.Bools.{and-l, and-r}
 use Rattle.places.specs.Places.{at}
 use Rattle.card.specs.Cards.{mayBeDeleted, mayBeMasterDeleted}
 use Rattle.card.specs.declared.Card.{Card}

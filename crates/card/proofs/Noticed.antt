@@ -92,7 +92,7 @@ module _ (c : Card) (s : Sound c) (gone : Aid) where
       (λ q. choose After (onFallback c) _ _ (λ e. unmoved c c gone refl refl) (λ e. falls)) (λ q. unmoved c c gone refl refl)
 
   clears : (i : ℕ) → at (c .places) i .life ≡ disabled → After (cleared (withPhase c Quiet) i)
-  clears i h = unmoved c _ gone refl (ap (λ (p : Isdp). p .aid) (found-kept vacant refl (c .places) i (rw h)))
+  clears i h = unmoved c _ gone refl (ap (λ (p : Isdp). p .aid) (found-kept _ refl (c .places) i (rw h)))
 
   closes : (p : Phase) → Phased p c → After (confirmIn p c)
   closes Quiet h = rephases _

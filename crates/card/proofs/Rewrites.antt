@@ -5,7 +5,7 @@ use mathlib.Core.Path.{_≡_, refl, sym, _∙_}
 use Prim.Native.Nat.{ℕ, _≤_}
 use native.Mathlib.Omega.{arith}
 use mathlib.Core.List.{List}
-use mathlib.Core.Bool.{Bool, true, false, not, _||_, false≢true}
+use mathlib.Core.Bool.{Bool, true, false, _||_, false≢true}
 use lib.ListN.{set, length-set}
 use lib.Seq.{getD-set-other}
 use lib.Dec.{eqb}
@@ -71,7 +71,7 @@ pub deletes : (c : Card) (i : ℕ) → Sound c → c .phase ≡ Quiet → mayBeD
 deletes c i s o m =
     let l = c .places in
     let d = deletable c i m in
-    sets c i vacant (c .phase) s (none-ok (c .capacity)) (sym (d .off)) (clear-distinct l i (s .placed .apart))
+    sets c i _ (c .phase) s (none-ok (c .capacity)) (sym (d .off)) (clear-distinct l i (s .placed .apart))
     (let q = set-quotas vacant l i (within l i (d .there)) in let r = s .placed .room in omega arith)
     (rw (getD-set-other l i (c .fallback) vacant vacant (λ q. d .apart (sym q))) (s .roles .resort))
     (rw o tt)

@@ -78,17 +78,17 @@ impl Card {
     pub fn may_be_deleted(self, i: u8) -> bool
         ensures { λ r. ⌜ r ≡ mayBeDeleted self i ⌝ }
     {
-        let p = self.profile(i);
-        let loading = (p.life == Isdp::SELECTABLE) | (p.life == Isdp::PERSONALIZED);
-        (loading | (p.life == Isdp::DISABLED)) & (i != self.fallback)
+        let life = self.profile(i).life;
+        let loading = (life == Isdp::SELECTABLE) | (life == Isdp::PERSONALIZED);
+        (loading | (life == Isdp::DISABLED)) & (i != self.fallback)
     }
 
     // May it be deleted by master delete, the token apart?
     pub fn may_be_master_deleted(self, i: u8) -> bool
         ensures { λ r. ⌜ r ≡ mayBeMasterDeleted self i ⌝ }
     {
-        let p = self.profile(i);
-        (p.life == Isdp::DISABLED) & (i != self.fallback)
+        let life = self.profile(i).life;
+        (life == Isdp::DISABLED) & (i != self.fallback)
     }
 
     // The whole record, spelled once.

@@ -2,23 +2,22 @@
 -- that AID follow; until it is finished its policy is empty. So the delete may be taken, and makes that place what it was, not held.
 -- By the laws of the calls, and induction over the inner calls. Assumes nothing.
 use mathlib.Core.Path.{_≡_, refl, sym, ap, subst, _∙_}
-use Prim.Native.Nat.{ℕ, _<_}
+use Prim.Native.Nat.{ℕ}
 use mathlib.Core.List.{List, [], _∷_}
-use mathlib.Core.Bool.{Bool, true, false, cond, _||_, false≢true}
+use mathlib.Core.Bool.{Bool, true, false, cond, false≢true}
 use lib.ListN.{length}
 use lib.Dec.{eqb}
 use borrow.Author.Tests.{eqb-true, eq-eqb, le-leb}
 use Rattle.status.specs.StatusWords.{isDone}
 use Rattle.status.specs.declared.Status.the-variants.{Done}
 use Rattle.isdp.specs.Aids.{aidOk, aidOf, bytesOf}
-use Rattle.isdp.specs.LifeCycle.{selectable, personalized, disabled, enabled, isLoading, withLife, withUsed, withPolicy, withMark}
-use Rattle.isdp.specs.Place.{vacant, made, held, placeOk}
-use Rattle.isdp.specs.declared.Aid.{Aid}
+use Rattle.isdp.specs.LifeCycle.{selectable, enabled, isLoading}
+use Rattle.isdp.specs.Place.{vacant, held, placeOk}
 use Rattle.isdp.specs.declared.Isdp.{Isdp}
 use Rattle.isdp.proofs.Bools.{both}
 use Rattle.isdp.proofs.Placed.{vacant-is, made-held, made-aid}
 use Rattle.places.proofs.Sets.{all-at, same-places}
-use Rattle.card.specs.Cards.{cardWith, placeOf, profileOf}
+use Rattle.card.specs.Cards.{cardWith}
 use Rattle.card.specs.Sound.{sound}
 use Rattle.card.specs.Ticks.{ticksByPhase}
 use Rattle.card.specs.Answers.{Outcome, accepted}
@@ -26,18 +25,16 @@ use Rattle.card.specs.declared.Card.{Card}
 use Rattle.card.specs.declared.Phase.{Phase}
 use Rattle.card.specs.declared.Phase.the-variants.{Quiet}
 use Rattle.card.proofs.Sounds.{parts, resort-nonzero}
-use Rattle.fields.specs.Grammar.{Created}
 use Rattle.fields.specs.Grammar as field
 use Rattle.command.specs.Grammar.{Encodes}
 use Rattle.steps.specs.Laws.Answer.{profileAt, Holds, Answers, onlyAt, replaced}
-use Rattle.steps.specs.Laws.Create.{LowestFree}
 use Rattle.steps.specs.Laws.Deletion.{MayDelete}
 use Rattle.steps.proofs.Laws.Places.{place-is}
 use Rattle.manager.specs.Calls.{Call, Call.Command}
 use Rattle.manager.specs.Manager.{step}
 use Rattle.manager.proofs.Kept.{step-sound}
 use Rattle.demands.specs.Engines.{reached, reachedBy}
-use Rattle.demands.specs.Room.{Inner, Inner.keyed, Inner.stored, Inner.finished, innerCall, innerCalls, Writes, Writes.commands, NoRoomLost}
+use Rattle.demands.specs.Room.{Inner, Inner.keyed, Inner.stored, Inner.finished, innerCall, innerCalls, Writes.commands, NoRoomLost}
 use Rattle.demands.proofs.Words.{done-as}
 use Rattle.demands.proofs.Frames.{taken-sound}
 use Rattle.demands.proofs.Taken.{takes-step}
@@ -162,7 +159,7 @@ module _ (c : Card) (aid : List ℕ) (t : ℕ) (d : Card) (h : Half c aid t d) (
       }
 
 pub no-room-lost : NoRoomLost
-unfolding reached
+unfolding reached ticksByPhase
 no-room-lost c v _ _ inner (commands verdict s room long encoded) (commands verdict' s' room' long' encoded') done half =
     let aid = v .aid in
     let creation = Command verdict s room in

@@ -7,7 +7,7 @@ profile-requires : tie.Need-profile-requires
 profile-requires c κs = search needs
 
 returns : tie.Need-returns
-returns c = rw (c .before .before .profile .ensures)
+returns c = rw (c .before .profile .ensures)
 
 pub may-be-master-deleted-spec : {M : Type 1} → statement M
 may-be-master-deleted-spec = tie.close (tie.spec profile-requires returns)
