@@ -34,35 +34,38 @@ fn name(last: u8) -> [u8; 5] {
     [0xA0, 0, 0, 0, last]
 }
 
-fn place(last: u8, life_cycle: u8, policy: u8, mark: u8, used: u32) -> Place {
-    Place { aid: Aid::of(&name(last)), life_cycle, quota: 50, used, policy, mark }
+fn place(name: &[u8], life_cycle: u8, policy: u8, mark: u8, used: u32) -> Place {
+    Place { aid: Aid::of(name), life_cycle, quota: 50, used, policy, mark }
 }
 
-/// 03 is the target; of the others one is ENABLED where it is not, and one is the fall-back where it is not.
-fn card_of(target: Place, fall_back: bool) -> Card {
-    let other = if target.life_cycle == ENABLED { DISABLED } else { ENABLED };
-    let mut card = Card { capacity: 1000, volatile: 9, last: 4, fall_back: 0, ..Card::ZEROS };
-    card.places[0] = place(1, other, 3, MARKED, 7);
-    card.places[1] = place(2, DISABLED, 4, 0, 50);
+/// 03 is the target. Below it stands one whose name begins like its own, above it two others and a half-loaded one.
+fn card_of(target: Place, enabled: usize, fall_back: usize) -> Card {
+    let mut card = Card { capacity: 1000, volatile: 9, last: 4, fall_back: fall_back as u8, ..Card::ZEROS };
+    card.places[0] = place(&[0xA0, 0, 0, 0, 3, 0], DISABLED, 3, MARKED, 7);
+    card.places[3] = place(&name(1), DISABLED, 0, MARKED, 9);
+    card.places[4] = place(&name(2), DISABLED, 4, MARKED, 50);
+    card.places[5] = place(&name(5), SELECTABLE, 2, MARKED, 1);
+    card.places[enabled].life_cycle = ENABLED;
     card.places[AT] = target;
-    card.places[5] = place(5, SELECTABLE, 2, MARKED, 1);
-    if fall_back {
-        card.fall_back = AT as u8;
-    }
     card
 }
 
-/// Every target of a row, with its policy, that leaves the card sound.
+/// Every sound card with a target of the row, and the target's policy. What the target is not, ENABLED or the fall-back, either
+/// of two others is.
 fn targets(row: &Row) -> Vec<(Card, usize)> {
+    let enabled: &[usize] = if row.life_cycle == ENABLED { &[AT] } else { &[0, 4] };
+    let fall_backs: &[usize] = if row.fall_back { &[AT] } else { &[0, 4] };
     let mut cards = Vec::new();
     for policy in 0..5u8 {
         for (mark, used) in [(0, 0), (0, 50), (1, 0), (1, 1), (1, 50)] {
-            let card = card_of(place(3, row.life_cycle, policy, mark, used), row.fall_back);
-            cards.push((card, usize::from(policy)));
+            let target = place(&name(3), row.life_cycle, policy, mark, used);
+            for enabled in enabled {
+                cards.extend(fall_backs.iter().map(|fall_back| card_of(target, *enabled, *fall_back)));
+            }
         }
     }
-    cards.retain(|(card, _)| card.is_sound());
-    cards
+    cards.retain(Card::is_sound);
+    cards.into_iter().map(|card| (card, usize::from(card.places[AT].policy))).collect()
 }
 
 fn element(tag: &[u8], value: &[u8]) -> Vec<u8> {
@@ -135,7 +138,7 @@ fn what_each_delete_takes() {
 /// The card with a change open, in each phase that is sound with it.
 fn opened(card: &Card) -> Vec<Card> {
     let mut cards = Vec::new();
-    for previous in [0, 1] {
+    for previous in [0, 4] {
         cards.push(Card { phase: Phase::Trial { previous, left: 7, number: 4 }, ..*card });
     }
     cards.push(Card { phase: Phase::Back { left: 10, number: 4 }, ..*card });
@@ -162,14 +165,37 @@ fn an_open_change_refuses_both_deletes() {
 
 #[test]
 fn what_is_not_held_or_not_sound_comes_before_the_state() {
-    let half_loaded = card_of(place(3, PERSONALIZED, 0, 0, 5), false);
+    let half_loaded = card_of(place(&name(3), PERSONALIZED, 0, 0, 5), 4, 0);
     holds(half_loaded, 1, &delete(9), 0x6A88);
     holds(half_loaded, 1, &master_delete(9), 0x6A88);
     // A half-loaded profile is no fall-back of a sound card.
     for life_cycle in [SELECTABLE, PERSONALIZED] {
-        let mut kept = Kept::of(card_of(place(3, life_cycle, 0, MARKED, 5), true));
+        let mut kept = Kept::of(card_of(place(&name(3), life_cycle, 0, MARKED, 5), 4, AT));
         assert_eq!(status(&mut kept, &delete(3)), 0x6F00);
         assert_eq!(status(&mut kept, &master_delete(3)), 0x6F00);
+    }
+}
+
+/// The deletion at confirmation asks what it asked: in Trial the policy of the previous profile, and no half-loaded one.
+#[test]
+fn a_confirmation_deletes_no_half_loaded_profile() {
+    let confirm = [0x80, 0xE2, 0x89, 0, 7, 0x3A, 8, 4, 0x4E, 2, 0, 4];
+    for life_cycle in [SELECTABLE, PERSONALIZED] {
+        let card = card_of(place(&name(3), life_cycle, 4, 0, 5), 0, 0);
+        for (phase, deleted) in [
+            (Phase::Trial { previous: 4, left: 3, number: 4 }, Some(4)),
+            (Phase::Trial { previous: 3, left: 3, number: 4 }, None),
+            (Phase::Back { left: 3, number: 4 }, None),
+            (Phase::Fallen { left: 3, number: 4 }, None),
+        ] {
+            let mut kept = Kept::of(Card { phase, ..card });
+            assert_eq!(status(&mut kept, &confirm), 0x9000);
+            let mut wanted = card;
+            if let Some(index) = deleted {
+                wanted.places[index] = Place::ZERO;
+            }
+            assert_eq!(*kept.card(), wanted);
+        }
     }
 }
 
@@ -215,16 +241,17 @@ fn a_freed_place_is_filled_anew() {
         let mut kept = fresh();
         for last in 2..=8 {
             assert_eq!(status(&mut kept, &create(last, 100)), 0x9000);
+            assert_eq!(manager::keyed(&mut kept, &name(last)).status, 0x9000);
         }
         let gone = at as u8 + 1;
         let full = kept;
         assert_eq!(status(&mut kept, &create(9, 1)), 0x6A84);
-        assert_eq!(manager::keyed(&mut kept, &name(gone)).status, 0x9000);
         assert_eq!(manager::stored(&mut kept, &name(gone), 100).status, 0x9000);
         assert_eq!(status(&mut kept, &delete(gone)), 0x9000);
         // 1000 less eight quotas of 100 left 200 free; the one deleted makes them 300.
         assert_eq!(status(&mut kept, &create(gone, 301)), 0x6A84);
         assert_eq!(status(&mut kept, &create(gone, 100)), 0x9000);
+        assert_eq!(manager::keyed(&mut kept, &name(gone)).status, 0x9000);
         assert_eq!(kept, full);
         assert_eq!(status(&mut kept, &delete(gone)), 0x9000);
         assert_eq!(status(&mut kept, &create(9, 300)), 0x9000);
