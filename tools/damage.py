@@ -109,6 +109,9 @@ def crowd(chance, many):
     for at, who in enumerate(names):
         parts = [who, chance.choice(names[:at])] if at and chance.random() < 0.1 else [who]
         for one in parts:
+            if chance.random() < 0.1:
+                # Its first download breaks off at one of its steps.
+                made += loaded(one)[: chance.randrange(1, 4)] + deletes(one)
             changes += 1
             made += profile(one, 4, chance.choice((None, 0, 1))) + enables(one) + ticks(chance.randrange(10)) + confirms(changes) + ticks(chance.choice((0, 0, 1, 3, 12)))
         if chance.random() < 0.1:

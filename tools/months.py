@@ -357,6 +357,49 @@ reported("deleted-by-master-delete", of(kept + master(2, 0) + master(2, 2) + mas
 reported("master-delete-without-its-verdict", of(profile(2) + master(2, 0) + master(2, 2) + enables(2) + ticks(2)), {1: 0, 2: 2}, 9, no=2)
 reported("master-delete-with-its-verdict", of(profile(2) + master(2, 1) + enables(2) + ticks(2)), {1: 2}, 8, no=1)
 
+# ---------------------------------------------------------------- a broken download deleted
+
+def nine_minutes(who):
+    """Enabled by the first change, confirmed, and nine ticks: eleven events."""
+    return enables(who) + ticks(4) + confirms(1) + ticks(5)
+
+
+reported("a-broken-download-has-no-line", of(ticks(2) + loaded(2) + deletes(2) + ticks(3)), {1: 5}, 9)
+# By the old rule the minutes were the same, but the delete, the creation and, in two of them, keyed were refused.
+for what, start in (("created", makes(2)), ("keyed", makes(2) + keyed(2)), ("loaded", loaded(2))):
+    again = start + ticks(3) + deletes(2) + profile(2) + nine_minutes(2)
+    reported(f"{what}-deleted-created-again-and-enabled", of(again), {1: 3, 2: 9}, len(start) + 19)
+# By the old rule 02 was held still, was finished and enabled, and had all nine minutes.
+reported("loaded-deleted-and-not-created-again", of(loaded(2) + deletes(2) + finished(2) + nine_minutes(2)), {1: 9}, 16, no=3)
+# By the old rule there was no room for 03, no place for 09 and no room for 2A: 01 had all nine minutes.
+full = makes(2, quota=900) + keyed(2) + stored(2, 900)
+reported("the-room-of-a-broken-download", of(full + deletes(2) + profile(3) + nine_minutes(3)), {1: 0, 3: 9}, 19)
+eight = [one for who in range(2, 9) for one in makes(who)]
+reported("the-place-of-a-broken-download", of(eight + makes(9) + deletes(5) + profile(9) + nine_minutes(9)), {1: 0, 9: 9}, 24, no=1)
+forty = [one for who in range(2, 42) for one in makes(who, quota=900) + keyed(who) + deletes(who)]
+reported("forty-broken-downloads-and-a-whole-one", of(forty + profile(42) + nine_minutes(42)), {1: 0, 42: 9}, 135)
+# The line has the minutes of both lives, and none of the broken download between them.
+lives = gone + loaded(2) + ticks(3) + deletes(2) + profile(2) + enables(2) + ticks(5) + confirms(3)
+reported("a-broken-download-between-two-lives", of(lives), {1: 3, 2: 7}, 29)
+# Master delete leaves what is half-loaded, so that it can be finished.
+for verdict in (0, 1, 2):
+    left = loaded(2) + master(2, verdict) + finished(2)
+    reported(f"master-delete-of-a-loaded-one-with-verdict-{verdict}", of(left + nine_minutes(2)), {1: 0, 2: 9}, 16, no=1)
+left = makes(2) + master(2, 1) + keyed(2) + master(2, 1) + stored(2) + master(2, 1) + finished(2) + master(2, 0)
+reported("master-delete-at-each-step-of-a-download", of(left + nine_minutes(2)), {1: 0, 2: 9}, 19, no=4)
+reported("master-delete-once-it-is-finished", of(left + master(2, 1) + nine_minutes(2)), {1: 9}, 20, no=6)
+# While a change is open the delete is refused, and 03 can be finished and then enabled; once it is closed 03 is deleted, and cannot.
+whole, deleted = finished(3) + enables(3) + ticks(2), deletes(3) + finished(3) + enables(3) + ticks(2)
+trial = profile(2) + loaded(3) + enables(2) + ticks() + deletes(3) + confirms(1)
+reported("a-broken-download-in-a-trial", of(trial + whole), {1: 0, 2: 1, 3: 2}, 15, no=1)
+reported("a-broken-download-after-a-trial", of(trial + deleted), {1: 0, 2: 3}, 16, no=3)
+back = profile(2) + loaded(3) + enables(2) + ticks(19) + deletes(3) + ticks()
+reported("a-broken-download-in-back", of(back + whole), {1: 10, 2: 10, 3: 2}, 33, no=1)
+reported("a-broken-download-after-back", of(back + deleted), {1: 12, 2: 10}, 34, no=3)
+fallen = profile(2) + enables(2) + confirms(1) + loaded(3) + lost() + ticks(9) + deletes(3) + ticks()
+reported("a-broken-download-when-fallen", of(fallen + whole), {1: 10, 2: 0, 3: 2}, 25, no=1)
+reported("a-broken-download-after-it-has-fallen", of(fallen + deleted), {1: 12, 2: 0}, 26, no=3)
+
 # ---------------------------------------------------------------- AIDs that are nearly the same
 
 # One is the beginning of the next, and zeros follow it: only their lengths tell them apart.

@@ -143,6 +143,31 @@ def not_ready(step):
     step(2, no("6985"))
 
 
+def broken(n, calls, quota=50, used=5):
+    """A download that stops after so many of its calls: created, keyed, stored."""
+    makes(n, quota=quota)
+    if calls > 1:
+        keyed(n)
+    if calls > 2:
+        stored(n, used)
+
+
+def stays(n, ticks=0):
+    """Both deletes are refused by 69 85, whatever the verdict."""
+    deletes(n, no("6985", ticks))
+    for verdict in (0, 1, 2):
+        master(n, no("6985", ticks), verdict)
+
+
+def gone(n):
+    """Every call that names a profile finds none, create apart."""
+    for step in (enables, disables, sets, deletes, master, keyed):
+        step(n, no("6A88"))
+    stored(n, 0, no("6A88"))
+    finished(n, 0, no("6A88"))
+    command(status(four_f(aid(n))), no("6A88"))
+
+
 def card(answer, places=(), **more):
     call(card_line(places, **more), answer)
 
@@ -506,15 +531,17 @@ table((1, E, True))
 figures(1, 900)
 deletes(2, no("6A88"))
 
-name("delete refused: each wrong state, the fall-back, the policy, a change open")
-not_ready(deletes)
+# SELECTABLE and PERSONALIZED were wrong states here until request 2026-03, "69 85 for Delete narrows to ENABLED or fall-back": they are taken below.
+name("delete refused: not held, ENABLED, the fall-back, the policy, a change open")
+fresh()
+profile(2, 2)
+deletes(3, no("6A88"))
 deletes(1, no("6985"))
-stored(2, 1)
-finished(2, 2)
 deletes(2, no("69E1"))
 profile(3)
 sets(3)
 deletes(3, no("6985"))
+deletes(1, no("6985"))
 profile(4)
 enables(3, done(30, notification=note(2, 1, 3)))
 deletes(4, no("6985", 30))
@@ -1326,6 +1353,544 @@ sets(8)
 table((1, E), *[(n, D) for n in range(2, 8)], (8, D, True))
 call("lost", done(10, notification=note(5, 1, 8)))
 
+# ---------------------------------------------------------------- request 2026-03: room after a broken download
+
+name("B60: delete of a profile just created: its row, its place and its quota are gone")
+fresh()
+table((1, E, True))
+figures(1, 900)
+makes(2)
+table((1, E, True), (2, S))
+figures(2, 850)
+deletes(2)
+table((1, E, True))
+figures(1, 900)
+gone(2)
+makes(2)
+table((1, E, True), (2, S))
+figures(2, 850)
+
+name("B60: delete of a profile that is keyed")
+fresh()
+broken(2, 2, quota=300)
+table((1, E, True), (2, P))
+figures(2, 600)
+deletes(2)
+table((1, E, True))
+figures(1, 900)
+gone(2)
+
+name("B60: delete after stored: free grows by the quota, whatever was stored of it")
+for used in (0, 1, 20, 49, 50):
+    fresh()
+    broken(2, 3, used=used)
+    table((1, E, True), (2, P))
+    figures(2, 850)
+    deletes(2)
+    table((1, E, True))
+    figures(1, 900)
+gone(2)
+
+name("B60: a profile that had all the room, stored full: quotas over free are taken again, and one over it is not")
+fresh()
+broken(2, 3, quota=900, used=900)
+figures(2, 0)
+makes(3, no("6A84"), quota=1)
+deletes(2)
+figures(1, 900)
+makes(3, no("6A84"), quota=901)
+makes(3, quota=900)
+figures(2, 0)
+
+name("B60: the largest quota and the smallest")
+fresh(capacity=1048576, quota=1)
+makes(2, quota=1048575)
+figures(2, 0)
+makes(3, no("6A84"), quota=1)
+deletes(2)
+figures(1, 1048575)
+broken(3, 3, quota=1, used=1)
+figures(2, 1048574)
+deletes(3)
+figures(1, 1048575)
+
+name("B60: half-loaded profiles of several quotas: each gives back its own")
+fresh()
+makes(2, quota=70)
+broken(3, 3, quota=200, used=199)
+broken(4, 2, quota=7)
+figures(4, 623)
+deletes(3)
+figures(3, 823)
+deletes(2)
+figures(2, 893)
+deletes(4)
+figures(1, 900)
+
+name("B60: delete twice, and again after the AID was created again")
+fresh()
+for calls in (1, 2, 3):
+    broken(2, calls)
+    deletes(2)
+    deletes(2, no("6A88"))
+figures(1, 900)
+
+name("B60: a freed place below others is the next one taken, and no other moves")
+fresh()
+for n in (2, 3, 4, 5):
+    makes(n)
+deletes(3)
+table((1, E, True), (2, S), (4, S), (5, S))
+makes(6)
+table((1, E, True), (2, S), (6, S), (4, S), (5, S))
+deletes(5)
+deletes(2)
+makes(7)
+table((1, E, True), (7, S), (6, S), (4, S))
+makes(8)
+table((1, E, True), (7, S), (6, S), (4, S), (8, S))
+makes(2)
+table((1, E, True), (7, S), (6, S), (4, S), (8, S), (2, S))
+figures(6, 650)
+
+name("B60: of several freed places the lowest is taken first, in whatever order they were freed")
+fresh()
+for n in range(2, 7):
+    broken(n, 1 + n % 3)
+for n in (2, 6, 4):
+    deletes(n)
+table((1, E, True), (3, S), (5, P))
+for n in (7, 8, 9):
+    makes(n)
+table((1, E, True), (7, S), (3, S), (8, S), (5, P), (9, S))
+
+name("B60: the same AID created again in a lower place than it had")
+fresh()
+makes(2)
+broken(3, 3)
+deletes(2)
+deletes(3)
+makes(3, quota=30)
+table((1, E, True), (3, S))
+makes(2)
+table((1, E, True), (3, S), (2, S))
+figures(3, 820)
+
+name("B60: eight are held, one of them half-loaded: its place is the ninth's")
+for n, calls in ((2, 3), (5, 2), (8, 1)):
+    fresh()
+    for other in range(2, 9):
+        broken(other, calls if other == n else 1)
+    figures(8, 550)
+    makes(9, no("6A84"))
+    deletes(n)
+    figures(7, 600)
+    makes(9)
+    table((1, E, True), *[(9 if other == n else other, S) for other in range(2, 9)])
+    makes(n, no("6A84"))
+    figures(8, 550)
+
+name("B60: the eighth created, deleted and created again")
+fresh()
+for n in range(2, 8):
+    makes(n)
+for calls in (1, 2, 3):
+    broken(8, calls)
+    makes(9, no("6A84"))
+    deletes(8)
+    figures(7, 600)
+makes(9)
+makes(8, no("6A84"))
+table((1, E, True), *[(n, S) for n in range(2, 8)], (9, S))
+
+name("B60: eight are held and nothing is free: once the eighth is deleted its quota is taken again, and one byte more is not")
+fresh()
+for n in range(2, 8):
+    makes(n, quota=100)
+broken(8, 3, quota=300, used=300)
+figures(8, 0)
+makes(9, no("6A84"), quota=1)
+deletes(8)
+figures(7, 300)
+makes(9, no("6A84"), quota=301)
+makes(9, quota=300)
+figures(8, 0)
+makes(8, no("6A84"), quota=1)
+deletes(9)
+makes(8, quota=1)
+figures(8, 299)
+
+name("B60: created again with a larger quota, and with a smaller one")
+fresh()
+for quota, free in ((1, 899), (900, 0), (30, 870)):
+    makes(2, quota=quota)
+    figures(2, free)
+    keyed(2)
+    stored(2, quota + 1, no("6A84"))
+    stored(2, quota)
+    deletes(2)
+    figures(1, 900)
+
+name("B60: many broken downloads one after the other, each of all the room")
+fresh()
+for n in range(2, 14):
+    broken(n, 1 + n % 3, quota=900, used=n)
+    makes(1 + n, no("6A84"), quota=1)
+    deletes(n)
+figures(1, 900)
+table((1, E, True))
+
+name("000, 3.1.4: the download fails at each of its steps and is begun again, until it is whole")
+fresh()
+for calls in (1, 2, 3):
+    broken(2, calls, used=50)
+    deletes(2)
+profile(2)
+enables(2, done(20, notification=note(2, 1, 2)))
+confirms(1)
+table((1, D, True), (2, E))
+stays(2)
+
+name("B60: created again, it has used 0: it is not finished at once, and stores its whole quota")
+for used in (0, 3, 50):
+    card(done(), [place(1, E), place(2, P, used=used, policy=1)])
+    deletes(2)
+    makes(2)
+    stored(2, 0, no("6985"))
+    keyed(2)
+    finished(2, 0, no("6985"))
+    stored(2, 51, no("6A84"))
+    stored(2, 50)
+    stored(2, 1, no("6A84"))
+    finished(2, mark=0)
+    sets(2, no("6985"))
+
+name("B60: created again it has no policy: that of a whole profile does not outlive its deletion")
+fresh()
+profile(2, 2)
+master(2)
+makes(2)
+deletes(2)
+profile(2, 3)
+deletes(2, no("69E1"))
+master(2)
+broken(2, 3)
+deletes(2)
+profile(3, 4)
+deletes(3)
+broken(3, 2)
+deletes(3)
+figures(1, 900)
+
+name("B61: master delete of a half-loaded profile is 69 85, whatever the verdict, and changes nothing")
+fresh()
+makes(2)
+for verdict in (0, 1, 2, 255):
+    master(2, no("6985"), verdict)
+table((1, E, True), (2, S))
+figures(2, 850)
+keyed(2)
+for used in (0, 5, 45):
+    stored(2, used)
+    for verdict in (0, 1, 2, 255):
+        master(2, no("6985"), verdict)
+table((1, E, True), (2, P))
+figures(2, 850)
+deletes(2)
+master(2, no("6A88"))
+
+name("B61: master delete of a DISABLED profile as before: by verdict 1 alone, against any policy")
+fresh()
+for policy in range(5):
+    profile(2, policy)
+    for verdict in (0, 2, 3, 128, 255):
+        master(2, no("6982"), verdict)
+    table((1, E, True), (2, D))
+    master(2)
+    master(2, no("6A88"))
+    figures(1, 900)
+card(done(), [place(1, E), place(2, D, used=0), place(3, D, used=50, mark=0)])
+master(2)
+master(3)
+table((1, E, True))
+
+name("B61: once it is finished, master delete takes it")
+fresh()
+loaded(2)
+master(2, no("6985"))
+finished(2, 2)
+deletes(2, no("69E1"))
+master(2, no("6982"), 0)
+master(2)
+gone(2)
+
+name("B60: ENABLED is 69 85, the fall-back and not; so is the DISABLED fall-back")
+fresh()
+profile(2)
+stays(1)
+enables(2, done(20, notification=note(2, 1, 2)))
+confirms(1)
+stays(1)
+stays(2)
+sets(2)
+stays(2)
+deletes(1)
+table((2, E, True))
+figures(1, 950)
+makes(3)
+table((3, S), (2, E, True))
+deletes(3)
+table((2, E, True))
+
+name("B60: the state stands before the policy and before the verdict: ENABLED and fall-back with each policy")
+for policy in range(5):
+    card(done(), [place(1, D, policy=policy), place(2, E, policy=policy)])
+    stays(1)
+    stays(2)
+    card(done(), [place(1, D), place(2, E, policy=policy)], fall_back=1)
+    stays(2)
+    table((1, D), (2, E, True))
+
+name("B60: in Trial delete is refused, of SELECTABLE, PERSONALIZED and what is not held too; confirmed, it is taken")
+fresh()
+profile(2)
+for calls in (1, 2, 3):
+    broken(2 + calls, calls)
+enables(2, done(20, notification=note(2, 1, 2)))
+for n in (3, 4, 5, 9):
+    stays(n, ticks=20)
+table((1, D, True), (2, E), (3, S), (4, P), (5, P), ticks=20)
+figures(5, 700, ticks=20)
+confirms(1)
+for n in (3, 4, 5):
+    deletes(n)
+table((1, D, True), (2, E))
+figures(2, 850)
+
+name("B60: in Back delete is refused; the roll-back confirmed, it is taken")
+fresh()
+profile(2)
+makes(3)
+broken(4, 3)
+enables(2, done(20, notification=note(2, 1, 2)))
+ticks([*count(19, 11), (10, note(3, 2, 1))])
+stays(3, ticks=10)
+stays(4, ticks=10)
+call("tick", done(9))
+deletes(3, no("6985", 9))
+confirms(2)
+deletes(3)
+deletes(4)
+table((1, E, True), (2, D))
+
+name("B60: in Fallen delete is refused up to the tenth tick; closed by it, delete is taken")
+fresh()
+profile(2)
+enables(2, done(20, notification=note(2, 1, 2)))
+confirms(1)
+makes(3)
+broken(4, 2)
+call("lost", done(10, notification=note(5, 2, 1)))
+stays(3, ticks=10)
+stays(4, ticks=10)
+ticks(count(9, 1))
+deletes(3, no("6985", 1))
+deletes(4, no("6985", 1))
+call("tick", done())
+deletes(3)
+deletes(4)
+table((1, E, True), (2, D))
+
+name("B60: in Fallen, confirmed, delete is taken")
+card(done(), [place(1, D), place(2, E), place(3, S), place(4, P)])
+call("lost", done(10, notification=note(5, 1, 1)))
+deletes(3, no("6985", 10))
+confirms(1)
+deletes(3)
+deletes(4)
+table((1, E, True), (2, D))
+
+name("B60: through Trial, Back and Fallen delete is refused after every tick but the thirtieth")
+card(done(), [place(1, D), place(2, E), place(3, D), place(4, S), place(5, P)])
+enables(3, done(30, notification=note(2, 1, 3)))
+for left in count(29, 1):
+    ticks([{20: (20, note(3, 2, 2)), 10: (10, note(5, 3, 1))}.get(left, left)])
+    deletes(4 + left % 2, no("6985", left))
+call("tick", done())
+deletes(4)
+deletes(5)
+table((1, E, True), (2, D), (3, D))
+
+name("B60: records handed in with a change open: an open change stands before the policy and before what is not held")
+half = [place(1, D), place(2, E), place(3, S, policy=2), place(4, P), place(5, D)]
+for phase, to_come in (("T:4:5:9", 25), ("T:0:5:9", 15), ("B:5:9", 15)):
+    card(done(to_come), half, last=9, phase=phase)
+    for n in (1, 2, 3, 4, 5, 9):
+        stays(n, ticks=to_come)
+fallen = [place(1, E), place(2, S), place(3, P, policy=3), place(4, P)]
+for phase in ("B:5:9", "F:5:9"):
+    card(done(5), fallen, last=9, phase=phase)
+    for n in (1, 2, 3, 4, 9):
+        stays(n, ticks=5)
+
+name("B60: a download that goes on while a change is open, and is deleted after it")
+fresh()
+profile(2)
+makes(3)
+enables(2, done(20, notification=note(2, 1, 2)))
+keyed(3, done(20))
+stored(3, 50, done(20))
+stored(3, 1, no("6A84", 20))
+deletes(3, no("6985", 20))
+figures(3, 800, ticks=20)
+confirms(1)
+deletes(3)
+figures(2, 850)
+
+name("B62: records handed in: the policy of a half-loaded profile is asked, 02 and 03 are 69 E1, the others 90 00")
+for state in (S, P):
+    for policy, forbids in ((0, False), (1, False), (2, True), (3, True), (4, False)):
+        for used, mark in ((0, 0), (5, 1), (50, 0)):
+            card(done(), [place(1, E), place(2, state, used=used, policy=policy, mark=mark)])
+            deletes(2, no("69E1") if forbids else None)
+            table((1, E, True), *[(2, state)] * forbids)
+            figures(1 + forbids, 900 if forbids else 950, volatile=7)
+
+name("B62: master delete asks no policy, and a half-loaded profile stays whatever it is")
+for state in (S, P):
+    for policy in range(5):
+        card(done(), [place(1, E), place(2, state, policy=policy)])
+        for verdict in (0, 1, 2):
+            master(2, no("6985"), verdict)
+table((1, E, True), (2, P))
+
+name("B62: a policy handed in gives way to that of finished, and keyed and stored leave it")
+card(done(), [place(1, E), place(2, P, policy=2), place(3, S, policy=3), place(4, P, policy=0)])
+deletes(2, no("69E1"))
+finished(2)
+deletes(2)
+keyed(3)
+stored(3, 1)
+deletes(3, no("69E1"))
+finished(3, 4)
+deletes(3)
+finished(4, 2)
+deletes(4, no("69E1"))
+table((1, E, True), (4, D))
+
+name("B62: from fresh on no policy is met before finished, whatever the others' policies are")
+fresh()
+profile(2, 3)
+profile(3, 4)
+for calls in (1, 2, 3):
+    broken(4, calls)
+    deletes(2, no("69E1"))
+    deletes(4)
+deletes(3)
+table((1, E, True), (2, D))
+
+name("B60: delete issues no number and opens no change")
+fresh()
+profile(2)
+makes(3)
+deletes(3)
+enables(2, done(20, notification=note(2, 1, 2)))
+confirms(1)
+broken(3, 3)
+deletes(3)
+confirms(1, no("6985"))
+call("tick", done())
+enables(1, done(30, notification=note(2, 2, 1)))
+card(done(), [place(1, E), place(2, D), place(3, P)], last=65535)
+deletes(3)
+enables(2, done(20, notification=note(2, 0, 2)))
+
+name("B60: delete reads no verdict")
+for verdict in (0, 1, 2, 255):
+    for calls in (1, 3):
+        fresh()
+        broken(2, calls)
+        command(delete(four_f()), done(response="00"), verdict)
+
+name("B60: the rows of reading stand before the target's state")
+fresh()
+makes(2)
+command(delete(four_f()), no("6F02"), buffer=255)
+command("80E40000" + delete(four_f())[8:], no("6A86"))
+command(delete(four_f()) + "01", no("6700"))
+command(delete(four_f("A0000000")), no("6A80"))
+command(delete(four_f() + b6()), no("6A80"), 1)
+command(delete(four_f() + TOKEN), no("6A80"), 1)
+command(delete(four_f() + four_f()), no("6A80"))
+table((1, E, True), (2, S))
+command(delete(four_f()), done(response="00"), buffer=1024)
+
+name("B60: AIDs of half-loaded profiles are told by their length, too")
+fresh()
+for other in ("A00000000100", "A0000000010000", AID16):
+    makes(0, a=other)
+command(delete(four_f("A000000001000000")), no("6A88"))
+command(delete(four_f(AID16[:-2])), no("6A88"))
+command(delete(four_f("A00000000100")), done(response="00"))
+table((1, E, True), ("A0000000010000", S), (AID16, S))
+command(delete(four_f(AID16)), done(response="00"))
+command(delete(four_f("A000000001")), no("6985"))
+makes(0, a="A00000000100")
+table((1, E, True), ("A00000000100", S), ("A0000000010000", S))
+
+name("B60: the others stay as they were: state, quota, used, policy, mark, and the fall-back")
+others = [place(2, P, quota=60, used=59), place(3, D, policy=2, mark=0), place(4, E, policy=1, mark=0), place(5, D)]
+card(done(), [place(1, S), *others, place(6, P, policy=4)], fall_back=4)
+table((1, S), (2, P), (3, D), (4, E), (5, D, True), (6, P))
+deletes(1)
+table((2, P), (3, D), (4, E), (5, D, True), (6, P))
+deletes(6)
+table((2, P), (3, D), (4, E), (5, D, True))
+figures(4, 790, volatile=7)
+stored(2, 2, no("6A84"))
+stored(2, 1)
+deletes(3, no("69E1"))
+sets(3, no("6985"))
+enables(3, no("69E1"))
+disables(4, no("69E1"))
+call("lost", done(10, notification=note(5, 1, 5)))
+confirms(1)
+table((2, P), (3, D), (4, D), (5, E, True))
+
+name("B60: places above a freed one keep their numbers: the previous profile and the fall-back are still found")
+card(done(), [place(1, S), place(2, D), place(3, E), place(4, D)], fall_back=3)
+deletes(1)
+enables(2, done(30, notification=note(2, 1, 2)))
+ticks([*count(29, 21), (20, note(3, 2, 3)), *count(19, 11), (10, note(5, 3, 4)), *count(9, 0)])
+table((2, D), (3, D), (4, E, True))
+
+name("B63: the deletion at confirmation takes what it took: the previous profile, and no half-loaded one")
+card(done(), [place(1, E), place(2, D, policy=4), place(3, S, policy=4), place(4, P, policy=4)])
+enables(2, done(20, notification=note(2, 1, 2)))
+confirms(1)
+enables(1, done(30, notification=note(2, 2, 1)))
+confirms(2, done(response="80074F05A000000002"))
+table((1, E, True), (3, S), (4, P))
+makes(2)
+table((1, E, True), (2, S), (3, S), (4, P))
+for n in (2, 3, 4):
+    deletes(n)
+table((1, E, True))
+figures(1, 950, volatile=7)
+
+name("B60: on a card that is not sound both deletes are 6F 00")
+for broken_card, fall_back in (
+    ([place(1, E, mark=0), place(2, S)], 0),
+    ([place(1, E), place(2, S)], 1),
+    ([place(1, E), place(2, P)], 1),
+    ([place(1, E), place(2, P, used=51)], 0),
+    ([place(1, E), place(2, S, policy=5)], 0),
+    ([place(1, E), place(2, "03")], 0),
+):
+    card(no("6F00"), broken_card, fall_back=fall_back)
+    deletes(2, no("6F00"))
+    master(2, no("6F00"))
+
 # ---------------------------------------------------------------- how a line may be written
 
 name("words: spaces, hex in either case, numbers with leading zeros")
@@ -1343,10 +1908,11 @@ card(no("6F00"), [place(1, E), place(2, D, mark=255)])
 card(done(), [place(1, E), place(2, D, mark="000")])
 store_away("scenarios")
 
-# ---------------------------------------------------------------- the mark in the explained form
+# ---------------------------------------------------------------- the mark, and what a deletion leaves, in the explained form
 
 DONE, WRONG_STATE, UNSOUND = "90 00 done", "69 85 a change is open, or none is, or the target's state is wrong", "6F 00 the card is not sound"
 WRONG_VALUE, TAKEN = "6A 80 data field or values wrong, or AID already held", ["response 00"]
+FORBIDDEN = "69 E1 the policy forbids it"
 
 
 def holds(line, word, two, three=None, fall_back=1, more=()):
@@ -1399,6 +1965,59 @@ explained(
     (2, aid(3), "ENABLED", 50, 5, "", "", "none"),
     phase="back: ticks left 7, number 9", ticks=17,
 )
+
+name("B60: a broken download deleted: the card is whole as it was before the creation; created again it begins anew")
+DELETES = [f"command 0 {delete(four_f(aid(n)))}" for n in (2, 3)]
+MASTER_DELETE = f"command 1 {delete(four_f() + b6() + TOKEN)}"
+FULL = ("PERSONALIZED", 50, "", "none")
+STEPS = [(CREATIONS[0], MADE), (f"keyed {B}", KEYED), (f"stored {B} 5", LOADED), (f"stored {B} 45", FULL)]
+holds(f"fresh {EID} {F} 1000 100 10 0", DONE, None)
+for calls in range(1, len(STEPS) + 1):
+    for line, made in STEPS[:calls]:
+        holds(line, DONE, made, more=TAKEN if made == MADE else ())
+    holds(MASTER_DELETE, WRONG_STATE, made)
+    holds(DELETES[0], DONE, None, more=TAKEN)
+holds(CREATIONS[0], DONE, MADE, more=TAKEN)
+holds(CREATIONS[1], DONE, MADE, MADE, more=TAKEN)
+holds(DELETES[0], DONE, None, MADE, more=TAKEN)
+holds(CREATIONS[0], DONE, MADE, MADE, more=TAKEN)
+
+name("B62: half-loaded records with used bytes, policies and marks: refused they are as they were, deleted nothing of them is left")
+ONE = (0, aid(1), "ENABLED", 50, 5, "yes", "yes", "none")
+TWO = (1, B, "PERSONALIZED", 50, 50, "", "yes", "deleted once disabled")
+THREE = (2, aid(3), "SELECTABLE", 50, 7, "", "yes", "deletion forbidden")
+FOUR = (3, aid(4), "DISABLED", 50, 5, "", "", "disabling forbidden")
+AGAIN = (1, B, "SELECTABLE", 30, 0, "", "", "none")
+half = [place(1, E), place(2, P, used=50, policy=4), place(3, S, used=7, policy=2), place(4, D, policy=1, mark=0)]
+explained(card_line(half), DONE, ONE, TWO, THREE, FOUR)
+explained(MASTER_DELETE, WRONG_STATE, ONE, TWO, THREE, FOUR)
+explained(DELETES[1], FORBIDDEN, ONE, TWO, THREE, FOUR)
+explained(DELETES[0], DONE, ONE, THREE, FOUR, more=TAKEN)
+explained(f"command 0 {create(params=C9 + ef(30))}", DONE, ONE, AGAIN, THREE, FOUR, more=TAKEN)
+explained(f"keyed {aid(3)}", DONE, ONE, AGAIN, (2, aid(3), "PERSONALIZED", 50, 7, "", "yes", "deletion forbidden"), FOUR)
+explained(f"finished {aid(3)} 0 0", DONE, ONE, AGAIN, (2, aid(3), "DISABLED", 50, 7, "", "", "none"), FOUR)
+explained(DELETES[1], DONE, ONE, AGAIN, FOUR, more=TAKEN)
+explained(DELETES[0], DONE, ONE, FOUR, more=TAKEN)
+
+
+def changing(line, word, one, three, *two, **more):
+    """A call on a card of 01 and 03, of which one is ENABLED, and of 02 where it is held."""
+    first, last = ((n - 1, aid(n), state, 50, 5, fall_back, "yes", "none") for n, state, fall_back in ((1, one, "yes"), (3, three, "")))
+    explained(line, word, first, *two, last, **more)
+
+
+name("B60: refused in Trial and in Back, the card and its clock are as they were; after the confirmation it is deleted")
+TRIAL = {"phase": "trial: previous at place 0, ticks left 1, number 9", "ticks": 11}
+BACK = {"phase": "back: ticks left 10, number 10", "ticks": 10}
+HALF = (1, B, "PERSONALIZED", 50, 50, "", "", "none")
+half = [place(1, D), place(2, P, used=50, mark=0), place(3, E)]
+changing(card_line(half, last=9, phase="T:0:1:9"), DONE, "DISABLED", "ENABLED", HALF, **TRIAL)
+changing(DELETES[0], WRONG_STATE, "DISABLED", "ENABLED", HALF, **TRIAL)
+changing(MASTER_DELETE, WRONG_STATE, "DISABLED", "ENABLED", HALF, **TRIAL)
+changing("tick", DONE, "ENABLED", "DISABLED", HALF, more=["notification 10: rolled back, A000000001 enabled"], **BACK)
+changing(DELETES[0], WRONG_STATE, "ENABLED", "DISABLED", HALF, **BACK)
+changing(f"command 0 {store('3A08', '4E02000A')}", DONE, "ENABLED", "DISABLED", HALF)
+changing(DELETES[0], DONE, "ENABLED", "DISABLED", more=TAKEN)
 store_away("explained", "\n\n", ["explain"])
 
 # ---------------------------------------------------------------- lines that cannot be read

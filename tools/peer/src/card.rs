@@ -219,6 +219,18 @@ impl Card {
         index == self.fall_back as usize
     }
 
+    /// What delete takes. SELECTABLE and PERSONALIZED are what a download that breaks off leaves
+    /// behind (000, 3.1.4), so their room has to come back too.
+    pub fn may_be_deleted(&self, index: usize) -> bool {
+        matches!(self.places[index].life_cycle, SELECTABLE | PERSONALIZED | DISABLED) && !self.is_fall_back(index)
+    }
+
+    /// What master delete takes (000, 4.1.1.6): it overrules the policy of a whole profile, and is
+    /// no way to clear away a broken download.
+    pub fn may_be_master_deleted(&self, index: usize) -> bool {
+        self.places[index].life_cycle == DISABLED && !self.is_fall_back(index)
+    }
+
     pub fn is_open(&self) -> bool {
         self.phase != Phase::Quiet
     }

@@ -4,6 +4,8 @@
 
 mod answers;
 mod card;
+#[cfg(test)]
+mod deletion_tests;
 mod events;
 mod manager;
 mod minutes;

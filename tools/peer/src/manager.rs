@@ -203,25 +203,25 @@ fn set_fall_back(card: &mut Card, aid: &[u8]) -> Result<Done, u16> {
     Ok(Done::default())
 }
 
-fn deletable(card: &Card, aid: &[u8]) -> Result<usize, u16> {
+fn delete(card: &mut Card, aid: &[u8], buffer: &mut [u8]) -> Result<Done, u16> {
     no_change_open(card)?;
     let index = held(card, aid)?;
-    require(card.places[index].life_cycle == DISABLED && !card.is_fall_back(index), NOT_NOW)?;
-    Ok(index)
-}
-
-fn delete(card: &mut Card, aid: &[u8], buffer: &mut [u8]) -> Result<Done, u16> {
-    let index = deletable(card, aid)?;
+    require(card.may_be_deleted(index), NOT_NOW)?;
     require(card.places[index].policy & DELETION_FORBIDDEN == 0, POLICY_FORBIDS)?;
-    card.places[index] = Place::ZERO;
-    Ok(write_zero(buffer))
+    Ok(remove(card, index, buffer))
 }
 
 fn master_delete(card: &mut Card, aid: &[u8], verdict: u8, buffer: &mut [u8]) -> Result<Done, u16> {
-    let index = deletable(card, aid)?;
+    no_change_open(card)?;
+    let index = held(card, aid)?;
+    require(card.may_be_master_deleted(index), NOT_NOW)?;
     require(verdict == 1, TOKEN_REFUSED)?;
+    Ok(remove(card, index, buffer))
+}
+
+fn remove(card: &mut Card, index: usize, buffer: &mut [u8]) -> Done {
     card.places[index] = Place::ZERO;
-    Ok(write_zero(buffer))
+    write_zero(buffer)
 }
 
 fn confirm(card: &mut Card, number: u16, buffer: &mut [u8]) -> Result<Done, u16> {

@@ -78,6 +78,8 @@ struct Generator {
     random: Random,
     model: Script,
     aids: Vec<Vec<u8>>,
+    /// The AID that was deleted last, if any.
+    gone: Option<Aid>,
     out: String,
     calls: usize,
     /// The script is to be an event file: no command says how long its buffer is.
@@ -96,6 +98,7 @@ impl Generator {
     /// Names that only their length, or zeros at their end, tell apart, among plain ones.
     fn new_aids(&mut self) {
         self.aids.clear();
+        self.gone = None;
         let mut zeros = vec![0xA0, 0, 0, 0, 1];
         for _ in 0..3 {
             self.aids.push(zeros.clone());
@@ -146,11 +149,17 @@ impl Generator {
             let index = self.random.pick(&among);
             return self.model.card().places[index].aid.bytes().to_vec();
         }
-        if roll < 97 {
-            self.any_aid()
-        } else {
-            self.odd_aid()
+        match self.gone_aid() {
+            Some(gone) if roll < 94 => gone,
+            _ if roll < 97 => self.any_aid(),
+            _ => self.odd_aid(),
         }
+    }
+
+    /// The AID that was deleted last, unless it was created again.
+    fn gone_aid(&self) -> Option<Vec<u8>> {
+        let gone = self.gone.filter(|gone| self.model.card().find(gone.bytes()).is_none());
+        gone.map(|gone| gone.bytes().to_vec())
     }
 
     fn policy(&mut self) -> u8 {
@@ -425,7 +434,11 @@ impl Generator {
             7 => format!(" {odd}"),
             _ => String::new(),
         };
+        let before = self.model.card().places;
         self.put(format!("command {verdict} {word}{length}"));
+        let mut places = before.iter().zip(&self.model.card().places);
+        let deleted = places.find(|(before, after)| before.is_held() && !after.is_held());
+        self.gone = deleted.map(|(before, _)| before.aid).or(self.gone);
     }
 
     fn verdict(&mut self) -> u8 {
@@ -437,6 +450,10 @@ impl Generator {
         let mut aid = self.any_aid();
         if card.find(&aid).is_some() && self.random.chance(80) {
             aid = self.any_aid();
+        }
+        // Created again, nothing of its first life may show.
+        if let Some(gone) = self.gone_aid().filter(|_| self.random.chance(25)) {
+            aid = gone;
         }
         if self.random.chance(3) {
             aid = self.odd_aid();
@@ -519,9 +536,24 @@ impl Generator {
         self.store_data(8, tlv(&[0x4E], &number.to_be_bytes()));
     }
 
-    fn delete(&mut self, master: bool) {
+    /// A whole profile that may go, or what a broken download has left; of these first one whose policy forbids it, which
+    /// only a record handed in has.
+    fn doomed(&mut self) -> Vec<u8> {
         let fall_back = usize::from(self.model.card().fall_back);
-        let aid = self.target(|index, place| place.life_cycle == DISABLED && index != fall_back);
+        let is_half_loaded = |place: &Place| matches!(place.life_cycle, SELECTABLE | PERSONALIZED);
+        let is_forbidden = |place: &Place| is_half_loaded(place) && place.policy & DELETION_FORBIDDEN != 0;
+        let half_loaded = !self.places(|_, place| is_half_loaded(place)).is_empty();
+        let forbidden = !self.places(|_, place| is_forbidden(place)).is_empty();
+        match self.random.below(100) {
+            0..=59 if forbidden => self.target(|_, place| is_forbidden(place)),
+            0..=39 if half_loaded => self.target(|_, place| is_half_loaded(place)),
+            _ => self.target(|index, place| place.life_cycle == DISABLED && index != fall_back),
+        }
+    }
+
+    /// Master delete is asked for the same profiles, and leaves the half-loaded ones.
+    fn delete(&mut self, master: bool) {
+        let aid = self.doomed();
         let mut field = tlv(&[0x4F], &aid);
         let mut verdict = self.verdict();
         if master {
@@ -682,16 +714,16 @@ impl Generator {
             self.download();
         } else {
             match roll {
-                0..=12 => self.create_if_room(),
-                13..=40 => self.download(),
-                41..=60 => self.enable(),
-                61..=66 => self.disable(),
-                67..=71 => self.delete(false),
-                72..=75 => self.delete(true),
-                76..=80 => self.set_fall_back(),
-                81..=84 => self.lost(),
-                85..=86 => self.put("tick".to_owned()),
-                87..=93 => self.get_status(),
+                0..=11 => self.create_if_room(),
+                12..=39 => self.download(),
+                40..=58 => self.enable(),
+                59..=64 => self.disable(),
+                65..=71 => self.delete(false),
+                72..=76 => self.delete(true),
+                77..=81 => self.set_fall_back(),
+                82..=85 => self.lost(),
+                86..=87 => self.put("tick".to_owned()),
+                88..=93 => self.get_status(),
                 94..=96 => self.get_data(),
                 97 => self.confirm(50),
                 _ => self.any_call(),
@@ -876,6 +908,7 @@ fn main() -> ExitCode {
         random: Random(seed),
         model: Script::new(Options::default()),
         aids: Vec::new(),
+        gone: None,
         out: String::new(),
         calls: 0,
         is_month: mode == "month",
