@@ -1,9 +1,9 @@
--- What the two tests of a deletion tell: the profile is there, it is not ENABLED and not the fall-back; of a place with one of the four life
--- cycles that is all that delete's test asks. By the life cycles that the tests name. Assumes nothing.
+-- What the two tests of a deletion say of each life cycle, and what they tell: the profile is there, it is not ENABLED and not the fall-back; of
+-- a place with one of the four life cycles that is all that delete's test asks. By the life cycles that the tests name. Assumes nothing.
 use mathlib.Core.Path.{_≡_, refl, sym, _∙_}
 use Prim.Native.Nat.{ℕ}
 use native.Mathlib.Omega.{arith}
-use mathlib.Core.Bool.{Bool, true, false, _||_, false≢true}
+use mathlib.Core.Bool.{Bool, true, false, not, cond, _&&_, _||_, false≢true}
 use lib.Dec.{eqb}
 use borrow.Author.Tests.{eqb-true, eqb-false, ne-eqb, not-true}
 use Rattle.isdp.specs.LifeCycle.{selectable, personalized, disabled, enabled, isEnabled, isLoading}
@@ -11,7 +11,28 @@ use Rattle.isdp.specs.Place.{lifeOk}
 use Rattle.isdp.proofs.Bools.{and-l, and-r}
 use Rattle.places.specs.Places.{at}
 use Rattle.card.specs.Cards.{mayBeDeleted, mayBeMasterDeleted}
+use Rattle.card.specs.Deletions.{DeletionTests}
 use Rattle.card.specs.declared.Card.{Card}
+
+-- two tests that say this where the place is not the fall-back's
+says : (x b : Bool) → (x && not b) ≡ cond b false x
+says true true = refl
+says true false = refl
+says false true = refl
+says false false = refl
+
+say : (x y b : Bool) → ((x && not b) ≡ cond b false x) × ((y && not b) ≡ cond b false y)
+say x y b = (says x b, says y b)
+
+pub deletion-tests : DeletionTests
+deletion-tests =
+    record {
+      not-held = λ c i e. rw e (say false false (eqb i (c .fallback)));
+      if-selectable = λ c i e. rw e (say true false (eqb i (c .fallback)));
+      if-personalized = λ c i e. rw e (say true false (eqb i (c .fallback)));
+      if-disabled = λ c i e. rw e (say true true (eqb i (c .fallback)));
+      if-enabled = λ c i e. rw e (say false false (eqb i (c .fallback)));
+    }
 
 -- the profile at place i may be deleted
 pub record Deletable (c : Card) (i : ℕ) : Type 0 where

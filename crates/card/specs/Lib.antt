@@ -1,5 +1,6 @@
 -- Document 01, 'The card' and the parts of 'Steps' that know no command.
 pub mod Cards
+pub mod Deletions
 pub mod Sound
 pub mod Clock
 pub mod Ticks

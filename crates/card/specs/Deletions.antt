@@ -1,0 +1,24 @@
+-- Request 2026-03: what the two tests of a deletion say, by life cycle. "The test of whether a profile may be deleted now says yes for
+-- SELECTABLE and PERSONALIZED too ..; master delete stays with DISABLED only." The fall-back is never deleted.
+use Prim.Native.Nat.{ℕ}
+use mathlib.Core.Path.{_≡_}
+use mathlib.Core.Bool.{Bool, true, false, cond}
+use lib.Dec.{eqb}
+use Rattle.isdp.specs.LifeCycle.{selectable, personalized, disabled, enabled}
+use Rattle.places.specs.Places.{at}
+use Rattle.card.specs.Cards.{mayBeDeleted, mayBeMasterDeleted}
+use Rattle.card.specs.declared.Card.{Card}
+
+-- of every card, of every place with this life cycle that is not the fall-back's: by delete, by master delete
+abbrev pub Says : ℕ → Bool → Bool → Type 0
+Says life delete masterDelete =
+    (c : Card) (i : ℕ) → at (c .places) i .life ≡ life
+    → (mayBeDeleted c i ≡ cond (eqb i (c .fallback)) false delete)
+    × (mayBeMasterDeleted c i ≡ cond (eqb i (c .fallback)) false masterDelete)
+
+pub record DeletionTests : Type 0 where
+  pub not-held : Says 0 false false
+  pub if-selectable : Says selectable true false
+  pub if-personalized : Says personalized true false
+  pub if-disabled : Says disabled true true
+  pub if-enabled : Says enabled false false
