@@ -6,7 +6,7 @@ use native.Mathlib.Omega.{arith}
 use mathlib.Core.Bool.{Bool, true, false, not, cond, _&&_, _||_, false≢true}
 use lib.Dec.{eqb}
 use borrow.Author.Tests.{eqb-true, eqb-false, ne-eqb, not-true}
-use Rattle.isdp.specs.LifeCycle.{selectable, personalized, disabled, enabled, isEnabled, isLoading}
+use Rattle.isdp.specs.LifeCycle.{selectable, personalized, disabled, enabled, isEnabled, isCreated}
 use Rattle.isdp.specs.Place.{lifeOk}
 use Rattle.isdp.proofs.Bools.{and-l, and-r}
 use Rattle.places.specs.Places.{at}
@@ -14,7 +14,7 @@ use Rattle.card.specs.Cards.{mayBeDeleted, mayBeMasterDeleted}
 use Rattle.card.specs.Deletions.{DeletionTests}
 use Rattle.card.specs.declared.Card.{Card}
 
--- two tests that say this where the place is not the fall-back's
+-- a test that says this where the place is not the fall-back's, and two of them
 says : (x b : Bool) → (x && not b) ≡ cond b false x
 says true true = refl
 says true false = refl
@@ -47,7 +47,7 @@ taken-case v false true z e f g h = rw (eqb-true v personalized f) ((λ n. omega
 taken-case v false false true e f g h = rw (eqb-true v disabled g) ((λ n. omega arith), refl)
 taken-case v false false false e f g h = absurd (false≢true h)
 
--- and one that it does not take
+-- of the four life cycles, each but ENABLED
 left-case : (x y z w : Bool) → (x || (y || (z || w))) ≡ true → w ≡ false → ((x || y) || z) ≡ true
 left-case true y z w h n = refl
 left-case false true z w h n = refl
@@ -60,13 +60,13 @@ module _ (c : Card) (i : ℕ) where
 
   pub deletable : mayBeDeleted c i ≡ true → Deletable c i
   deletable e =
-      let k = taken-case v (eqb v selectable) (eqb v personalized) (eqb v disabled) refl refl refl (and-l (isLoading v || eqb v disabled) _ e) in
-      record { there = k .0; off = k .1; apart = eqb-false _ _ (not-true _ (and-r (isLoading v || eqb v disabled) _ e)) }
+      let k = taken-case v (eqb v selectable) (eqb v personalized) (eqb v disabled) refl refl refl (and-l (isCreated v || eqb v disabled) _ e) in
+      record { there = k .0; off = k .1; apart = eqb-false _ _ (not-true _ (and-r (isCreated v || eqb v disabled) _ e)) }
 
   pub may-be-deleted : lifeOk v ≡ true → (v ≡ enabled → ⊥) → (i ≡ c .fallback → ⊥) → mayBeDeleted c i ≡ true
   may-be-deleted l n f =
       rw (left-case (eqb v selectable) (eqb v personalized) (eqb v disabled) (eqb v enabled) l (ne-eqb _ _ n), ne-eqb _ _ f)
 
   -- what master delete may take delete may take too, its policy apart
-  pub master-less : mayBeMasterDeleted c i ≡ true → mayBeDeleted c i ≡ true
-  master-less e = rw (eqb-true v disabled (and-l (eqb v disabled) _ e)) (and-r (eqb v disabled) _ e)
+  pub by-delete-too : mayBeMasterDeleted c i ≡ true → mayBeDeleted c i ≡ true
+  by-delete-too e = rw (eqb-true v disabled (and-l (eqb v disabled) _ e)) (and-r (eqb v disabled) _ e)

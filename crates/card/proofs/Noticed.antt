@@ -11,7 +11,6 @@ use borrow.Author.Tests.{eq-eqb, ne-eqb, eqb-true}
 use Rattle.isdp.specs.Sizes.{wait, lastNumber}
 use Rattle.isdp.specs.Aids.{noAid}
 use Rattle.isdp.specs.LifeCycle.{disabled, isEnabled}
-use Rattle.isdp.specs.Place.{vacant}
 use Rattle.isdp.specs.declared.Aid.{Aid}
 use Rattle.isdp.specs.declared.Isdp.{Isdp}
 use Rattle.places.specs.Places.{at, seek}

@@ -1,4 +1,4 @@
--- One place set anew keeps a card sound (`sets`), by what is asked of the new profile. So do a profile under way (neither DISABLED nor
+-- One place set anew keeps a card sound (`sets`), by what is asked of the new profile. So do a Created profile (neither DISABLED nor
 -- ENABLED) rewritten with its AID and quota, and a deletion of a profile that may be deleted; another fall-back
 -- does. Then the confirmation, which closes and may delete. Assumes nothing.
 use mathlib.Core.Path.{_≡_, refl, sym, _∙_}

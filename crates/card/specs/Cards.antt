@@ -4,7 +4,7 @@ use mathlib.Core.List.{List}
 use mathlib.Core.Bool.{Bool, true, false, not, _&&_, _||_}
 use lib.ListN.{set}
 use lib.Dec.{eqb}
-use Rattle.isdp.specs.LifeCycle.{disabled, isEnabled, isLoading}
+use Rattle.isdp.specs.LifeCycle.{disabled, isEnabled, isCreated}
 use Rattle.isdp.specs.Place.{vacant, isFor}
 use Rattle.isdp.specs.declared.Aid.{Aid}
 use Rattle.isdp.specs.declared.Isdp.{Isdp}
@@ -48,7 +48,7 @@ onFallback c = isEnabled (at (c .places) (c .fallback))
 -- "Delete: target DISABLED and not fall-back"; request 2026-03: "now says yes for SELECTABLE and PERSONALIZED too"
 abbrev pub mayBeDeleted : Card → ℕ → Bool
 mayBeDeleted c i =
-    (isLoading (at (c .places) i .life) || eqb (at (c .places) i .life) disabled) && not (eqb i (c .fallback))
+    (isCreated (at (c .places) i .life) || eqb (at (c .places) i .life) disabled) && not (eqb i (c .fallback))
 
 -- "master delete stays with DISABLED only"
 abbrev pub mayBeMasterDeleted : Card → ℕ → Bool

@@ -9,7 +9,7 @@ use Rattle.places.specs.Places.{at}
 use Rattle.card.specs.Cards.{mayBeDeleted, mayBeMasterDeleted}
 use Rattle.card.specs.declared.Card.{Card}
 
--- of every card, of every place with this life cycle that is not the fall-back's: by delete, by master delete
+-- of every card and every place with this life cycle: what delete's and master delete's test say, which is no at the fall-back's place
 abbrev pub Says : ℕ → Bool → Bool → Type 0
 Says life delete masterDelete =
     (c : Card) (i : ℕ) → at (c .places) i .life ≡ life

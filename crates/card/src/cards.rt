@@ -79,8 +79,8 @@ impl Card {
         ensures { λ r. ⌜ r ≡ mayBeDeleted self i ⌝ }
     {
         let life = self.profile(i).life;
-        let loading = (life == Isdp::SELECTABLE) | (life == Isdp::PERSONALIZED);
-        (loading | (life == Isdp::DISABLED)) & (i != self.fallback)
+        let created = (life == Isdp::SELECTABLE) | (life == Isdp::PERSONALIZED);
+        (created | (life == Isdp::DISABLED)) & (i != self.fallback)
     }
 
     // May it be deleted by master delete, the token apart?

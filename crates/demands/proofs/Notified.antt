@@ -31,7 +31,7 @@ use Rattle.card.specs.declared.Phase.{Phase}
 use Rattle.card.specs.declared.Phase.the-variants.{Quiet, Trial, Back, Fallen}
 use Rattle.card.specs.declared.Step.{Step}
 use Rattle.card.proofs.Sounds.{parts}
-use Rattle.card.proofs.Deletions.{deletable, master-less}
+use Rattle.card.proofs.Deletions.{deletable, by-delete-too}
 use Rattle.card.proofs.Noticed.{found-kept, unmoved, steps-noticed}
 use Rattle.card.proofs.Freshness.{fresh-sound}
 use Rattle.steps.proofs.Rows.{Passed}
@@ -78,7 +78,7 @@ module _ (c : Card) (s : sound c ≡ true) where
   acts aid enable p = steps-noticed .opening c (placeOf c aid) s
   acts aid disable p = steps-noticed .opening c (c .fallback) s
   acts aid delete p = rewrites (placeOf c aid) vacant refl (gone-off aid (not-false _ (p .state)))
-  acts aid (masterDelete verdict) p = rewrites (placeOf c aid) vacant refl (gone-off aid (master-less c (placeOf c aid) (not-false _ (p .state))))
+  acts aid (masterDelete verdict) p = rewrites (placeOf c aid) vacant refl (gone-off aid (by-delete-too c (placeOf c aid) (not-false _ (p .state))))
   acts aid setFallBack p = unmoved c (withFallback c (placeOf c aid)) noAid refl refl
   acts aid (status life fallback) p = unmoved c c noAid refl refl
   acts aid keyed p =

@@ -11,7 +11,7 @@ use borrow.Author.Tests.{eqb-true, eq-eqb, le-leb}
 use Rattle.status.specs.StatusWords.{isDone}
 use Rattle.status.specs.declared.Status.the-variants.{Done}
 use Rattle.isdp.specs.Aids.{aidOk, aidOf, bytesOf}
-use Rattle.isdp.specs.LifeCycle.{selectable, enabled, isLoading}
+use Rattle.isdp.specs.LifeCycle.{selectable, enabled, isCreated}
 use Rattle.isdp.specs.Place.{vacant, held, placeOk}
 use Rattle.isdp.specs.declared.Isdp.{Isdp}
 use Rattle.isdp.proofs.Bools.{both}
@@ -104,21 +104,21 @@ record Half (c : Card) (aid : List ℕ) (t : ℕ) (d : Card) : Type 0 where
   still-sound : sound d ≡ true
   beside : Beside c t d
   bears : Holds d aid t
-  no-policy : isLoading (profileAt d t .life) ≡ true → profileAt d t .policy ≡ 0
+  no-policy : isCreated (profileAt d t .life) ≡ true → profileAt d t .policy ≡ 0
 
 module _ (c : Card) (aid : List ℕ) (t : ℕ) where
-  written-half : (d : Card) (x : Isdp) (bytes : List ℕ) (ticks : ℕ) (o : Outcome) → Beside c t d → Answers d (replaced d (onlyAt d t x) bytes ticks) o → sound (o .card) ≡ true → held x ≡ true → aidOf x ≡ aid → (isLoading (x .life) ≡ true → x .policy ≡ 0) → Half c aid t (o .card)
+  written-half : (d : Card) (x : Isdp) (bytes : List ℕ) (ticks : ℕ) (o : Outcome) → Beside c t d → Answers d (replaced d (onlyAt d t x) bytes ticks) o → sound (o .card) ≡ true → held x ≡ true → aidOf x ≡ aid → (isCreated (x .life) ≡ true → x .policy ≡ 0) → Half c aid t (o .card)
   written-half d x bytes ticks o b a s h n p =
       let new = there c t d x bytes ticks o b a in
       record {
         still-sound = s;
         beside = still-beside c t d x bytes ticks o b a;
         bears = record { held-there = ap held new ∙ h; named = ap aidOf new ∙ n };
-        no-policy = subst (λ (p : Isdp). isLoading (p .life) ≡ true → p .policy ≡ 0) (sym new) p;
+        no-policy = subst (λ (p : Isdp). isCreated (p .life) ≡ true → p .policy ≡ 0) (sym new) p;
       }
 
   -- by an inner call: the AID stays
-  loaded-half : (d : Card) (x : Isdp) (ticks : ℕ) (call : Call) → Half c aid t d → Answers d (replaced d (onlyAt d t x) [] ticks) (step d call) → x .aid ≡ profileAt d t .aid → (isLoading (x .life) ≡ true → x .policy ≡ 0) → Half c aid t (step d call .card)
+  loaded-half : (d : Card) (x : Isdp) (ticks : ℕ) (call : Call) → Half c aid t d → Answers d (replaced d (onlyAt d t x) [] ticks) (step d call) → x .aid ≡ profileAt d t .aid → (isCreated (x .life) ≡ true → x .policy ≡ 0) → Half c aid t (step d call .card)
   loaded-half d x ticks call h a n p =
       written-half d x [] ticks (step d call) (h .beside) a (step-sound d call (h .still-sound)) (rw n (h .bears .held-there)) (ap bytesOf n ∙ h .bears .named) p
 
@@ -144,11 +144,11 @@ module _ (c : Card) (aid : List ℕ) (t : ℕ) where
   inners-half [] d h = h
   inners-half (x ∷ xs) d h = inners-half xs (step d (innerCall aid x) .card) (inner-half d x h)
 
-not-both : (v : ℕ) → isLoading v ≡ true → v ≡ enabled → ⊥
+not-both : (v : ℕ) → isCreated v ≡ true → v ≡ enabled → ⊥
 not-both v l e = false≢true (rw e at l)
 
 -- the delete may be taken: the place was not the fall-back's before the creation
-module _ (c : Card) (aid : List ℕ) (t : ℕ) (d : Card) (h : Half c aid t d) (s : sound c ≡ true) (q : c .phase ≡ Quiet) (free : profileAt c t ≡ vacant) (l : isLoading (profileAt d t .life) ≡ true) where
+module _ (c : Card) (aid : List ℕ) (t : ℕ) (d : Card) (h : Half c aid t d) (s : sound c ≡ true) (q : c .phase ≡ Quiet) (free : profileAt c t ≡ vacant) (l : isCreated (profileAt d t .life) ≡ true) where
   may-delete : MayDelete d t
   may-delete =
       record {

@@ -42,7 +42,7 @@ use Rattle.demands.specs.Engines.{reached}
 use Rattle.demands.specs.Room.{innerCalls, Writes, Writes.commands, RoomMet, RoomLost}
 use Rattle.demands.proofs.HypothesesMet.{smallBytes, bytes-of}
 
--- bytes that are read back as this write it
+-- what bytes are read as is what they write
 writes : (s : List ℕ) (w : Wanted) → smallBytes s ≡ true → readAs s (readOf s 1000) ≡ some w → Writes 1000 w (command s)
 writes s w b e = commands 0 s 256 (omega arith) (command-written s 1000 w (bytes-of s b) e)
 
@@ -63,7 +63,7 @@ pub room-lost : RoomLost
 unfolding fresh step wordOf sameBytes padded isFor clash zeros placeOk seek quotas allOf anyOf countOf distinct allOff enableAt phaseOk sound tickOf lostOf confirmOf tickStep lostStep confirmStep noticeSince stepsIn ticksToCome refused accepted freshOutcome pick atMost isBelow isSame tagAt lengthAt afterLength afterTag headAt expectOf expectAt aloneAt dgiAt confirmationAt namedBy storeDataAt verificationAt deletionAt noted listedWithin listedAt tagsAt listingAt protocolsWithin protocolsAt numberAt grantOf memoryAt parametersAt prefixedOf prefixedAt namesAt rightsAt installOf lengthWrong classRight classWrong instructionWrong parametersRight parametersWrong shapeRight shapeWrong fieldOf dataWrong statusBody statusRow rowOf rowsFrom statusResponse oneStatus dataResponse deletedResponse listWrong listAt listWithin listOf elementOf restOf closed reached innerCalls readOf window
 room-lost =
     record {
-      left-half-done = λ g. false≢true (ap isDone (g fresh _ _ _ [] (room-met .creates) (room-met .deletes) refl refl .status));
+      created-left = λ g. false≢true (ap isDone (g fresh _ _ _ [] (room-met .creates) (room-met .deletes) refl refl .status));
       quota-kept =
           λ g.
           let z : _≡_ {A = ℕ} 150 100 = ap (λ (c : Card). quotas (c .places)) (g fresh _ _ _ [] (room-met .creates) (room-met .deletes) refl refl .card) in

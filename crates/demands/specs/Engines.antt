@@ -77,7 +77,7 @@ pub record Meets (e : Engine) : Type 0 where
   pub lost : MeetsLost e
   pub count : MeetsCount e
 
--- an engine that remembers nothing, and such a one that leads from a card by a list of calls to this card
+-- an engine that remembers nothing
 abbrev pub plain : (Card → Call → Outcome) → Engine
 plain answer =
     record {
@@ -88,6 +88,7 @@ plain answer =
       remember = λ m c call. tt;
     }
 
+-- the card that it reaches from this one by these calls
 abbrev pub reachedBy : (Card → Call → Outcome) → Card → List Call → Card
 reachedBy answer c calls = reached (plain answer) tt c calls
 

@@ -3,22 +3,28 @@
 use Prim.Native.Nat.{ℕ, _≤_}
 use mathlib.Core.Path.{_≡_}
 use mathlib.Core.List.{List, [], _∷_}
-use mathlib.Core.Bool.{true}
-use Rattle.status.specs.declared.Status.the-variants.{Done}
-use Rattle.isdp.specs.LifeCycle.{selectable, personalized, isLoading}
-use Rattle.card.specs.Cards.{profileOf}
-use Rattle.card.specs.Answers.{Outcome}
+use mathlib.Core.Bool.{Bool, true, false, cond, _&&_}
+use lib.ListN.{set}
+use Rattle.status.specs.declared.Status.the-variants.{StateWrong, Done}
+use Rattle.isdp.specs.Aids.{noAid}
+use Rattle.isdp.specs.LifeCycle.{selectable, personalized, isCreated}
+use Rattle.isdp.specs.Profile.{profile}
+use Rattle.card.specs.Cards.{placeOf, profileOf, withPlaces}
+use Rattle.card.specs.Answers.{Outcome, refused}
 use Rattle.card.specs.declared.Card.{Card}
 use Rattle.fields.specs.Grammar as field
 use Rattle.fields.specs.Grammar.{Created, Wanted}
 use Rattle.command.specs.Grammar.{Encodes}
+use Rattle.steps.specs.Asked as act
+use Rattle.steps.specs.Asked.{Act, onTarget}
 use Rattle.steps.specs.Laws.Answer.{Still}
-use Rattle.manager.specs.Calls.{Call, Call.Command, Call.Keyed, Call.Stored, Call.Finished}
+use Rattle.manager.specs.Calls.{Call, Call.Command, Call.Keyed, Call.Stored, Call.Finished, asked}
 use Rattle.manager.specs.Table.{leastBuffer}
 use Rattle.manager.specs.Manager.{step}
+use Rattle.demands.specs.Change.{taken}
 use Rattle.demands.specs.Examples as sample
 use Rattle.demands.specs.Engines.{reachedBy}
-use Rattle.demands.specs.WrongEngines.{leavesHalfDone, keepsTheQuota}
+use Rattle.demands.specs.WrongEngines.{withCard}
 
 -- the inner calls, the AID apart
 pub data Inner : Type 0 where
@@ -41,8 +47,8 @@ innerCalls aid (x ∷ xs) = innerCall aid x ∷ innerCalls aid xs
 pub data Writes (capacity : ℕ) (w : Wanted) : Call → Type 0 where
   commands : (verdict : ℕ) (s : List ℕ) (room : ℕ) → leastBuffer ≤ room → Encodes capacity w s → Writes capacity w (Command verdict s room)
 
--- a creation is accepted, so the card was sound and Quiet; any inner calls follow for its AID, refused ones too, and leave the profile
--- SELECTABLE or PERSONALIZED: its delete is answered 90 00 with response 00, and the card is the one before the creation
+-- a creation is accepted; any inner calls follow for its AID, refused ones too, and leave the profile SELECTABLE or PERSONALIZED: its delete
+-- is answered 90 00 with response 00, and the card is the one before the creation
 abbrev pub GivesRoomBack : (Card → Call → Outcome) → Type 0
 GivesRoomBack answer =
     (c : Card) (v : Created) (creation deletion : Call) (inner : List Inner)
@@ -50,10 +56,38 @@ GivesRoomBack answer =
     → Writes (c .capacity) (field.deletion (field.delete (v .aid))) deletion
     → answer c creation .status ≡ Done
     → let broken = reachedBy answer c (creation ∷ innerCalls (v .aid) inner) in
-    isLoading (profileOf broken (v .aid) .life) ≡ true → Still c (0x00 ∷ []) (answer broken deletion)
+    isCreated (profileOf broken (v .aid) .life) ≡ true → Still c (0x00 ∷ []) (answer broken deletion)
 
+-- of every sound Quiet card, since the manager accepts a creation on no other
 abbrev pub NoRoomLost : Type 0
 NoRoomLost = GivesRoomBack step
+
+abbrev pub isDelete : Act → Bool
+isDelete act.enable = false
+isDelete act.disable = false
+isDelete act.delete = true
+isDelete (act.masterDelete verdict) = false
+isDelete act.setFallBack = false
+isDelete (act.status life fallback) = false
+isDelete act.keyed = false
+isDelete (act.stored n) = false
+isDelete (act.finished policy mark) = false
+
+-- the manager, but for the answer to a delete that it takes, by the AID
+abbrev pub deletingSo : (Card → Call → List ℕ → Outcome) → Card → Call → Outcome
+deletingSo answer c call =
+    onTarget (step c call) (λ aid asks. cond (isDelete asks && taken c call) (answer c call aid) (step c call)) (asked c call)
+
+-- "leaves an ISD-P that Delete will not take": 69 85 where it is Created
+abbrev pub leavesCreated : Card → Call → Outcome
+leavesCreated = deletingSo (λ c call aid. cond (isCreated (profileOf c aid .life)) (refused c StateWrong) (step c call))
+
+-- the quota stays in the place
+abbrev pub keepsTheQuota : Card → Call → Outcome
+keepsTheQuota =
+    deletingSo
+    (λ c call aid.
+    withCard (step c call) (withPlaces c (set (c .places) (placeOf c aid) (profile noAid 0 (profileOf c aid .quota) 0 0 0))))
 
 -- downloads of 02 that break off, on the fresh card of the examples: at once, after keyed, after stored
 abbrev pub breaksOff : List Inner → ℕ → Type 0
@@ -67,7 +101,7 @@ pub record RoomMet : Type 0 where
   pub after-keyed : breaksOff (keyed ∷ []) personalized
   pub after-stored : breaksOff (keyed ∷ stored 50 ∷ stored 1 ∷ finished 5 1 ∷ []) personalized
 
--- "the room is gone for good": with the engine that this request found, and with one whose delete leaves the quota in the place
+-- "the room is gone for good": these two fail it
 pub record RoomLost : Type 0 where
-  pub left-half-done : GivesRoomBack leavesHalfDone → ⊥
+  pub created-left : GivesRoomBack leavesCreated → ⊥
   pub quota-kept : GivesRoomBack keepsTheQuota → ⊥

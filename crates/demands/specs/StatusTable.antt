@@ -175,7 +175,7 @@ cases =
     ∷ case 16 0x9000 fresh (loadWith 2 0 0) (enable 2)
     ∷ case 16 0x9000 fresh (loadWith 2 0 0 ++ enable 2 ∷ confirm 1 ∷ []) (disable 2)
     ∷ case 12 0x6985 fresh (load 2 0) (Keyed (aid 2))
-    -- request 2026-03, "69 85 for Delete narrows to ENABLED or fall-back": both, either alone, neither; in an open change it is the row before
+    -- request 2026-03, "69 85 for Delete narrows to ENABLED or fall-back": both, either alone, neither; in an open change by an earlier row
     ∷ case 12 0x6985 fresh [] (delete 1)
     ∷ case 12 0x6985 fresh (onto 0) (delete 2)
     ∷ case 12 0x6985 fresh (onto 0) (delete 1)

@@ -8,12 +8,11 @@ use lib.ListN.{set, replicate}
 use lib.Dec.{ltb, leb}
 use Rattle.status.specs.StatusWords.{isDone}
 use Rattle.status.specs.declared.Status.{Status}
-use Rattle.status.specs.declared.Status.the-variants.{StateWrong, PolicyForbids, Done}
+use Rattle.status.specs.declared.Status.the-variants.{PolicyForbids, Done}
 use Rattle.isdp.specs.Sizes.{wait}
 use Rattle.isdp.specs.Aids.{noAid}
 use Rattle.isdp.specs.Policy.{forbidsDisabling}
-use Rattle.isdp.specs.LifeCycle.{isLoading, isFinished}
-use Rattle.isdp.specs.Profile.{profile}
+use Rattle.isdp.specs.LifeCycle.{isFinished}
 use Rattle.isdp.specs.Place.{vacant}
 use Rattle.places.specs.Places.{at}
 use Rattle.card.specs.Cards.{isQuiet, placeOf, profileOf, enabledPlace, withPlaces, withPhase, withFallback}
@@ -247,33 +246,6 @@ pub record IgnoringMark : Type 0 where
   pub refuted : AlongFrom ignoresMark example.inputs (example.loadWith 2 0 0 ++ example.setFallBack 2 ∷ []) → ⊥
   pub takes-it : answerAfter ignoresMark example.inputs (example.loadWith 2 0 0) (example.setFallBack 2) .status ≡ Done
   pub no-longer-sound : sound (answerAfter ignoresMark example.inputs (example.loadWith 2 0 0) (example.setFallBack 2) .card) ≡ false
-
-abbrev pub isDelete : Act → Bool
-isDelete enable = false
-isDelete disable = false
-isDelete delete = true
-isDelete (masterDelete verdict) = false
-isDelete setFallBack = false
-isDelete (status life fallback) = false
-isDelete keyed = false
-isDelete (stored n) = false
-isDelete (finished policy mark) = false
-
--- request 2026-03, "leaves an ISD-P that Delete will not take": delete takes a DISABLED profile alone
-abbrev pub leavesHalfDone : Card → Call → Outcome
-leavesHalfDone c call =
-    onTarget (step c call)
-    (λ aid act. cond (isDelete act && isLoading (profileOf c aid .life)) (refused c StateWrong) (step c call))
-    (asked c call)
-
--- delete leaves the quota in the place
-abbrev pub keepsTheQuota : Card → Call → Outcome
-keepsTheQuota c call =
-    onTarget (step c call)
-    (λ aid act.
-    cond (isDelete act && taken c call)
-    (withCard (step c call) (withPlaces c (set (c .places) (placeOf c aid) (profile noAid 0 (profileOf c aid .quota) 0 0 0)))) (step c call))
-    (asked c call)
 
 -- "These engines have to be caught": none of them meets the demands
 pub record Caught : Type 0 where

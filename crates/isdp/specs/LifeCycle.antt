@@ -21,9 +21,9 @@ enabled = 0x3F
 abbrev pub isEnabled : Isdp → Bool
 isEnabled p = eqb (p .life) enabled
 
--- SELECTABLE or PERSONALIZED: its download is not finished
-abbrev pub isLoading : ℕ → Bool
-isLoading v = eqb v selectable || eqb v personalized
+-- SELECTABLE or PERSONALIZED, "Created" in 000, Table 2: its download is not finished
+abbrev pub isCreated : ℕ → Bool
+isCreated v = eqb v selectable || eqb v personalized
 
 -- DISABLED or ENABLED
 abbrev pub isFinished : ℕ → Bool

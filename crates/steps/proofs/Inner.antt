@@ -1,4 +1,4 @@
--- Keyed, stored and finished write a profile under way anew, with the same AID and quota: the card stays sound. The profile's state is
+-- Keyed, stored and finished write a Created profile anew, with the same AID and quota: the card stays sound. The profile's state is
 -- what the rows that were passed say of it. Assumes nothing.
 use mathlib.Core.Path.{_≡_, refl, sym, _∙_}
 use Prim.Native.Nat.{ℕ}

@@ -22,7 +22,7 @@ use Rattle.card.specs.declared.Card.{Card}
 use Rattle.card.specs.declared.Phase.{Phase}
 use Rattle.card.specs.declared.Phase.the-variants.{Quiet, Trial, Back, Fallen}
 use Rattle.card.proofs.Sounds.{parts, whole, tick-sound, lost-sound}
-use Rattle.card.proofs.Deletions.{master-less}
+use Rattle.card.proofs.Deletions.{by-delete-too}
 use Rattle.card.proofs.Rewrites.{deletes, refalls, confirm-sound}
 use Rattle.steps.specs.Asked.{Act, Act.enable, Act.disable, Act.delete, Act.masterDelete, Act.setFallBack, Act.status, Act.keyed, Act.stored, Act.finished, Asked, Asked.unread, Asked.create, Asked.on, Asked.confirm, Asked.statusOfAll, Asked.getData, Asked.tick, Asked.lost}
 use Rattle.steps.specs.Steps.{stepOf}
@@ -79,7 +79,7 @@ module _ (c : Card) (aid : List ℕ) (s : sound c ≡ true) where
       let h = not-false _ (p .state) in
       opens-kept (c .fallback) (fallback-life c (placeOf c aid) (parts c s) (and-l (isEnabled (profileOf c aid)) _ h) (not-true _ (and-r (isEnabled (profileOf c aid)) _ h)))
   act-kept delete h p = delete-kept (p .change) (not-false _ (p .state))
-  act-kept (masterDelete verdict) h p = delete-kept (p .change) (master-less c (placeOf c aid) (not-false _ (p .state)))
+  act-kept (masterDelete verdict) h p = delete-kept (p .change) (by-delete-too c (placeOf c aid) (not-false _ (p .state)))
   act-kept setFallBack h p = whole _ (refalls c (placeOf c aid) (parts c s) (quietly (c .phase) (p .change)) (not-false _ (p .state)))
   act-kept (status life fallback) h p = s
   act-kept keyed h p = whole _ (keyed-at c (placeOf c aid) (parts c s) (eqb-true _ _ (not-false _ (p .state))))
