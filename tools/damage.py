@@ -110,7 +110,7 @@ def crowd(chance, many):
         parts = [who, chance.choice(names[:at])] if at and chance.random() < 0.1 else [who]
         for one in parts:
             if chance.random() < 0.1:
-                # Its first download breaks off at one of its steps.
+                # First a broken download: it stops after one of its calls and is deleted.
                 made += loaded(one)[: chance.randrange(1, 4)] + deletes(one)
             changes += 1
             made += profile(one, 4, chance.choice((None, 0, 1))) + enables(one) + ticks(chance.randrange(10)) + confirms(changes) + ticks(chance.choice((0, 0, 1, 3, 12)))

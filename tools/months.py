@@ -381,7 +381,7 @@ reported("forty-broken-downloads-and-a-whole-one", of(forty + profile(42) + nine
 # The line has the minutes of both lives, and none of the broken download between them.
 lives = gone + loaded(2) + ticks(3) + deletes(2) + profile(2) + enables(2) + ticks(5) + confirms(3)
 reported("a-broken-download-between-two-lives", of(lives), {1: 3, 2: 7}, 29)
-# Master delete leaves what is half-loaded, so that it can be finished.
+# Master delete leaves a Created profile, so that it can be finished.
 for verdict in (0, 1, 2):
     left = loaded(2) + master(2, verdict) + finished(2)
     reported(f"master-delete-of-a-loaded-one-with-verdict-{verdict}", of(left + nine_minutes(2)), {1: 0, 2: 9}, 16, no=1)

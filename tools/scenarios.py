@@ -86,11 +86,18 @@ def finished(n, policy=0, answer=None, mark=None):
     call(f"finished {aid(n)} {given}", answer or done())
 
 
+def broken(n, calls, quota=50, used=5):
+    """A download that stops after so many of its calls: created, keyed, stored."""
+    makes(n, quota=quota)
+    if calls > 1:
+        keyed(n)
+    if calls > 2:
+        stored(n, used)
+
+
 def loaded(n, quota=50, used=5):
     """A profile that has only to be finished."""
-    makes(n, quota=quota)
-    keyed(n)
-    stored(n, used)
+    broken(n, 3, quota, used)
 
 
 def profile(n, policy=0, quota=50, used=5, mark=None):
@@ -141,15 +148,6 @@ def not_ready(step):
     step(2, no("6985"))
     keyed(2)
     step(2, no("6985"))
-
-
-def broken(n, calls, quota=50, used=5):
-    """A download that stops after so many of its calls: created, keyed, stored."""
-    makes(n, quota=quota)
-    if calls > 1:
-        keyed(n)
-    if calls > 2:
-        stored(n, used)
 
 
 def stays(n, ticks=0):
@@ -531,7 +529,7 @@ table((1, E, True))
 figures(1, 900)
 deletes(2, no("6A88"))
 
-# SELECTABLE and PERSONALIZED were wrong states here until request 2026-03, "69 85 for Delete narrows to ENABLED or fall-back": they are taken below.
+# SELECTABLE and PERSONALIZED are no wrong states of delete: B60, below.
 name("delete refused: not held, ENABLED, the fall-back, the policy, a change open")
 fresh()
 profile(2, 2)
@@ -1355,6 +1353,8 @@ call("lost", done(10, notification=note(5, 1, 8)))
 
 # ---------------------------------------------------------------- request 2026-03: room after a broken download
 
+# A half-loaded profile of the titles is a Created one of document 000, Table 2: SELECTABLE or PERSONALIZED.
+
 name("B60: delete of a profile just created: its row, its place and its quota are gone")
 fresh()
 table((1, E, True))
@@ -1722,9 +1722,9 @@ deletes(5)
 table((1, E, True), (2, D), (3, D))
 
 name("B60: records handed in with a change open: an open change stands before the policy and before what is not held")
-half = [place(1, D), place(2, E), place(3, S, policy=2), place(4, P), place(5, D)]
+records = [place(1, D), place(2, E), place(3, S, policy=2), place(4, P), place(5, D)]
 for phase, to_come in (("T:4:5:9", 25), ("T:0:5:9", 15), ("B:5:9", 15)):
-    card(done(to_come), half, last=9, phase=phase)
+    card(done(to_come), records, last=9, phase=phase)
     for n in (1, 2, 3, 4, 5, 9):
         stays(n, ticks=to_come)
 fallen = [place(1, E), place(2, S), place(3, P, policy=3), place(4, P)]
@@ -1879,7 +1879,7 @@ table((1, E, True))
 figures(1, 950, volatile=7)
 
 name("B60: on a card that is not sound both deletes are 6F 00")
-for broken_card, fall_back in (
+for unsound, fall_back in (
     ([place(1, E, mark=0), place(2, S)], 0),
     ([place(1, E), place(2, S)], 1),
     ([place(1, E), place(2, P)], 1),
@@ -1887,7 +1887,7 @@ for broken_card, fall_back in (
     ([place(1, E), place(2, S, policy=5)], 0),
     ([place(1, E), place(2, "03")], 0),
 ):
-    card(no("6F00"), broken_card, fall_back=fall_back)
+    card(no("6F00"), unsound, fall_back=fall_back)
     deletes(2, no("6F00"))
     master(2, no("6F00"))
 
@@ -1988,8 +1988,8 @@ TWO = (1, B, "PERSONALIZED", 50, 50, "", "yes", "deleted once disabled")
 THREE = (2, aid(3), "SELECTABLE", 50, 7, "", "yes", "deletion forbidden")
 FOUR = (3, aid(4), "DISABLED", 50, 5, "", "", "disabling forbidden")
 AGAIN = (1, B, "SELECTABLE", 30, 0, "", "", "none")
-half = [place(1, E), place(2, P, used=50, policy=4), place(3, S, used=7, policy=2), place(4, D, policy=1, mark=0)]
-explained(card_line(half), DONE, ONE, TWO, THREE, FOUR)
+records = [place(1, E), place(2, P, used=50, policy=4), place(3, S, used=7, policy=2), place(4, D, policy=1, mark=0)]
+explained(card_line(records), DONE, ONE, TWO, THREE, FOUR)
 explained(MASTER_DELETE, WRONG_STATE, ONE, TWO, THREE, FOUR)
 explained(DELETES[1], FORBIDDEN, ONE, TWO, THREE, FOUR)
 explained(DELETES[0], DONE, ONE, THREE, FOUR, more=TAKEN)
@@ -2009,14 +2009,14 @@ def changing(line, word, one, three, *two, **more):
 name("B60: refused in Trial and in Back, the card and its clock are as they were; after the confirmation it is deleted")
 TRIAL = {"phase": "trial: previous at place 0, ticks left 1, number 9", "ticks": 11}
 BACK = {"phase": "back: ticks left 10, number 10", "ticks": 10}
-HALF = (1, B, "PERSONALIZED", 50, 50, "", "", "none")
-half = [place(1, D), place(2, P, used=50, mark=0), place(3, E)]
-changing(card_line(half, last=9, phase="T:0:1:9"), DONE, "DISABLED", "ENABLED", HALF, **TRIAL)
-changing(DELETES[0], WRONG_STATE, "DISABLED", "ENABLED", HALF, **TRIAL)
-changing(MASTER_DELETE, WRONG_STATE, "DISABLED", "ENABLED", HALF, **TRIAL)
-changing("tick", DONE, "ENABLED", "DISABLED", HALF, more=["notification 10: rolled back, A000000001 enabled"], **BACK)
-changing(DELETES[0], WRONG_STATE, "ENABLED", "DISABLED", HALF, **BACK)
-changing(f"command 0 {store('3A08', '4E02000A')}", DONE, "ENABLED", "DISABLED", HALF)
+CREATED = (1, B, "PERSONALIZED", 50, 50, "", "", "none")
+records = [place(1, D), place(2, P, used=50, mark=0), place(3, E)]
+changing(card_line(records, last=9, phase="T:0:1:9"), DONE, "DISABLED", "ENABLED", CREATED, **TRIAL)
+changing(DELETES[0], WRONG_STATE, "DISABLED", "ENABLED", CREATED, **TRIAL)
+changing(MASTER_DELETE, WRONG_STATE, "DISABLED", "ENABLED", CREATED, **TRIAL)
+changing("tick", DONE, "ENABLED", "DISABLED", CREATED, more=["notification 10: rolled back, A000000001 enabled"], **BACK)
+changing(DELETES[0], WRONG_STATE, "ENABLED", "DISABLED", CREATED, **BACK)
+changing(f"command 0 {store('3A08', '4E02000A')}", DONE, "ENABLED", "DISABLED", CREATED)
 changing(DELETES[0], DONE, "ENABLED", "DISABLED", more=TAKEN)
 store_away("explained", "\n\n", ["explain"])
 

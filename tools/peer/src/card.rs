@@ -78,6 +78,11 @@ impl Place {
         self.aid.length > 0
     }
 
+    /// Table 2 of 000 maps both states to Created: what a download that stops half way leaves behind.
+    pub fn is_created(&self) -> bool {
+        matches!(self.life_cycle, SELECTABLE | PERSONALIZED)
+    }
+
     /// One test for soundness and for set fall-back, so that naming the holder meets no refusal.
     pub fn may_be_fall_back(&self) -> bool {
         matches!(self.life_cycle, DISABLED | ENABLED) && self.mark == MARKED
@@ -219,10 +224,11 @@ impl Card {
         index == self.fall_back as usize
     }
 
-    /// What delete takes. SELECTABLE and PERSONALIZED are what a download that breaks off leaves
-    /// behind (000, 3.1.4), so their room has to come back too.
+    /// What delete takes. A broken download is cleared away by it (000, 3.1.4), so the room of a
+    /// Created profile has to come back too.
     pub fn may_be_deleted(&self, index: usize) -> bool {
-        matches!(self.places[index].life_cycle, SELECTABLE | PERSONALIZED | DISABLED) && !self.is_fall_back(index)
+        let place = &self.places[index];
+        (place.is_created() || place.life_cycle == DISABLED) && !self.is_fall_back(index)
     }
 
     /// What master delete takes (000, 4.1.1.6): it overrules the policy of a whole profile, and is

@@ -38,7 +38,7 @@ fn place(name: &[u8], life_cycle: u8, policy: u8, mark: u8, used: u32) -> Place 
     Place { aid: Aid::of(name), life_cycle, quota: 50, used, policy, mark }
 }
 
-/// 03 is the target. Below it stands one whose name begins like its own, above it two others and a half-loaded one.
+/// 03 is the target. Below it stands one whose name begins like its own, above it two others and a Created one.
 fn card_of(target: Place, enabled: usize, fall_back: usize) -> Card {
     let mut card = Card { capacity: 1000, volatile: 9, last: 4, fall_back: fall_back as u8, ..Card::ZEROS };
     card.places[0] = place(&[0xA0, 0, 0, 0, 3, 0], DISABLED, 3, MARKED, 7);
@@ -165,10 +165,10 @@ fn an_open_change_refuses_both_deletes() {
 
 #[test]
 fn what_is_not_held_or_not_sound_comes_before_the_state() {
-    let half_loaded = card_of(place(&name(3), PERSONALIZED, 0, 0, 5), 4, 0);
-    holds(half_loaded, 1, &delete(9), 0x6A88);
-    holds(half_loaded, 1, &master_delete(9), 0x6A88);
-    // A half-loaded profile is no fall-back of a sound card.
+    let card = card_of(place(&name(3), PERSONALIZED, 0, 0, 5), 4, 0);
+    holds(card, 1, &delete(9), 0x6A88);
+    holds(card, 1, &master_delete(9), 0x6A88);
+    // A Created profile is no fall-back of a sound card.
     for life_cycle in [SELECTABLE, PERSONALIZED] {
         let mut kept = Kept::of(card_of(place(&name(3), life_cycle, 0, MARKED, 5), 4, AT));
         assert_eq!(status(&mut kept, &delete(3)), 0x6F00);
@@ -176,9 +176,9 @@ fn what_is_not_held_or_not_sound_comes_before_the_state() {
     }
 }
 
-/// The deletion at confirmation asks what it asked: in Trial the policy of the previous profile, and no half-loaded one.
+/// The deletion at confirmation asks what it asked: in Trial the policy of the previous profile, and no Created one.
 #[test]
-fn a_confirmation_deletes_no_half_loaded_profile() {
+fn a_confirmation_deletes_no_created_profile() {
     let confirm = [0x80, 0xE2, 0x89, 0, 7, 0x3A, 8, 4, 0x4E, 2, 0, 4];
     for life_cycle in [SELECTABLE, PERSONALIZED] {
         let card = card_of(place(&name(3), life_cycle, 4, 0, 5), 0, 0);

@@ -75,11 +75,11 @@ fn made(last: u8, policy: u8) -> Vec<u8> {
 
 /// A profile made and loaded, and finished by an event of this kind whose bytes before the AID are these.
 fn loaded(last: u8, kind: u8, given: &[u8]) -> Vec<u8> {
-    [half_loaded(last), event(kind, &[given, &[0xA0, 0, 0, 0, last]].concat())].concat()
+    [personalized(last), event(kind, &[given, &[0xA0, 0, 0, 0, last]].concat())].concat()
 }
 
 /// A profile that has only to be finished: three events.
-fn half_loaded(last: u8) -> Vec<u8> {
+fn personalized(last: u8) -> Vec<u8> {
     let aid = [0xA0, 0, 0, 0, last];
     let create = "80E60C002205A00000000105A00000000105A0000000";
     [
@@ -217,19 +217,19 @@ fn a_deleted_profile_keeps_its_line() {
     assert_eq!(of_events(&[&stay, &again]), "A000000001 1\nA000000002 2\nticks 3\nevents 16\n");
 }
 
-/// Deleted, a half-loaded profile can be neither finished nor enabled; created again it can.
+/// Deleted, what a broken download left can be neither finished nor enabled; created again it can.
 #[test]
 fn a_broken_download_is_deleted() {
     let delete = command("80E40040074F05A000000002");
     let finished = event(4, &[0, 0xA0, 0, 0, 0, 2]);
     let enabled = [change(3, 2), TICK.repeat(3)].concat();
     let gone = "A000000001 3\nticks 3\nevents 9\n";
-    assert_eq!(of_events(&[&half_loaded(2), &delete, &finished, &enabled]), gone);
+    assert_eq!(of_events(&[&personalized(2), &delete, &finished, &enabled]), gone);
     let again = "A000000001 0\nA000000002 3\nticks 3\nevents 12\n";
-    assert_eq!(of_events(&[&half_loaded(2), &delete, &made(2, 0), &enabled]), again);
+    assert_eq!(of_events(&[&personalized(2), &delete, &made(2, 0), &enabled]), again);
     let open = [change(3, 3), delete, confirm(1), finished, enabled].concat();
     let kept = "A000000001 0\nA000000003 0\nA000000002 3\nticks 3\nevents 15\n";
-    assert_eq!(of_events(&[&made(3, 0), &half_loaded(2), &open]), kept);
+    assert_eq!(of_events(&[&made(3, 0), &personalized(2), &open]), kept);
 }
 
 /// Each AID is enabled, confirmed and, when the next one is, deleted.

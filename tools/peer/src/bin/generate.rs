@@ -445,19 +445,25 @@ impl Generator {
         self.random.pick(&[0, 1, 1, 2, 255])
     }
 
-    fn create(&mut self) {
-        let card = *self.model.card();
+    /// Mostly a name that is not held, so that the creation is taken; often the one deleted last, since created again
+    /// nothing of its first life may show; now and then an odd one.
+    fn aid_to_create(&mut self) -> Vec<u8> {
         let mut aid = self.any_aid();
-        if card.find(&aid).is_some() && self.random.chance(80) {
+        if self.model.card().find(&aid).is_some() && self.random.chance(80) {
             aid = self.any_aid();
         }
-        // Created again, nothing of its first life may show.
         if let Some(gone) = self.gone_aid().filter(|_| self.random.chance(25)) {
             aid = gone;
         }
         if self.random.chance(3) {
             aid = self.odd_aid();
         }
+        aid
+    }
+
+    fn create(&mut self) {
+        let card = *self.model.card();
+        let aid = self.aid_to_create();
         let free = if card.is_sound() { card.free() } else { 0 };
         let small = self.random.number(1, (card.capacity / 10).min(free / 2) + 1);
         let choices =
@@ -540,18 +546,17 @@ impl Generator {
     /// only a record handed in has.
     fn doomed(&mut self) -> Vec<u8> {
         let fall_back = usize::from(self.model.card().fall_back);
-        let is_half_loaded = |place: &Place| matches!(place.life_cycle, SELECTABLE | PERSONALIZED);
-        let is_forbidden = |place: &Place| is_half_loaded(place) && place.policy & DELETION_FORBIDDEN != 0;
-        let half_loaded = !self.places(|_, place| is_half_loaded(place)).is_empty();
+        let is_forbidden = |place: &Place| place.is_created() && place.policy & DELETION_FORBIDDEN != 0;
+        let created = !self.places(|_, place| place.is_created()).is_empty();
         let forbidden = !self.places(|_, place| is_forbidden(place)).is_empty();
         match self.random.below(100) {
             0..=59 if forbidden => self.target(|_, place| is_forbidden(place)),
-            0..=39 if half_loaded => self.target(|_, place| is_half_loaded(place)),
+            0..=39 if created => self.target(|_, place| place.is_created()),
             _ => self.target(|index, place| place.life_cycle == DISABLED && index != fall_back),
         }
     }
 
-    /// Master delete is asked for the same profiles, and leaves the half-loaded ones.
+    /// Master delete is asked for the same profiles, and leaves the Created ones.
     fn delete(&mut self, master: bool) {
         let aid = self.doomed();
         let mut field = tlv(&[0x4F], &aid);
