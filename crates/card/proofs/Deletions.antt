@@ -1,5 +1,5 @@
--- What the two tests of a deletion say of each life cycle, and what they tell: the profile is there, it is not ENABLED and not the fall-back; of
--- a place with one of the four life cycles that is all that delete's test asks. By the life cycles that the tests name. Assumes nothing.
+-- What a deletion leaves; what the two tests of it say of each life cycle, and what they tell: the profile is not ENABLED and not the fall-back,
+-- and of a place with one of the four life cycles that is all that delete's test asks. By the life cycles that the tests name. Assumes nothing.
 use mathlib.Core.Path.{_≡_, refl, sym, _∙_}
 use Prim.Native.Nat.{ℕ}
 use native.Mathlib.Omega.{arith}
@@ -10,9 +10,11 @@ use Rattle.isdp.specs.LifeCycle.{selectable, personalized, disabled, enabled, i
 use Rattle.isdp.specs.Place.{lifeOk}
 use Rattle.isdp.proofs.Bools.{and-l, and-r}
 use Rattle.places.specs.Places.{at}
+use Rattle.places.proofs.Sets.{clear-at, clear-quotas}
 use Rattle.card.specs.Cards.{mayBeDeleted, mayBeMasterDeleted}
-use Rattle.card.specs.Deletions.{DeletionTests}
+use Rattle.card.specs.Deletions.{DeletionTests, DeletionLeaves}
 use Rattle.card.specs.declared.Card.{Card}
+use Rattle.card.proofs.Sounds.{parts}
 
 -- a test that says this where the place is not the fall-back's, and two of them
 says : (x b : Bool) → (x && not b) ≡ cond b false x
@@ -34,17 +36,23 @@ deletion-tests =
       if-enabled = λ c i e. rw e (say false false (eqb i (c .fallback)));
     }
 
+pub deletion-leaves : DeletionLeaves
+deletion-leaves =
+    record {
+      place-zero = λ c i. clear-at (c .places) i;
+      free-grows = λ c i s. let r = parts c s .placed .room in let q = clear-quotas (c .places) i in omega arith;
+    }
+
 -- the profile at place i may be deleted
 pub record Deletable (c : Card) (i : ℕ) : Type 0 where
-  pub there : at (c .places) i .life ≡ 0 → ⊥
   pub off : isEnabled (at (c .places) i) ≡ false
   pub apart : i ≡ c .fallback → ⊥
 
 -- a life cycle that delete takes
-taken-case : (v : ℕ) (x y z : Bool) → eqb v selectable ≡ x → eqb v personalized ≡ y → eqb v disabled ≡ z → ((x || y) || z) ≡ true → (v ≡ 0 → ⊥) × (eqb v enabled ≡ false)
-taken-case v true y z e f g h = rw (eqb-true v selectable e) ((λ n. omega arith), refl)
-taken-case v false true z e f g h = rw (eqb-true v personalized f) ((λ n. omega arith), refl)
-taken-case v false false true e f g h = rw (eqb-true v disabled g) ((λ n. omega arith), refl)
+taken-case : (v : ℕ) (x y z : Bool) → eqb v selectable ≡ x → eqb v personalized ≡ y → eqb v disabled ≡ z → ((x || y) || z) ≡ true → eqb v enabled ≡ false
+taken-case v true y z e f g h = rw (eqb-true v selectable e)
+taken-case v false true z e f g h = rw (eqb-true v personalized f)
+taken-case v false false true e f g h = rw (eqb-true v disabled g)
 taken-case v false false false e f g h = absurd (false≢true h)
 
 -- of the four life cycles, each but ENABLED
@@ -60,8 +68,10 @@ module _ (c : Card) (i : ℕ) where
 
   pub deletable : mayBeDeleted c i ≡ true → Deletable c i
   deletable e =
-      let k = taken-case v (eqb v selectable) (eqb v personalized) (eqb v disabled) refl refl refl (and-l (isCreated v || eqb v disabled) _ e) in
-      record { there = k .0; off = k .1; apart = eqb-false _ _ (not-true _ (and-r (isCreated v || eqb v disabled) _ e)) }
+      record {
+        off = taken-case v (eqb v selectable) (eqb v personalized) (eqb v disabled) refl refl refl (and-l (isCreated v || eqb v disabled) _ e);
+        apart = eqb-false _ _ (not-true _ (and-r (isCreated v || eqb v disabled) _ e));
+      }
 
   pub may-be-deleted : lifeOk v ≡ true → (v ≡ enabled → ⊥) → (i ≡ c .fallback → ⊥) → mayBeDeleted c i ≡ true
   may-be-deleted l n f =

@@ -1,4 +1,4 @@
--- What owning a card tells of its fields: the prover knows it of the types. Assumes nothing.
+-- What owning a card tells of its fields: the prover knows it of the types; and two cards that agree in every field are one. Assumes nothing.
 use mathlib.Core.Path.{_≡_, sym, _∙_}
 use Prim.Native.Nat.{ℕ, _≤_}
 use native.Mathlib.Omega.{arith}
@@ -10,7 +10,10 @@ use denote.Laws.{Is}
 use denote.Struct.Declared.{row}
 use borrow.Author.Needs.{needs}
 use Rattle.isdp.specs.Sizes.{mostPlaces, eidSize, lastNumber}
+use Rattle.isdp.specs.declared.Isdp.{Isdp}
+use Rattle.card.specs.Cards.{cardWith}
 use Rattle.card.specs.declared.Card.{Card}
+use Rattle.card.specs.declared.Phase.{Phase}
 use Rattle.card.proofs.Card as C
 
 length-mapped : (X Y : Type 0) (f : X → Y) (l : List X) (n : ℕ) → length (map f l) ≡ n → length l ≡ n
@@ -27,3 +30,9 @@ last-fits card vs g = search needs
 
 pub numbered : (card : Card) (vs : List Val) → Is (row C.the-type) card vs → card .last ≤ lastNumber
 numbered card vs g = let h = last-fits card vs g in omega arith
+
+respelled : (e e' : List ℕ) (k k' v v' n n' f f' : ℕ) (p p' : Phase) (l l' : List Isdp) → e ≡ e' → k ≡ k' → v ≡ v' → n ≡ n' → f ≡ f' → p ≡ p' → l ≡ l' → cardWith e k v n f p l ≡ cardWith e' k' v' n' f' p' l'
+respelled e e' k k' v v' n n' f f' p p' l l' a b c d g h i = rw (a, b, c, d, g, h, i)
+
+pub same-card : (c d : Card) → d .eid ≡ c .eid → d .capacity ≡ c .capacity → d .volatile ≡ c .volatile → d .last ≡ c .last → d .fallback ≡ c .fallback → d .phase ≡ c .phase → d .places ≡ c .places → d ≡ c
+same-card c d a b e f g h i = respelled _ _ _ _ _ _ _ _ _ _ _ _ _ _ a b e f g h i

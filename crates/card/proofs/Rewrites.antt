@@ -18,7 +18,7 @@ use Rattle.isdp.proofs.Bools.{and-r}
 use Rattle.isdp.proofs.Placed.{none-ok}
 use Rattle.places.specs.Places.{at, quotas, distinct}
 use Rattle.places.proofs.Lives.{within}
-use Rattle.places.proofs.Sets.{set-all, set-count, set-quotas, set-alike, clear-distinct}
+use Rattle.places.proofs.Sets.{set-all, set-count, set-quotas, set-alike, clear-quotas, clear-distinct}
 use Rattle.card.specs.Cards.{mayBeDeleted, withChange, withPhase, withFallback, cleared, rewritten}
 use Rattle.card.specs.Sound.{sound}
 use Rattle.card.specs.Clock.{dropped, confirmIn, confirmOf}
@@ -72,7 +72,7 @@ deletes c i s o m =
     let l = c .places in
     let d = deletable c i m in
     sets c i _ (c .phase) s (none-ok (c .capacity)) (sym (d .off)) (clear-distinct l i (s .placed .apart))
-    (let q = set-quotas vacant l i (within l i (d .there)) in let r = s .placed .room in omega arith)
+    (let q = clear-quotas l i in let r = s .placed .room in omega arith)
     (rw (getD-set-other l i (c .fallback) vacant vacant (λ q. d .apart (sym q))) (s .roles .resort))
     (rw o tt)
 

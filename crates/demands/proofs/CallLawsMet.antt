@@ -1,4 +1,4 @@
--- Bytes of each command, read back by computing: what is read was so field.
+-- Bytes of each command, read back by computing: what is read was so written.
 use mathlib.Core.Path.{_≡_, refl}
 use Prim.Native.Nat.{ℕ}
 use mathlib.Core.List.{List, [], _∷_, _++_}
@@ -13,7 +13,6 @@ use Rattle.reader.specs.Reader.{aloneAt}
 use Rattle.fields.specs.Delete.{verificationAt, deletionAt}
 use Rattle.fields.specs.GetStatus.{tagsAt, listingAt}
 use Rattle.fields.specs.StoreData.{dgiAt, namedBy, confirmationAt, storeDataAt}
-use Rattle.fields.specs.Grammar as field
 use Rattle.fields.specs.Grammar.{Wanted}
 use Rattle.install.specs.Parameters.{protocolsWithin, protocolsAt, numberAt, grantOf, memoryAt, parametersAt}
 use Rattle.install.specs.Install.{prefixedOf, prefixedAt, namesAt, rightsAt, installOf}
@@ -21,13 +20,12 @@ use Rattle.command.specs.Framing.{lengthWrong, classRight, classWrong, instruct
 use Rattle.command.specs.Requests.{fieldOf, dataWrong}
 use Rattle.command.specs.Reading.{readOf}
 use Rattle.command.specs.Grammar.{readAs}
-use Rattle.command.proofs.Written.{command-written}
 use Rattle.steps.specs.Laws.Met.{aidEnding}
 use Rattle.demands.specs.CallLaws.{IsWritten, EveryCallMet}
-use Rattle.demands.proofs.HypothesesMet.{smallBytes, bytes-of}
+use Rattle.demands.proofs.HypothesesMet.{smallBytes, encodes}
 
 is-written : (s : List ℕ) (w : Wanted) → smallBytes s ≡ true → readAs s (readOf s 1000) ≡ some w → IsWritten w
-is-written s w b e = (s, command-written s 1000 w (bytes-of s b) e)
+is-written s w b e = (s, encodes s 1000 w b e)
 
 -- a DGI with an AID, a deletion
 abbrev storing : ℕ → List ℕ

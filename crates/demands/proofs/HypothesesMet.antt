@@ -33,7 +33,7 @@ use Rattle.tlv.specs.Tlv.{tagAt, lengthAt, afterLength, afterTag, headAt, expec
 use Rattle.tlv.specs.Encoding.{window, Bytes}
 use Rattle.reader.specs.Reader.{aloneAt}
 use Rattle.fields.specs.StoreData.{dgiAt, namedBy, confirmationAt, storeDataAt}
-use Rattle.fields.specs.Grammar.{confirmation, Created}
+use Rattle.fields.specs.Grammar.{confirmation, Created, Wanted}
 use Rattle.fields.specs.Grammar as written
 use Rattle.install.specs.Parameters.{protocolsWithin, protocolsAt, numberAt, grantOf, memoryAt, parametersAt}
 use Rattle.install.specs.Install.{prefixedOf, prefixedAt, namesAt, rightsAt, installOf}
@@ -110,22 +110,23 @@ abbrev pub smallBytes : List ℕ → Bool
 smallBytes [] = true
 smallBytes (x ∷ xs) = ltb x 256 && smallBytes xs
 
-pub bytes-of : (s : List ℕ) → smallBytes s ≡ true → Bytes s
+bytes-of : (s : List ℕ) → smallBytes s ≡ true → Bytes s
 bytes-of [] e i = omega arith
 bytes-of (x ∷ xs) e zero = ltb-true x 256 (and-l _ _ e)
 bytes-of (x ∷ xs) e (suc i) = bytes-of xs (and-r (ltb x 256) _ e) i
+
+-- what some bytes are read as they write
+pub encodes : (s : List ℕ) (capacity : ℕ) (w : Wanted) → smallBytes s ≡ true → readAs s (readOf s capacity) ≡ some w → Encodes capacity w s
+encodes s capacity w b e = command-written s capacity w (bytes-of s b) e
 
 reads : (readAs createBytes (readOf createBytes 1000) ≡ some (written.create asks)) × (readAs createBytes (readOf createBytes 100) ≡ some (written.create asks))
 unfolding readOf wordOf window lengthWrong classRight classWrong instructionWrong parametersRight parametersWrong shapeRight shapeWrong fieldOf dataWrong pick atMost isBelow isSame tagAt lengthAt afterLength afterTag headAt expectOf expectAt protocolsWithin protocolsAt numberAt grantOf memoryAt parametersAt prefixedOf prefixedAt namesAt rightsAt installOf listWrong listAt listWithin listOf elementOf restOf closed aloneAt
 reads = (refl, refl)
 
-encoded-in : (capacity : ℕ) → readAs createBytes (readOf createBytes capacity) ≡ some (written.create asks) → Encodes capacity (written.create asks) createBytes
-encoded-in capacity e = command-written createBytes capacity (written.create asks) (bytes-of createBytes refl) e
-
 request-on : (capacity : ℕ) → sound (freshOf capacity) ≡ true → readAs createBytes (readOf createBytes capacity) ≡ some (written.create asks) → SoundRequest (freshOf capacity) createBytes 256 asks
 unfolding anyOf isFor sameBytes padded
 request-on capacity s e =
-    record { card-sound = s; card-quiet = refl; buffer-long = omega arith; encoded = encoded-in capacity e; not-held = refl }
+    record { card-sound = s; card-quiet = refl; buffer-long = omega arith; encoded = encodes createBytes capacity (written.create asks) refl e; not-held = refl }
 
 -- 900 bytes are free on the one card, none on the other
 pub create-met : CreateMet
@@ -158,8 +159,8 @@ trial-sound = refl
 
 pub confirmation-met : ConfirmationMet
 confirmation-met =
-    let e = command-written (confirmBytes 1) 1000 (written.storeData (confirmation 1)) (bytes-of (confirmBytes 1) refl) (confirm-reads .0) in
-    let f = command-written (confirmBytes 2) 1000 (written.storeData (confirmation 2)) (bytes-of (confirmBytes 2) refl) (confirm-reads .1) in
+    let e = encodes (confirmBytes 1) 1000 (written.storeData (confirmation 1)) refl (confirm-reads .0) in
+    let f = encodes (confirmBytes 2) 1000 (written.storeData (confirmation 2)) refl (confirm-reads .1) in
     record {
       card = trial;
       card-sound = trial-sound;

@@ -1,7 +1,7 @@
 -- A step touches AID, quota, used, policy and mark of no other profile. Tick, lost, enable and disable change life cycles alone; every
 -- other step sets one place: the target's, a free one, or at confirmation the previous one. Assumes nothing.
 use mathlib.Core.Path.{_≡_, refl, ap, sym, _∙_}
-use Prim.Native.Nat.{ℕ, zero, suc, _<_}
+use Prim.Native.Nat.{ℕ, _<_}
 use mathlib.Core.List.{List, [], _∷_}
 use mathlib.Core.Bool.{Bool, true, false, _&&_, false≢true}
 use lib.ListN.{length, set}
@@ -16,6 +16,7 @@ use Rattle.isdp.proofs.Bools.{and-l, and-r}
 use Rattle.places.specs.Places.{at, seek, isFree}
 use Rattle.places.proofs.Seeks.{seek-below}
 use Rattle.places.proofs.Lives.{Lives, Lives.ended, Lives.place, enable-lives, lives-at}
+use Rattle.places.proofs.Sets.{clear-at}
 use Rattle.card.specs.Cards.{isQuiet, placeOf, freePlace, onFallback}
 use Rattle.card.specs.Clock.{tickIn, tickOf, lostOf, dropped, confirmIn, confirmOf}
 use Rattle.card.specs.Steps.{tickStep, lostStep, confirmStep}
@@ -84,11 +85,6 @@ lively {l} {m} j r =
       mark = ap (λ (x : Isdp). x .mark) e;
     }
 
-cleared : (l : List Isdp) (i : ℕ) → at (set l i vacant) i ≡ vacant
-cleared [] i = refl
-cleared (p ∷ ps) zero = refl
-cleared (p ∷ ps) (suc i) = cleared ps i
-
 module _ (c : Card) (j : ℕ) where
   abbrev Kept : Card → Type 0
   Kept d = AsItWas (at (c .places) j) (at (d .places) j)
@@ -130,7 +126,7 @@ module _ (c : Card) (j : ℕ) where
   gone : (p : Phase) → leavesIn p c j ≡ true → at (confirmIn p c .places) j ≡ vacant
   gone Quiet e = absurd (false≢true e)
   gone (Trial q l m) e =
-      rw (and-r (eqb q j) _ e, eqb-true q j (and-l (eqb q j) _ e)) (cleared (c .places) j)
+      rw (and-r (eqb q j) _ e, eqb-true q j (and-l (eqb q j) _ e)) (clear-at (c .places) j)
   gone (Back l m) e = absurd (false≢true e)
   gone (Fallen l m) e = absurd (false≢true e)
 

@@ -17,13 +17,12 @@ use Rattle.isdp.specs.declared.Isdp.{Isdp}
 use Rattle.isdp.proofs.Bools.{both}
 use Rattle.isdp.proofs.Placed.{vacant-is, made-held, made-aid}
 use Rattle.places.proofs.Sets.{all-at, same-places}
-use Rattle.card.specs.Cards.{cardWith}
 use Rattle.card.specs.Sound.{sound}
 use Rattle.card.specs.Ticks.{ticksByPhase}
 use Rattle.card.specs.Answers.{Outcome, accepted}
 use Rattle.card.specs.declared.Card.{Card}
-use Rattle.card.specs.declared.Phase.{Phase}
 use Rattle.card.specs.declared.Phase.the-variants.{Quiet}
+use Rattle.card.proofs.Records.{same-card}
 use Rattle.card.proofs.Sounds.{parts, resort-nonzero}
 use Rattle.fields.specs.Grammar as field
 use Rattle.command.specs.Grammar.{Encodes}
@@ -50,10 +49,6 @@ module _ (P : Card → Type 0) (d : Card) (call : Call) (f : step d call .status
 
   settled : P (step d call .card)
   settled = settled-case (isDone (step d call .status)) refl
-
--- two records that agree in every field
-respelled : (e e' : List ℕ) (k k' v v' n n' f f' : ℕ) (p p' : Phase) (l l' : List Isdp) → e ≡ e' → k ≡ k' → v ≡ v' → n ≡ n' → f ≡ f' → p ≡ p' → l ≡ l' → cardWith e k v n f p l ≡ cardWith e' k' v' n' f' p' l'
-respelled e e' k k' v v' n n' f f' p p' l l' a b c d g h i = rw (a, b, c, d, g, h, i)
 
 -- card d is card c but for place t
 record Beside (c : Card) (t : ℕ) (d : Card) : Type 0 where
@@ -93,10 +88,10 @@ module _ (c : Card) (t : ℕ) (d : Card) (x : Isdp) (bytes : List ℕ) (ticks : 
   same-case e i true q = e ∙ ap (profileAt c) (sym (eqb-true i t q))
   same-case e i false q = b .others i q
 
-  same-card : x ≡ profileAt c t → o .card ≡ c
-  same-card e =
+  undone : x ≡ profileAt c t → o .card ≡ c
+  undone e =
       let k = still-beside in
-      respelled _ _ _ _ _ _ _ _ _ _ _ _ _ _ (k .eid) (k .capacity) (k .volatile) (k .last) (k .fallback) (k .phase)
+      same-card c (o .card) (k .eid) (k .capacity) (k .volatile) (k .last) (k .fallback) (k .phase)
       (same-places (o .card .places) (c .places) (k .as-many) (λ i. a .places i ∙ same-case e i (eqb i t) refl))
 
 -- a download on the way: place t bears the AID, and while it is loaded its policy is empty
@@ -182,7 +177,7 @@ no-room-lost c v _ _ inner (commands verdict s room long encoded) (commands verd
     let r = every-call .delete aid d verdict' s' room' (h .still-sound) long' encodes .exactly t (h .bears) .where-may (may-delete c aid t d h sounds (may .none-open) free l) in
     record {
       status = r .status;
-      card = same-card c t d vacant _ _ _ (h .beside) r (sym free);
+      card = undone c t d vacant _ _ _ (h .beside) r (sym free);
       response = r .response;
       notification = r .notification;
       ticks = r .ticks ∙ rw (may .none-open);

@@ -34,17 +34,15 @@ use Rattle.command.specs.Framing.{lengthWrong, classRight, classWrong, instruct
 use Rattle.command.specs.Requests.{fieldOf, dataWrong}
 use Rattle.command.specs.Grammar.{readAs}
 use Rattle.command.specs.Reading.{readOf}
-use Rattle.command.proofs.Written.{command-written}
 use Rattle.responses.specs.Responses.{statusBody, statusRow, rowOf, rowsFrom, statusResponse, oneStatus, dataResponse, deletedResponse}
 use Rattle.manager.specs.Manager.{step}
 use Rattle.demands.specs.Examples.{command, fresh}
 use Rattle.demands.specs.Engines.{reached}
 use Rattle.demands.specs.Room.{innerCalls, Writes, Writes.commands, RoomMet, RoomLost}
-use Rattle.demands.proofs.HypothesesMet.{smallBytes, bytes-of}
+use Rattle.demands.proofs.HypothesesMet.{smallBytes, encodes}
 
--- what bytes are read as is what they write
 writes : (s : List ℕ) (w : Wanted) → smallBytes s ≡ true → readAs s (readOf s 1000) ≡ some w → Writes 1000 w (command s)
-writes s w b e = commands 0 s 256 (omega arith) (command-written s 1000 w (bytes-of s b) e)
+writes s w b e = commands 0 s 256 (omega arith) (encodes s 1000 w b e)
 
 pub room-met : RoomMet
 unfolding fresh step wordOf sameBytes padded isFor clash zeros placeOk seek quotas allOf anyOf countOf distinct allOff enableAt phaseOk sound tickOf lostOf confirmOf tickStep lostStep confirmStep noticeSince stepsIn ticksToCome refused accepted freshOutcome pick atMost isBelow isSame tagAt lengthAt afterLength afterTag headAt expectOf expectAt aloneAt dgiAt confirmationAt namedBy storeDataAt verificationAt deletionAt noted listedWithin listedAt tagsAt listingAt protocolsWithin protocolsAt numberAt grantOf memoryAt parametersAt prefixedOf prefixedAt namesAt rightsAt installOf lengthWrong classRight classWrong instructionWrong parametersRight parametersWrong shapeRight shapeWrong fieldOf dataWrong statusBody statusRow rowOf rowsFrom statusResponse oneStatus dataResponse deletedResponse listWrong listAt listWithin listOf elementOf restOf closed reached innerCalls readOf window

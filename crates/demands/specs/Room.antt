@@ -3,7 +3,7 @@
 use Prim.Native.Nat.{ℕ, _≤_}
 use mathlib.Core.Path.{_≡_}
 use mathlib.Core.List.{List, [], _∷_}
-use mathlib.Core.Bool.{Bool, true, false, cond, _&&_}
+use mathlib.Core.Bool.{true, cond, _&&_}
 use lib.ListN.{set}
 use Rattle.status.specs.declared.Status.the-variants.{StateWrong, Done}
 use Rattle.isdp.specs.Aids.{noAid}
@@ -15,8 +15,7 @@ use Rattle.card.specs.declared.Card.{Card}
 use Rattle.fields.specs.Grammar as field
 use Rattle.fields.specs.Grammar.{Created, Wanted}
 use Rattle.command.specs.Grammar.{Encodes}
-use Rattle.steps.specs.Asked as act
-use Rattle.steps.specs.Asked.{Act, onTarget}
+use Rattle.steps.specs.Asked.{Act.delete, sameAct, onTarget}
 use Rattle.steps.specs.Laws.Answer.{Still}
 use Rattle.manager.specs.Calls.{Call, Call.Command, Call.Keyed, Call.Stored, Call.Finished, asked}
 use Rattle.manager.specs.Table.{leastBuffer}
@@ -62,21 +61,10 @@ GivesRoomBack answer =
 abbrev pub NoRoomLost : Type 0
 NoRoomLost = GivesRoomBack step
 
-abbrev pub isDelete : Act → Bool
-isDelete act.enable = false
-isDelete act.disable = false
-isDelete act.delete = true
-isDelete (act.masterDelete verdict) = false
-isDelete act.setFallBack = false
-isDelete (act.status life fallback) = false
-isDelete act.keyed = false
-isDelete (act.stored n) = false
-isDelete (act.finished policy mark) = false
-
 -- the manager, but for the answer to a delete that it takes, by the AID
 abbrev pub deletingSo : (Card → Call → List ℕ → Outcome) → Card → Call → Outcome
 deletingSo answer c call =
-    onTarget (step c call) (λ aid asks. cond (isDelete asks && taken c call) (answer c call aid) (step c call)) (asked c call)
+    onTarget (step c call) (λ aid act. cond (sameAct act delete && taken c call) (answer c call aid) (step c call)) (asked c call)
 
 -- "leaves an ISD-P that Delete will not take": 69 85 where it is Created
 abbrev pub leavesCreated : Card → Call → Outcome

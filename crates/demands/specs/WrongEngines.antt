@@ -24,7 +24,7 @@ use Rattle.card.specs.Answers.{Outcome, refused, accepted}
 use Rattle.card.specs.declared.Card.{Card}
 use Rattle.card.specs.declared.Phase.{Phase}
 use Rattle.card.specs.declared.Phase.the-variants.{Quiet, Trial, Back, Fallen}
-use Rattle.steps.specs.Asked.{Act, Act.enable, Act.disable, Act.delete, Act.masterDelete, Act.setFallBack, Act.status, Act.keyed, Act.stored, Act.finished, Asked, Asked.unread, Asked.create, Asked.on, Asked.confirm, Asked.statusOfAll, Asked.getData, Asked.tick, Asked.lost, onTarget}
+use Rattle.steps.specs.Asked.{Act.enable, Act.setFallBack, Asked, Asked.unread, Asked.create, Asked.on, Asked.confirm, Asked.statusOfAll, Asked.getData, Asked.tick, Asked.lost, sameAct, onTarget}
 use Rattle.manager.specs.Calls.{Call, Call.Command, Call.Keyed, Call.Stored, Call.Finished, Call.Tick, Call.Lost, asked}
 use Rattle.manager.specs.Manager.{step}
 use Rattle.demands.specs.Change.{taken, isTick}
@@ -167,19 +167,8 @@ rollBackAsksPolicy =
     cond (isTick call && (rollsBack (c .phase) && forbidsDisabling (at (c .places) (enabledPlace c) .policy)))
     (refused c PolicyForbids) (step c call))
 
-abbrev pub enables : Act → Bool
-enables enable = true
-enables disable = false
-enables delete = false
-enables (masterDelete verdict) = false
-enables setFallBack = false
-enables (status life fallback) = false
-enables keyed = false
-enables (stored n) = false
-enables (finished policy mark) = false
-
 abbrev pub asksEnable : Asked → Bool
-asksEnable a = onTarget false (λ aid act. enables act) a
+asksEnable a = onTarget false (λ aid act. sameAct act enable) a
 
 -- "The previous profile deleted at the enable command, so nothing is left to return to": where its policy has it deleted once disabled
 abbrev pub previousDeletedAtEnable : Engine
@@ -218,23 +207,12 @@ isLate phase lost = false
 abbrev pub lateConfirmationTaken : Engine
 lateConfirmationTaken = plain (λ c call. cond (isLate (c .phase) (asked c call)) (accepted Done (confirmStep c) []) (step c call))
 
-abbrev pub setsFallBack : Act → Bool
-setsFallBack enable = false
-setsFallBack disable = false
-setsFallBack delete = false
-setsFallBack (masterDelete verdict) = false
-setsFallBack setFallBack = true
-setsFallBack (status life fallback) = false
-setsFallBack keyed = false
-setsFallBack (stored n) = false
-setsFallBack (finished policy mark) = false
-
 -- request 2026-02, "Field staff moved the fall-back to a data-only profile": set fall-back ignores the mark
 abbrev pub unmarkedTaken : Card → Asked → Outcome → Outcome
 unmarkedTaken c a right =
     onTarget right
     (λ aid act.
-    cond (setsFallBack act && (isQuiet (c .phase) && isFinished (profileOf c aid .life)))
+    cond (sameAct act setFallBack && (isQuiet (c .phase) && isFinished (profileOf c aid .life)))
     (accepted Done (stepTo c (withFallback c (placeOf c aid)) noAid) []) right)
     a
 

@@ -79,6 +79,17 @@ unfolding anyOf
 any-never t n [] = refl
 any-never t n (p ∷ ps) = rw (n p, any-never t n ps)
 
+pub clear-at : (l : List Isdp) (i : ℕ) → at (set l i vacant) i ≡ vacant
+clear-at [] i = refl
+clear-at (p ∷ ps) zero = refl
+clear-at (p ∷ ps) (suc i) = clear-at ps i
+
+pub clear-quotas : (l : List Isdp) (i : ℕ) → quotas (set l i vacant) + at l i .quota ≡ quotas l
+unfolding quotas
+clear-quotas [] i = refl
+clear-quotas (p ∷ ps) zero = omega arith
+clear-quotas (p ∷ ps) (suc i) = let r = clear-quotas ps i in omega arith
+
 pub clear-distinct : (l : List Isdp) (i : ℕ) → distinct l ≡ true → distinct (set l i vacant) ≡ true
 clear-distinct l i e =
     set-distinct vacant l i (any-never (clash vacant) none-clash l) (any-never (λ p. clash p vacant) clash-none l) e

@@ -2,6 +2,7 @@
 use Prim.Native.Nat.{ℕ}
 use mathlib.Core.List.{List}
 use mathlib.Core.Bool.{Bool}
+use lib.Dec.{eqb}
 
 -- on one target
 pub data Act : Type 0 where
@@ -30,6 +31,21 @@ pub data Asked : Type 0 where
   getData : Asked
   tick : Asked
   lost : Asked
+
+-- the acts in their order, and whether two are the same act, whatever they are handed
+abbrev pub actNumber : Act → ℕ
+actNumber enable = 0
+actNumber disable = 1
+actNumber delete = 2
+actNumber (masterDelete verdict) = 3
+actNumber setFallBack = 4
+actNumber (status life fallback) = 5
+actNumber keyed = 6
+actNumber (stored n) = 7
+actNumber (finished policy mark) = 8
+
+abbrev pub sameAct : Act → Act → Bool
+sameAct a b = eqb (actNumber a) (actNumber b)
 
 -- of a call that concerns one target, by its AID and the act; `other` where it concerns none
 abbrev pub onTarget {ℓ} : {X : Type ℓ} → X → (List ℕ → Act → X) → Asked → X
