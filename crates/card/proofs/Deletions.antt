@@ -2,7 +2,6 @@
 -- and of a place with one of the four life cycles that is all that delete's test asks. By the life cycles that the tests name. Assumes nothing.
 use mathlib.Core.Path.{_≡_, refl, sym, _∙_}
 use Prim.Native.Nat.{ℕ}
-use native.Mathlib.Omega.{arith}
 use mathlib.Core.Bool.{Bool, true, false, not, cond, _&&_, _||_, false≢true}
 use lib.Dec.{eqb}
 use borrow.Author.Tests.{eqb-true, eqb-false, ne-eqb, not-true}
@@ -10,11 +9,12 @@ use Rattle.isdp.specs.LifeCycle.{selectable, personalized, disabled, enabled, i
 use Rattle.isdp.specs.Place.{lifeOk}
 use Rattle.isdp.proofs.Bools.{and-l, and-r}
 use Rattle.places.specs.Places.{at}
-use Rattle.places.proofs.Sets.{clear-at, clear-quotas}
+use Rattle.places.proofs.Sets.{clear-at}
 use Rattle.card.specs.Cards.{mayBeDeleted, mayBeMasterDeleted}
 use Rattle.card.specs.Deletions.{DeletionTests, DeletionLeaves}
 use Rattle.card.specs.declared.Card.{Card}
 use Rattle.card.proofs.Sounds.{parts}
+use Rattle.card.proofs.Free.{given-back}
 
 -- a test that says this where the place is not the fall-back's, and two of them
 says : (x b : Bool) → (x && not b) ≡ cond b false x
@@ -40,7 +40,7 @@ pub deletion-leaves : DeletionLeaves
 deletion-leaves =
     record {
       place-zero = λ c i. clear-at (c .places) i;
-      free-grows = λ c i s. let r = parts c s .placed .room in let q = clear-quotas (c .places) i in omega arith;
+      free-grows = λ c i s. given-back i c (parts c s .placed .room);
     }
 
 -- the profile at place i may be deleted

@@ -1,6 +1,6 @@
 -- A fresh card that is accepted is sound, and the record of zeros is not. The parts are computed, place by place. Assumes nothing.
 use mathlib.Core.Path.{_≡_, refl}
-use Prim.Native.Nat.{ℕ, _-_, _≤_}
+use Prim.Native.Nat.{ℕ, _+_, _-_, _≤_}
 use native.Mathlib.Omega.{arith}
 use mathlib.Core.List.{List, [], _∷_}
 use mathlib.Core.Bool.{Bool, true, false, not}
@@ -50,7 +50,7 @@ one-on : (aid : List ℕ) (quota used : ℕ) → countOf isEnabled (freshProfile
 unfolding countOf
 one-on aid quota used = refl
 
-room-of : (aid : List ℕ) (quota used k : ℕ) → quota ≤ k → quotas (freshProfile aid quota used ∷ replicate (mostPlaces - 1) vacant) ≤ k
+room-of : (aid : List ℕ) (quota used k : ℕ) → quota ≤ k → (k - quota) + quotas (freshProfile aid quota used ∷ replicate (mostPlaces - 1) vacant) ≡ k
 unfolding quotas
 room-of aid quota used k h = omega arith
 

@@ -2,8 +2,7 @@
 -- ENABLED) rewritten with its AID and quota, and a deletion of a profile that may be deleted; another fall-back
 -- does. Then the confirmation, which closes and may delete. Assumes nothing.
 use mathlib.Core.Path.{_≡_, refl, sym, _∙_}
-use Prim.Native.Nat.{ℕ, _≤_}
-use native.Mathlib.Omega.{arith}
+use Prim.Native.Nat.{ℕ, _+_}
 use mathlib.Core.List.{List}
 use mathlib.Core.Bool.{Bool, true, false, _||_, false≢true}
 use lib.ListN.{set, length-set}
@@ -17,22 +16,22 @@ use Rattle.isdp.specs.declared.Isdp.{Isdp}
 use Rattle.isdp.proofs.Bools.{and-r}
 use Rattle.isdp.proofs.Placed.{none-ok}
 use Rattle.places.specs.Places.{at, quotas, distinct}
-use Rattle.places.proofs.Lives.{within}
-use Rattle.places.proofs.Sets.{set-all, set-count, set-quotas, set-alike, clear-quotas, clear-distinct}
-use Rattle.card.specs.Cards.{mayBeDeleted, withChange, withPhase, withFallback, cleared, rewritten}
+use Rattle.places.proofs.Sets.{set-all, set-count, set-alike, clear-distinct}
+use Rattle.card.specs.Cards.{mayBeDeleted, withRoom, withPhase, withFallback, cleared, rewritten}
 use Rattle.card.specs.Sound.{sound}
 use Rattle.card.specs.Clock.{dropped, confirmIn, confirmOf}
 use Rattle.card.specs.declared.Card.{Card}
 use Rattle.card.specs.declared.Phase.{Phase}
 use Rattle.card.specs.declared.Phase.the-variants.{Quiet, Trial, Back, Fallen}
 use Rattle.card.proofs.Deletions.{deletable}
+use Rattle.card.proofs.Free.{deletion, rewriting}
 use Rattle.card.proofs.Sounds.{Sound, Phased, parts, whole, choose, resized, rephased, resort-done}
 
--- one place is set anew, with a phase that holds of the new card
-pub sets : (c : Card) (i : ℕ) (x : Isdp) (p : Phase) → Sound c → placeOk (c .capacity) x ≡ true → isEnabled x ≡ isEnabled (at (c .places) i) → distinct (set (c .places) i x) ≡ true → quotas (set (c .places) i x) ≤ c .capacity → mayBeFallBack (at (set (c .places) i x) (c .fallback)) ≡ true → Phased p (withChange c (c .last) p (set (c .places) i x)) → Sound (withChange c (c .last) p (set (c .places) i x))
-sets c i x p s o v d q f h =
+-- one place is set anew, and free is what the quotas then leave; the phase holds of the new card
+pub sets : (c : Card) (i : ℕ) (x : Isdp) (r : ℕ) → Sound c → placeOk (c .capacity) x ≡ true → isEnabled x ≡ isEnabled (at (c .places) i) → distinct (set (c .places) i x) ≡ true → r + quotas (set (c .places) i x) ≡ c .capacity → mayBeFallBack (at (set (c .places) i x) (c .fallback)) ≡ true → Phased (c .phase) (withRoom c r (set (c .places) i x)) → Sound (withRoom c r (set (c .places) i x))
+sets c i x r s o v d q f h =
     record {
-      sizes = resized c (c .last) p (set (c .places) i x) (s .sizes) (s .sizes .numbered) (length-set (c .places) i x);
+      sizes = resized c r (c .last) (c .phase) (set (c .places) i x) (s .sizes) (s .sizes .numbered) (length-set (c .places) i x);
       placed = record { each = set-all (placeOk (c .capacity)) x o (c .places) i (s .placed .each); apart = d; room = q };
       roles = record { one = set-count isEnabled x (c .places) i v ∙ s .roles .one; resort = f };
       phased = h;
@@ -61,8 +60,8 @@ module _ (c : Card) (i : ℕ) (x : Isdp) (s : Sound c) (n : at (c .places) i .li
 
   pub rewrites : Sound (rewritten c i x)
   rewrites =
-      sets c i x (c .phase) s o (v ∙ sym off-before) (set-alike x (c .places) i a ∙ s .placed .apart)
-      (let r = set-quotas x (c .places) i (within (c .places) i n) in let w = s .placed .room in omega arith)
+      sets c i x (c .free) s o (v ∙ sym off-before) (set-alike x (c .places) i a ∙ s .placed .apart)
+      (rewriting i x c q (s .placed .room))
       (rw (other (c .fallback) (resort-done c s)) (s .roles .resort))
       (phase-kept (c .phase) (s .phased))
 
@@ -71,8 +70,8 @@ pub deletes : (c : Card) (i : ℕ) → Sound c → c .phase ≡ Quiet → mayBeD
 deletes c i s o m =
     let l = c .places in
     let d = deletable c i m in
-    sets c i _ (c .phase) s (none-ok (c .capacity)) (sym (d .off)) (clear-distinct l i (s .placed .apart))
-    (let q = clear-quotas l i in let r = s .placed .room in omega arith)
+    sets c i _ _ s (none-ok (c .capacity)) (sym (d .off)) (clear-distinct l i (s .placed .apart))
+    (deletion i c (s .placed .room))
     (rw (getD-set-other l i (c .fallback) vacant vacant (λ q. d .apart (sym q))) (s .roles .resort))
     (rw o tt)
 

@@ -16,7 +16,7 @@ use Rattle.isdp.specs.declared.Isdp.{Isdp}
 use Rattle.isdp.proofs.Bools.{and-l, and-r, both}
 use Rattle.places.specs.Places.{at, quotas, allOf, countOf, distinct, enableAt}
 use Rattle.places.proofs.Lives.{enable-lives, lives-length, lives-quotas, lives-distinct, enable-one, enable-at, enable-ok, enable-resort, within}
-use Rattle.card.specs.Cards.{isQuiet, onFallback, withChange, withPhase}
+use Rattle.card.specs.Cards.{isQuiet, freeIn, onFallback, inState, withPhase}
 use Rattle.card.specs.Sound.{sized, sizesOk, placesOk, rolesOk, openOk, phaseIn, phaseOk, sound, FallBackMarked}
 use Rattle.card.specs.Clock.{nextOf, moved, tickIn, tickOf, lostOf}
 use Rattle.card.specs.declared.Card.{Card}
@@ -47,7 +47,7 @@ pub record Sizes (c : Card) : Type 0 where
 pub record Places (c : Card) : Type 0 where
   pub each : allOf (placeOk (c .capacity)) (c .places) ≡ true
   pub apart : distinct (c .places) ≡ true
-  pub room : quotas (c .places) ≤ c .capacity
+  pub room : freeIn c + quotas (c .places) ≡ c .capacity
 
 pub record Roles (c : Card) : Type 0 where
   pub one : countOf isEnabled (c .places) ≡ 1
@@ -99,7 +99,7 @@ sizes-parts c w =
 places-parts : (c : Card) → placesOk c ≡ true → Places c
 places-parts c w =
     let e = and-r (allOf (placeOk (c .capacity)) (c .places)) _ w in
-    record { each = and-l _ _ w; apart = and-l _ _ e; room = leb-true (quotas (c .places)) (c .capacity) (and-r (distinct (c .places)) _ e) }
+    record { each = and-l _ _ w; apart = and-l _ _ e; room = eqb-true (freeIn c + quotas (c .places)) (c .capacity) (and-r (distinct (c .places)) _ e) }
 
 roles-parts : (c : Card) → rolesOk c ≡ true → Roles c
 roles-parts c w = record { one = eqb-true (countOf isEnabled (c .places)) 1 (and-l _ _ w); resort = and-r (eqb (countOf isEnabled (c .places)) 1) _ w }
@@ -120,7 +120,7 @@ sizes-whole : (c : Card) → Sizes c → sizesOk c ≡ true
 sizes-whole c s = rw (s .named, s .full, le-leb (c .last) lastNumber (s .numbered), le-leb 1 (c .capacity) (s .some), le-leb (c .capacity) mostCapacity (s .most))
 
 places-whole : (c : Card) → Places c → placesOk c ≡ true
-places-whole c s = rw (s .each, s .apart, le-leb (quotas (c .places)) (c .capacity) (s .room))
+places-whole c s = rw (s .each, s .apart, eq-eqb (freeIn c + quotas (c .places)) (c .capacity) (s .room))
 
 roles-whole : (c : Card) → Roles c → rolesOk c ≡ true
 roles-whole c s = rw (eq-eqb _ _ (s .one), s .resort)
@@ -130,8 +130,8 @@ unfolding sound phaseOk
 whole c s = both _ _ (sizes-whole c (s .sizes)) (both _ _ (places-whole c (s .placed)) (both _ _ (roles-whole c (s .roles)) (phase-whole (c .phase) c (s .phased))))
 
 -- as many places and a number of two bytes: the sizes are kept
-pub resized : (c : Card) (n : ℕ) (p : Phase) (l : List Isdp) → Sizes c → n ≤ lastNumber → length l ≡ length (c .places) → Sizes (withChange c n p l)
-resized c n p l s h e = record { named = s .named; full = e ∙ s .full; numbered = h; some = s .some; most = s .most }
+pub resized : (c : Card) (r n : ℕ) (p : Phase) (l : List Isdp) → Sizes c → n ≤ lastNumber → length l ≡ length (c .places) → Sizes (inState c r n (c .fallback) p l)
+resized c r n p l s h e = record { named = s .named; full = e ∙ s .full; numbered = h; some = s .some; most = s .most }
 
 -- only the phase is new
 pub rephased : (c : Card) (p : Phase) → Sound c → Phased p (withPhase c p) → Sound (withPhase c p)
@@ -139,7 +139,7 @@ rephased c p s h =
     let z = s .placed in
     let r = s .roles in
     record {
-      sizes = resized c (c .last) p (c .places) (s .sizes) (s .sizes .numbered) refl;
+      sizes = resized c (c .free) (c .last) p (c .places) (s .sizes) (s .sizes .numbered) refl;
       placed = record { each = z .each; apart = z .apart; room = z .room };
       roles = record { one = r .one; resort = r .resort };
       phased = h;
@@ -159,7 +159,7 @@ moves c i p s n h =
     let r = enable-lives (c .places) i in
     let z = s .placed in
     record {
-      sizes = resized c (nextOf (c .last)) p (enableAt (c .places) i) (s .sizes) (next-small (c .last) (s .sizes .numbered)) (lives-length r);
+      sizes = resized c (c .free) (nextOf (c .last)) p (enableAt (c .places) i) (s .sizes) (next-small (c .last) (s .sizes .numbered)) (lives-length r);
       placed = record { each = enable-ok (c .capacity) (c .places) i (ne-eqb _ _ n) (z .each); apart = lives-distinct r ∙ z .apart; room = rw (lives-quotas r) (z .room) };
       roles = record { one = enable-one (c .places) i k; resort = enable-resort (c .places) i (c .fallback) k (s .roles .resort) };
       phased = h;

@@ -1,5 +1,5 @@
 -- Document 01, 'The card': what is asked of a card, the whole record, and its writes by name. The write that opens a change is `opened`, in Clock.
-use Prim.Native.Nat.{ℕ}
+use Prim.Native.Nat.{ℕ, _+_, _-_, min}
 use mathlib.Core.List.{List}
 use mathlib.Core.Bool.{Bool, true, false, not, _&&_, _||_}
 use lib.ListN.{set}
@@ -8,7 +8,7 @@ use Rattle.isdp.specs.LifeCycle.{disabled, isEnabled, isCreated}
 use Rattle.isdp.specs.Place.{vacant, isFor}
 use Rattle.isdp.specs.declared.Aid.{Aid}
 use Rattle.isdp.specs.declared.Isdp.{Isdp}
-use Rattle.places.specs.Places.{at, seek, isFree, freeOf}
+use Rattle.places.specs.Places.{at, seek, isFree}
 use Rattle.card.specs.declared.Card.{Card}
 use Rattle.card.specs.declared.Phase.{Phase}
 use Rattle.card.specs.declared.Phase.the-variants.{Quiet, Trial, Back, Fallen}
@@ -37,9 +37,9 @@ freePlace c = seek isFree (c .places)
 abbrev pub enabledAid : Card → Aid
 enabledAid c = at (c .places) (enabledPlace c) .aid
 
--- "Free is capacity less all quotas held"
+-- request 2026-04: "Keep free as a stored number in the card record"; what it equals is asked by soundness
 abbrev pub freeIn : Card → ℕ
-freeIn c = freeOf (c .capacity) (c .places)
+freeIn c = c .free
 
 -- the fall-back is enabled
 abbrev pub onFallback : Card → Bool
@@ -55,11 +55,12 @@ abbrev pub mayBeMasterDeleted : Card → ℕ → Bool
 mayBeMasterDeleted c i = eqb (at (c .places) i .life) disabled && not (eqb i (c .fallback))
 
 -- the whole record, spelled once: every other card is made of this
-abbrev pub cardWith : List ℕ → ℕ → ℕ → ℕ → ℕ → Phase → List Isdp → Card
-cardWith eid capacity volatile last fallback phase places =
+abbrev pub cardWith : List ℕ → ℕ → ℕ → ℕ → ℕ → ℕ → Phase → List Isdp → Card
+cardWith eid capacity volatile free last fallback phase places =
     record {
       capacity = capacity;
       volatile = volatile;
+      free = free;
       places = places;
       phase = phase;
       last = last;
@@ -67,13 +68,13 @@ cardWith eid capacity volatile last fallback phase places =
       eid = eid;
     }
 
--- the same card in another state: its last number, fall-back, phase and places
-abbrev pub inState : Card → ℕ → ℕ → Phase → List Isdp → Card
-inState c last fallback phase places = cardWith (c .eid) (c .capacity) (c .volatile) last fallback phase places
+-- the same card in another state: its free memory, last number, fall-back, phase and places
+abbrev pub inState : Card → ℕ → ℕ → ℕ → Phase → List Isdp → Card
+inState c free last fallback phase places = cardWith (c .eid) (c .capacity) (c .volatile) free last fallback phase places
 
 -- with another last number, phase and places; the two below change one of them
 abbrev pub withChange : Card → ℕ → Phase → List Isdp → Card
-withChange c n p l = inState c n (c .fallback) p l
+withChange c n p l = inState c (c .free) n (c .fallback) p l
 
 abbrev pub withPlaces : Card → List Isdp → Card
 withPlaces c l = withChange c (c .last) (c .phase) l
@@ -81,13 +82,21 @@ withPlaces c l = withChange c (c .last) (c .phase) l
 abbrev pub withPhase : Card → Phase → Card
 withPhase c p = withChange c (c .last) p (c .places)
 
--- the writes: a free place filled with a new profile
-abbrev pub filled : Card → ℕ → Isdp → Card
-filled c i p = withPlaces c (set (c .places) i p)
+-- with another place, and so much free
+abbrev pub withRoom : Card → ℕ → List Isdp → Card
+withRoom c free l = inState c free (c .last) (c .fallback) (c .phase) l
 
--- a place cleared: the deletion of delete, of master delete and of a confirmation
+-- the writes: a free place filled with a new profile, whose quota is taken from free
+abbrev pub filled : Card → ℕ → Isdp → Card
+filled c i p = withRoom c (freeIn c - p .quota) (set (c .places) i p)
+
+-- free with a quota given back; on no sound card would it pass the capacity
+abbrev pub givenBack : ℕ → ℕ → ℕ → ℕ
+givenBack capacity free quota = min (free + quota) capacity
+
+-- a place cleared and its quota given back: the deletion of delete, of master delete and of a confirmation
 abbrev pub cleared : Card → ℕ → Card
-cleared c i = withPlaces c (set (c .places) i vacant)
+cleared c i = withRoom c (givenBack (c .capacity) (freeIn c) (at (c .places) i .quota)) (set (c .places) i vacant)
 
 -- a profile rewritten where it stands, with its AID and its quota
 abbrev pub rewritten : Card → ℕ → Isdp → Card
@@ -95,4 +104,4 @@ rewritten c i p = withPlaces c (set (c .places) i p)
 
 -- another fall-back
 abbrev pub withFallback : Card → ℕ → Card
-withFallback c f = inState c (c .last) f (c .phase) (c .places)
+withFallback c f = inState c (c .free) (c .last) f (c .phase) (c .places)

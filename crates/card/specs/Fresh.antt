@@ -20,7 +20,7 @@ use Rattle.card.specs.declared.Phase.the-variants.{Quiet}
 
 -- the record of zeros
 abbrev pub zeroCard : Card
-zeroCard = cardWith (replicate eidSize 0) 0 0 0 0 Quiet (replicate mostPlaces vacant)
+zeroCard = cardWith (replicate eidSize 0) 0 0 0 0 0 Quiet (replicate mostPlaces vacant)
 
 -- the one profile of a fresh card
 abbrev pub freshProfile : List ℕ → ℕ → ℕ → Isdp
@@ -28,7 +28,7 @@ freshProfile aid quota used = withMark (made aid enabled quota used) 1
 
 abbrev pub freshCard : List ℕ → List ℕ → ℕ → ℕ → ℕ → ℕ → Card
 freshCard eid aid capacity quota used volatile =
-    cardWith eid capacity volatile 0 0 Quiet (freshProfile aid quota used ∷ replicate (mostPlaces - 1) vacant)
+    cardWith eid capacity volatile (capacity - quota) 0 0 Quiet (freshProfile aid quota used ∷ replicate (mostPlaces - 1) vacant)
 
 abbrev pub freshOk : List ℕ → List ℕ → ℕ → ℕ → ℕ → Bool
 freshOk eid aid capacity quota used =

@@ -3,6 +3,7 @@ pub mod Cards
 pub mod Deletions
 pub mod Sound
 pub mod Clock
+pub mod Free
 pub mod Ticks
 pub mod Notifications
 pub mod Steps

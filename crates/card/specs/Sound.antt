@@ -1,5 +1,5 @@
 -- Document 01, 'The card': "A sound card keeps the sizes, codings and rules above, ..", clause by clause.
-use Prim.Native.Nat.{ℕ}
+use Prim.Native.Nat.{ℕ, _+_}
 use mathlib.Core.Path.{_≡_}
 use mathlib.Core.Bool.{Bool, true, _&&_}
 use lib.ListN.{length}
@@ -9,6 +9,7 @@ use Rattle.isdp.specs.LifeCycle.{disabled, enabled, isEnabled}
 use Rattle.isdp.specs.Provisioning.{mayBeFallBack}
 use Rattle.isdp.specs.Place.{placeOk}
 use Rattle.places.specs.Places.{at, quotas, allOf, countOf, distinct}
+use Rattle.card.specs.Cards.{freeIn}
 use Rattle.card.specs.declared.Card.{Card}
 use Rattle.card.specs.declared.Phase.{Phase}
 use Rattle.card.specs.declared.Phase.the-variants.{Quiet, Trial, Back, Fallen}
@@ -21,11 +22,15 @@ sized c = eqb (length (c .eid)) eidSize && (eqb (length (c .places)) mostPlaces 
 abbrev pub sizesOk : Card → Bool
 sizesOk c = sized c && (leb 1 (c .capacity) && leb (c .capacity) mostCapacity)
 
--- places: each as its life cycle asks, no AID twice, the quotas within the capacity
+-- "quotas together within capacity"; request 2026-04: free "equal to capacity less the quotas". One equation says both: they make up the capacity.
+abbrev pub freeOk : Card → Bool
+freeOk c = eqb (freeIn c + quotas (c .places)) (c .capacity)
+
+-- places: each as its life cycle asks, no AID twice, the quotas and free the capacity
 abbrev pub placesOk : Card → Bool
 placesOk c =
     allOf (placeOk (c .capacity)) (c .places)
-    && (distinct (c .places) && leb (quotas (c .places)) (c .capacity))
+    && (distinct (c .places) && freeOk c)
 
 -- roles: one profile ENABLED, the fall-back DISABLED or ENABLED; request 2026-02: "a sound card's fall-back has it", the mark
 abbrev pub rolesOk : Card → Bool

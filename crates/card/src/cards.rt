@@ -5,9 +5,33 @@ use crate::Phase;
 use isdp::Isdp;
 use places::Found;
 ghost use mathlib.Core.Path.{_≡_};
+ghost use Prim.Native.Nat.{_-_};
 ghost use lib.ListN.{set};
-ghost use Rattle.card.specs.Cards.{isQuiet, placeOf, enabledPlace, freePlace, freeIn, mayBeDeleted, mayBeMasterDeleted, cardWith, withPhase, withPlaces, filled, cleared, rewritten, withFallback};
+ghost use Rattle.card.specs.Cards.{isQuiet, placeOf, enabledPlace, freePlace, mayBeDeleted, mayBeMasterDeleted, cardWith, withPhase, withPlaces, givenBack, filled, cleared, rewritten, withFallback};
 ghost use Rattle.places.specs.Places.{at, foundOf};
+
+// Free, or a capacity, less a quota; 0 where that is more, as on no sound card.
+pub(crate) fn less(free: u32, quota: u32) -> u32
+    ensures { λ r. ⌜ r ≡ free - quota ⌝ }
+{
+    if free < quota {
+        return 0;
+    }
+    free - quota
+}
+
+// Free with a quota given back; the capacity where it would be more, as on no sound card.
+fn given_back(capacity: u32, free: u32, quota: u32) -> u32
+    ensures { λ r. ⌜ r ≡ givenBack capacity free quota ⌝ }
+{
+    if capacity < free {
+        return capacity;
+    }
+    if capacity - free < quota {
+        return capacity;
+    }
+    free + quota
+}
 
 impl Phase {
     // Is no change open?
@@ -58,14 +82,6 @@ impl Card {
         places::free_place(places)
     }
 
-    // The memory that no quota holds.
-    pub fn free(self) -> u32
-        ensures { λ r. ⌜ r ≡ freeIn self ⌝ }
-    {
-        let places = self.places;
-        places::free(places, self.capacity)
-    }
-
     // The profile at a place; one that is not held past the last.
     pub fn profile(self, i: u8) -> Isdp
         ensures { λ r. ⌜ r ≡ at (self .places) i ⌝ }
@@ -96,16 +112,18 @@ impl Card {
         eid: [u8; 16],
         capacity: u32,
         volatile: u32,
+        free: u32,
         last: u16,
         fallback: u8,
         phase: Phase,
         places: [Isdp; Card::PLACES],
     ) -> Card
-        ensures { λ r. ⌜ r ≡ cardWith eid capacity volatile last fallback phase places ⌝ }
+        ensures { λ r. ⌜ r ≡ cardWith eid capacity volatile free last fallback phase places ⌝ }
     {
         Card {
             capacity,
             volatile,
+            free,
             places,
             phase,
             last,
@@ -123,6 +141,7 @@ impl Card {
             eid,
             self.capacity,
             self.volatile,
+            self.free,
             self.last,
             self.fallback,
             phase,
@@ -140,18 +159,23 @@ impl Card {
         after
     }
 
-    // A free place filled with a new profile.
+    // A free place filled with a new profile, whose quota is taken from free.
     pub fn filled(self, i: u8, p: Isdp) -> Card
         ensures { λ r. ⌜ r ≡ filled self i p ⌝ }
     {
-        self.with_place(i, p)
+        let mut after = self.with_place(i, p);
+        after.free = less(self.free, p.quota);
+        after
     }
 
-    // A place cleared: the deletion.
+    // A place cleared and its quota given back: the deletion.
     pub fn cleared(self, i: u8) -> Card
         ensures { λ r. ⌜ r ≡ cleared self i ⌝ }
     {
-        self.with_place(i, Isdp::none())
+        let p = self.profile(i);
+        let mut after = self.with_place(i, Isdp::none());
+        after.free = given_back(self.capacity, self.free, p.quota);
+        after
     }
 
     // A profile rewritten where it stands, with its AID and its quota.

@@ -3,6 +3,7 @@
 use crate::Answer;
 use crate::Card;
 use crate::Phase;
+use crate::cards::less;
 use isdp::Aid;
 use isdp::Isdp;
 use isdp::aid_ok;
@@ -21,7 +22,7 @@ impl Card {
         let eid = [0u8; 16];
         let none = Isdp::none();
         let places = [none; Card::PLACES];
-        Card::with(eid, 0, 0, 0, 0, Phase::Quiet, places)
+        Card::with(eid, 0, 0, 0, 0, 0, Phase::Quiet, places)
     }
 
     // Are the inputs of a fresh card within the sizes?
@@ -44,7 +45,8 @@ impl Card {
         let none = Isdp::none();
         let mut places = [none; Card::PLACES];
         places[0] = Isdp::made(aid, Isdp::ENABLED, quota, used).with_mark(1);
-        Card::with(bytes, capacity, volatile, 0, 0, Phase::Quiet, places)
+        let free = less(capacity, quota);
+        Card::with(bytes, capacity, volatile, free, 0, 0, Phase::Quiet, places)
     }
 
     pub fn fresh(

@@ -25,6 +25,7 @@ pub enum Phase {
 pub struct Card {
     pub capacity: u32,
     pub volatile: u32,
+    pub free: u32,
     pub places: [Isdp; Card::PLACES],
     pub phase: Phase,
     pub last: u16,

@@ -25,7 +25,7 @@ impl Card {
     {
         let places = self.places;
         places::all_ok(places, self.capacity)
-            & (places::all_distinct(places) & places::within(places, self.capacity))
+            & (places::all_distinct(places) & places::leave(places, self.capacity, self.free))
     }
 
     fn roles_ok(self) -> bool

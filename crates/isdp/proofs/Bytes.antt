@@ -9,7 +9,7 @@ use mathlib.Core.Bool.{Bool, true, false, _&&_}
 use lib.ListN.{length, getD, take, drop, set, replicate, drop-of-length-le}
 use lib.Seq.{drop-cons, set-at, take-suc, take-all, append-snoc, length-take-le}
 use lib.Dec.{leb, eqb}
-use borrow.Author.Tests.{le-leb, lt-leb, leb-true, leb-false}
+use borrow.Author.Tests.{le-leb, lt-leb, leb-true, leb-false, eq-eqb, ne-eqb, eqb-true, eqb-false}
 use Rattle.isdp.specs.Aids.{padded}
 use Rattle.isdp.specs.Place.{zeros}
 
@@ -46,6 +46,14 @@ leb-at a b x y false e f g = sym (lt-leb x y (g (leb-false a b e)))
 
 pub leb-same : (a b x y : ℕ) → (a ≤ b → x ≤ y) → (b < a → y < x) → leb a b ≡ leb x y
 leb-same a b x y f g = leb-at a b x y (leb a b) refl f g
+
+-- and so two equations
+eqb-at : (a b x y : ℕ) (t : Bool) → eqb a b ≡ t → (a ≡ b → x ≡ y) → (x ≡ y → a ≡ b) → t ≡ eqb x y
+eqb-at a b x y true e f g = sym (eq-eqb x y (f (eqb-true a b e)))
+eqb-at a b x y false e f g = sym (ne-eqb x y (λ h. eqb-false a b e (g h)))
+
+pub eqb-same : (a b x y : ℕ) → (a ≡ b → x ≡ y) → (x ≡ y → a ≡ b) → eqb a b ≡ eqb x y
+eqb-same a b x y f g = eqb-at a b x y (eqb a b) refl f g
 
 -- sixteen bytes need no padding
 pub pad-whole : (s : List ℕ) → length s ≡ 16 → padded s ≡ s

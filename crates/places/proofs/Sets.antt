@@ -38,6 +38,13 @@ set-quotas x [] i h = absurd (omega arith)
 set-quotas x (p ∷ ps) zero h = omega arith
 set-quotas x (p ∷ ps) (suc i) h = let r = set-quotas x ps i (omega arith) in omega arith
 
+-- a new place with the quota of the old one
+pub alike-quotas : (x : Isdp) (l : List Isdp) (i : ℕ) → x .quota ≡ at l i .quota → quotas (set l i x) ≡ quotas l
+unfolding quotas
+alike-quotas x [] i e = refl
+alike-quotas x (p ∷ ps) zero e = rw e
+alike-quotas x (p ∷ ps) (suc i) e = rw (alike-quotas x ps i e)
+
 -- a new place that clashes with none, either way round
 pub set-distinct : (x : Isdp) (l : List Isdp) (i : ℕ) → anyOf (clash x) l ≡ false → anyOf (λ p. clash p x) l ≡ false → distinct l ≡ true → distinct (set l i x) ≡ true
 unfolding distinct anyOf

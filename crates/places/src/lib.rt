@@ -8,10 +8,10 @@ ghost use mathlib.Core.Path.{_≡_};
 ghost use mathlib.Core.Bool.{true};
 ghost use Prim.Native.Nat.{_+_, _-_, _≤_};
 ghost use lib.ListN.{length, set, drop};
-ghost use lib.Dec.{leb};
+ghost use lib.Dec.{eqb};
 ghost use Rattle.isdp.specs.LifeCycle.{isEnabled};
 ghost use Rattle.isdp.specs.Place.{held, isFor, placeOk, clash};
-ghost use Rattle.places.specs.Places.{at, seek, foundOf, isFree, quotas, freeOf, allOf, anyOf, countOf, distinct, allOff, enableAt};
+ghost use Rattle.places.specs.Places.{at, seek, foundOf, isFree, quotas, allOf, anyOf, countOf, distinct, allOff, enableAt};
 
 pub const PLACES: usize = 8;
 
@@ -93,26 +93,9 @@ pub fn free_place(places: [Isdp; PLACES]) -> Found
     }
 }
 
-// Capacity less all quotas held; 0 where they are more, as no sound card has it.
-pub fn free(places: [Isdp; PLACES], capacity: u32) -> u32
-    ensures { λ r. ⌜ r ≡ freeOf capacity places ⌝ }
-{
-    let mut left = capacity;
-    let mut i = 0;
-    while i < PLACES {
-        let q = places[i].quota;
-        if left < q {
-            return 0;
-        }
-        left -= q;
-        i += 1;
-    }
-    left
-}
-
-// Are the quotas together within the capacity? Taken off one by one, since their sum could pass 32 bits.
-pub fn within(places: [Isdp; PLACES], capacity: u32) -> bool
-    ensures { λ r. ⌜ r ≡ leb (quotas places) capacity ⌝ }
+// Do the quotas leave just so much of the capacity? Taken off one by one, since their sum could pass 32 bits.
+pub fn leave(places: [Isdp; PLACES], capacity: u32, free: u32) -> bool
+    ensures { λ r. ⌜ r ≡ eqb (free + quotas places) capacity ⌝ }
 {
     let mut left = capacity;
     let mut i = 0;
@@ -124,7 +107,7 @@ pub fn within(places: [Isdp; PLACES], capacity: u32) -> bool
         left -= q;
         i += 1;
     }
-    true
+    free == left
 }
 
 pub fn all_ok(places: [Isdp; PLACES], capacity: u32) -> bool

@@ -79,10 +79,10 @@ pub status-rows : (c : Card) (life fallback : Bool) → rowsFrom (c .fallback) 0
 unfolding statusResponse
 status-rows c life fallback = refl
 
-pub data-bytes : (c : Card) (n f : ℕ) → n ≡ countOf held (c .places) → f ≡ freeIn c
-    → 0xFF ∷ 0x21 ∷ 0x0F ∷ 0x81 ∷ 1 ∷ n ∷ 0x82 ∷ 4 ∷ fourBytes f ++ (0x83 ∷ 4 ∷ fourBytes (c .volatile)) ≡ dataResponse c
+pub data-bytes : (c : Card) (n : ℕ) → n ≡ countOf held (c .places)
+    → 0xFF ∷ 0x21 ∷ 0x0F ∷ 0x81 ∷ 1 ∷ n ∷ 0x82 ∷ 4 ∷ fourBytes (freeIn c) ++ (0x83 ∷ 4 ∷ fourBytes (c .volatile)) ≡ dataResponse c
 unfolding dataResponse
-data-bytes c n f e g = rw (e, g)
+data-bytes c n e = rw e
 
 pub deleted-none : (a : Aid) → a .len ≡ 0 → [] ≡ deletedResponse a
 unfolding deletedResponse

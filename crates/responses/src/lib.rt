@@ -171,9 +171,8 @@ fn write_data(card: Card, buf: &mut [u8], at: usize) -> usize
     let places = card.places;
     let count = count_held(places);
     let head = [0xFF, 0x21, 0x0F, 0x81, 1, count, 0x82, 4];
-    let free = card.free();
     let k = put_bytes(buf, at, &head);
-    let m = write_four(free, buf, k);
+    let m = write_four(card.free, buf, k);
     let figure = [0x83, 4];
     let j = put_bytes(buf, m, &figure);
     write_four(card.volatile, buf, j)

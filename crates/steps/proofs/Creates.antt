@@ -19,10 +19,11 @@ use Rattle.isdp.proofs.Placed.{vacant-is, made-held, made-aid, made-ok}
 use Rattle.places.specs.Places.{at, seek, isFree, quotas, anyOf}
 use Rattle.places.proofs.Seeks.{seek-at, seek-below}
 use Rattle.places.proofs.Sets.{set-quotas, set-distinct, all-at}
-use Rattle.card.specs.Cards.{profileOf, freePlace, filled}
+use Rattle.card.specs.Cards.{profileOf, freePlace, freeIn, filled}
 use Rattle.card.specs.declared.Card.{Card}
 use Rattle.card.specs.declared.Phase.the-variants.{Quiet}
 use Rattle.card.proofs.Sounds.{Sound, resort-nonzero}
+use Rattle.card.proofs.Free.{creation}
 use Rattle.card.proofs.Rewrites.{sets}
 
 -- an AID that no place bears
@@ -59,20 +60,19 @@ module _ (aid : List ℕ) (quota : ℕ) (ok : aidOk aid ≡ true) where
   new-second p e =
       rw (made-aid aid selectable quota 0 ok, same-sym (aidOf p) aid) (and-swap (held new) (held p) (sameBytes (aidOf p) aid) (made-held aid selectable quota 0 ok) e)
 
-pub creates : (c : Card) (aid : List ℕ) (quota : ℕ) → Sound c → c .phase ≡ Quiet → aidOk aid ≡ true → 1 ≤ quota → quota + quotas (c .places) ≤ c .capacity → held (profileOf c aid) ≡ false → freePlace c < length (c .places) → Sound (filled c (freePlace c) (made aid selectable quota 0))
+pub creates : (c : Card) (aid : List ℕ) (quota : ℕ) → Sound c → c .phase ≡ Quiet → aidOk aid ≡ true → 1 ≤ quota → quota ≤ freeIn c → held (profileOf c aid) ≡ false → freePlace c < length (c .places) → Sound (filled c (freePlace c) (made aid selectable quota 0))
 creates c aid quota s q ok low fits free k =
     let l = c .places in
     let t = freePlace c in
     let x = made aid selectable quota 0 in
     let m = vacant-is (c .capacity) (at l t) (not-true (held (at l t)) (seek-below isFree l k)) (all-at (placeOk (c .capacity)) l t k (s .placed .each)) in
     let life : at l t .life ≡ 0 = ap (λ (p : Isdp). p .life) m in
-    let z : at l t .quota ≡ 0 = ap (λ (p : Isdp). p .quota) m in
     let n : c .fallback ≡ t → ⊥ = λ w. resort-nonzero c s (ap (λ (i : ℕ). at l i .life) w ∙ life) in
     let a = never l aid free in
-    sets c t x (c .phase) s
-    (made-ok aid selectable quota 0 ok (c .capacity) 0 refl refl (le-leb 1 quota low) (le-leb quota (c .capacity) (omega arith)) (le-leb 0 quota (omega arith)))
+    sets c t x _ s
+    (made-ok aid selectable quota 0 ok (c .capacity) 0 refl refl (le-leb 1 quota low) (le-leb quota (c .capacity) (let r = s .placed .room in omega arith)) (le-leb 0 quota (omega arith)))
     (rw life)
     (set-distinct x l t (any-less (clash x) (isFor aid) (new-first aid quota ok) l a) (any-less (λ p. clash p x) (isFor aid) (new-second aid quota ok) l a) (s .placed .apart))
-    (let r = set-quotas x l t k in omega arith)
+    (creation t x c k m (omega arith) (s .placed .room))
     (rw (getD-set-other l t (c .fallback) x vacant n) (s .roles .resort))
     (rw q tt)

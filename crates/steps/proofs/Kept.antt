@@ -92,10 +92,9 @@ module _ (c : Card) (aid : List ℕ) (s : sound c ≡ true) where
   create-kept quota h p =
       let w = parts c s in
       let f = w .sizes .full in
-      let m = w .placed .room in
       let k = ltb-true (freePlace c) mostPlaces (not-false _ (or-l (not (ltb (freePlace c) mostPlaces)) _ (p .room))) in
       let q = leb-true quota (freeIn c) (not-false _ (or-r (not (ltb (freePlace c) mostPlaces)) _ (p .room))) in
-      whole _ (creates c aid quota w (quietly (c .phase) (p .change)) (h .named) (h .some) (let u = h .some in omega arith) (p .already) (omega arith))
+      whole _ (creates c aid quota w (quietly (c .phase) (p .change)) (h .named) (h .some) q (p .already) (omega arith))
 
 -- "keeps": the card after every accepted call is sound
 pub step-kept : (c : Card) (a : Asked) → Legal c a → sound c ≡ true → Passed c a → sound (stepOf c a .card) ≡ true

@@ -8,9 +8,6 @@ use Rattle.responses.proofs.write_data.Tie as tie
 count-held-requires : tie.Need-count-held-requires
 count-held-requires c κs = search needs
 
-free-requires : tie.Need-free-requires
-free-requires c κs = search needs
-
 slice-aggregate-put-bytes : tie.Need-slice-aggregate-put-bytes
 slice-aggregate-put-bytes c = search needs
 
@@ -33,14 +30,18 @@ same-length : tie.Need-same-length
 same-length c = search needs
 
 returns : tie.Need-returns
-returns c = wrote-as _ (data-bytes _ _ _ (c .before .before .before .before .before .before .before .before .before .before .before .before .before .before .before .before .before .before .before .count-held .ensures) (c .before .before .before .before .before .before .before .before .before .before .before .before .before .before .before .before .before .before .free .ensures)) (wrote-then (wrote-then (wrote-then (c .before .before .before .before .before .before .before .before .before .before .before .before .before .before .before .put-bytes .ensures) (c .before .before .before .before .before .before .before .before .before .before .before .write-four .ensures)) (c .before .before .before .before .before .before .put-bytes2 .ensures)) (c .before .before .write-four2 .ensures))
+returns c = let v = c .before .before in
+    let j = v .before .before .before .before in
+    let m = j .before .before .before .before .before in
+    let k = m .before .before .before .before in
+    let n = k .before .before .before in
+    wrote-as _ (data-bytes _ _ (n .count-held .ensures)) (wrote-then (wrote-then (wrote-then (k .put-bytes .ensures) (m .write-four .ensures)) (j .put-bytes2 .ensures)) (v .write-four2 .ensures))
 
 pub write-data-spec : {M : Type 1} → statement M
 write-data-spec =
     tie.close
     (tie.spec
     count-held-requires
-    free-requires
     slice-aggregate-put-bytes
     put-bytes-requires
     write-four-requires

@@ -23,7 +23,7 @@ use Rattle.isdp.specs.declared.Isdp.{Isdp}
 use Rattle.places.specs.Places.{at, seek, enableAt}
 use Rattle.places.proofs.Lives.{enable-lives, lives-at, lives-length, enable-at, enable-one}
 use Rattle.places.proofs.Seeks.{enabled-at}
-use Rattle.card.specs.Cards.{placeOf, inState, withPlaces, withPhase}
+use Rattle.card.specs.Cards.{placeOf, inState, withRoom, withPhase}
 use Rattle.card.specs.Clock.{nextOf, moved}
 use Rattle.card.specs.Sound.{sound}
 use Rattle.card.specs.Steps.{stepTo}
@@ -112,7 +112,7 @@ none-to-come c e = rw e
 
 -- the answer of a step: the places, the notification and the ticks are left to show
 abbrev after : Card → Result → List Isdp → Card
-after c r l = inState c (r .last) (r .fallback) (r .phase) l
+after c r l = inState c (r .free) (r .last) (r .fallback) (r .phase) l
 
 pub answers : (c : Card) (r : Result) (l : List Isdp) (gone : Aid) → length l ≡ length (c .places) → ((i : ℕ) → at l i ≡ r .place i) → noticeSince (c .last) (after c r l) ≡ r .notification → ticksToCome (after c r l) ≡ r .ticks → Answers c r (accepted Done (stepTo c (after c r l) gone) (r .response))
 unfolding accepted
@@ -122,6 +122,7 @@ answers c r l gone m f n q =
       eid = refl;
       capacity = refl;
       volatile = refl;
+      free = refl;
       last = refl;
       fallback = refl;
       phase = refl;
@@ -137,9 +138,9 @@ module _ (c : Card) where
   unfolding accepted
   still bytes s = record { status = refl; card = refl; response = refl; notification = no-notice c c refl; ticks = counted c s }
 
-  pub rewrites : (t : ℕ) (p : Isdp) (bytes : List ℕ) (ticks : ℕ) → t < length (c .places) → ticksToCome (withPlaces c (set (c .places) t p)) ≡ ticks → Answers c (replaced c (onlyAt c t p) bytes ticks) (accepted Done (stepTo c (withPlaces c (set (c .places) t p)) noAid) bytes)
-  rewrites t p bytes ticks h q =
-      answers c (replaced c (onlyAt c t p) bytes ticks) (set (c .places) t p) noAid (length-set (c .places) t p) (set-places c t p h) (no-notice c (withPlaces c (set (c .places) t p)) refl) q
+  pub rewrites : (t : ℕ) (p : Isdp) (free : ℕ) (bytes : List ℕ) (ticks : ℕ) → t < length (c .places) → ticksToCome (withRoom c free (set (c .places) t p)) ≡ ticks → Answers c (replaced c free (onlyAt c t p) bytes ticks) (accepted Done (stepTo c (withRoom c free (set (c .places) t p)) noAid) bytes)
+  rewrites t p free bytes ticks h q =
+      answers c (replaced c free (onlyAt c t p) bytes ticks) (set (c .places) t p) noAid (length-set (c .places) t p) (set-places c t p h) (no-notice c (withRoom c free (set (c .places) t p)) refl) q
 
   pub rephases : (p : Phase) (ticks : ℕ) → ticksToCome (withPhase c p) ≡ ticks → Answers c (rephased c p ticks) (accepted Done (stepTo c (withPhase c p) noAid) [])
   rephases p ticks q = answers c (rephased c p ticks) (c .places) noAid refl (λ i. refl) (no-notice c (withPhase c p) refl) q

@@ -1,6 +1,6 @@
 -- Confirmation, phase by phase: two rows are left, and the change closes with the previous profile deleted or not. Assumes nothing.
 use mathlib.Core.Path.{_≡_, refl, sym, ap, subst, _∙_}
-use Prim.Native.Nat.{ℕ}
+use Prim.Native.Nat.{ℕ, _+_}
 use mathlib.Core.List.{List, [], _∷_}
 use mathlib.Core.Bool.{Bool, true, false, not, cond}
 use lib.ListN.{set, length-set}
@@ -15,7 +15,7 @@ use Rattle.isdp.specs.declared.Isdp.{Isdp}
 use Rattle.isdp.proofs.Placed.{placed}
 use Rattle.places.proofs.Lives.{within}
 use Rattle.places.proofs.Sets.{all-at}
-use Rattle.card.specs.Cards.{isQuiet, withChange, withPhase}
+use Rattle.card.specs.Cards.{isQuiet, inState, withPhase, cleared}
 use Rattle.card.specs.Clock.{outstanding, dropped, confirmIn, confirmOf}
 use Rattle.card.specs.Sound.{sound}
 use Rattle.card.specs.Steps.{stepTo, goneIn, confirmStep}
@@ -25,6 +25,7 @@ use Rattle.card.specs.declared.Phase.{Phase}
 use Rattle.card.specs.declared.Phase.the-variants.{Quiet, Trial, Back, Fallen}
 use Rattle.card.proofs.Outcomes.{decided}
 use Rattle.card.proofs.Sounds.{Phased, Sound, parts, nonzero}
+use Rattle.card.proofs.Free.{given-back}
 use Rattle.responses.specs.Responses.{deletedResponse}
 use Rattle.steps.specs.Asked.{Asked.confirm}
 use Rattle.steps.specs.Conditions.{cardRows}
@@ -48,13 +49,17 @@ module _ (c : Card) (s : Sound c) where
   closes : Answers c (rephased c Quiet 0) (accepted Done (stepTo c (withPhase c Quiet) noAid) [])
   closes = rephases c Quiet 0 (none-to-come (withPhase c Quiet) refl)
 
-  trial-case : (previous : ℕ) (b : Bool) → profileAt c previous .life ≡ disabled
-      → Answers c (cond b (closedWithout c previous) (rephased c Quiet 0)) (accepted Done (stepTo c (cond b (withChange c (c .last) Quiet (set (c .places) previous vacant)) (withPhase c Quiet)) (cond b (profileAt c previous .aid) noAid)) (deletedResponse (cond b (profileAt c previous .aid) noAid)))
-  unfolding accepted deletedResponse
-  trial-case previous true d =
+  drops : (previous : ℕ) → profileAt c previous .life ≡ disabled → Answers c (closedWithout c previous) (accepted Done (stepTo c (cleared (withPhase c Quiet) previous) (profileAt c previous .aid)) (deletedResponse (profileAt c previous .aid)))
+  drops previous d =
       let l = set (c .places) previous vacant in
-      let a = answers c (closedWithout c previous) l (profileAt c previous .aid) (length-set (c .places) previous vacant) (set-places c previous vacant (within (c .places) previous (nonzero _ 30 d))) (no-notice c (withChange c (c .last) Quiet l) refl) (none-to-come (withChange c (c .last) Quiet l) refl) in
-      subst (λ (x : List ℕ). Answers c (closedWithout c previous) (accepted Done (stepTo c (withChange c (c .last) Quiet l) (profileAt c previous .aid)) x)) (sym (gone-bytes (profileAt c previous) (there previous d))) a
+      let without = inState c (c .free + profileAt c previous .quota) (c .last) (c .fallback) Quiet l in
+      rw (given-back previous c (s .placed .room), gone-bytes (profileAt c previous) (there previous d))
+      (answers c (closedWithout c previous) l (profileAt c previous .aid) (length-set (c .places) previous vacant) (set-places c previous vacant (within (c .places) previous (nonzero _ 30 d))) (no-notice c without refl) (none-to-come without refl))
+
+  trial-case : (previous : ℕ) (b : Bool) → profileAt c previous .life ≡ disabled
+      → Answers c (cond b (closedWithout c previous) (rephased c Quiet 0)) (accepted Done (stepTo c (cond b (cleared (withPhase c Quiet) previous) (withPhase c Quiet)) (cond b (profileAt c previous .aid) noAid)) (deletedResponse (cond b (profileAt c previous .aid) noAid)))
+  unfolding deletedResponse
+  trial-case previous true d = drops previous d
   trial-case previous false d = closes
 
 module _ (c : Card) (number : ℕ) (s : sound c ≡ true) where

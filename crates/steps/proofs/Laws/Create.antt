@@ -1,7 +1,7 @@
 -- Create: the search for a free place ends at the lowest one, an AID that no place holds is not found, and in Quiet nothing is to come.
 -- By induction over the places. Assumes nothing.
 use mathlib.Core.Path.{_≡_, refl, sym, ap, subst, _∙_}
-use Prim.Native.Nat.{ℕ, zero, suc, _<_}
+use Prim.Native.Nat.{ℕ, zero, suc, _-_, _<_}
 use native.Mathlib.Omega.{arith}
 use mathlib.Core.List.{List, [], _∷_}
 use mathlib.Core.Bool.{Bool, true, false, not, cond, false≢true}
@@ -70,6 +70,7 @@ module _ (c : Card) (aid : List ℕ) (quota : ℕ) (s : sound c ≡ true) where
   rows-pass : freePlace c < length (c .places) → MayCreate c aid quota → Passed c (create aid quota)
   rows-pass k m =
       let f = parts c s .sizes .full in
+      let e = parts c s .placed .room in
       let r = m .room in
       record {
         change = rw (m .none-open);
@@ -102,7 +103,7 @@ create-law c aid quota s =
                 λ m.
                 let new = made aid selectable quota 0 in
                 let r = asked-taken c (create aid quota) s (rows-pass c aid quota s (omega arith) m) in
-                subst (Answers c (replaced c (onlyAt c t new) (0x00 ∷ []) 0)) (sym r)
-                (rw q (rewrites c t new (0x00 ∷ []) 0 k (none-to-come _ (m .none-open))));
+                subst (Answers c (replaced c (c .free - quota) (onlyAt c t new) (0x00 ∷ []) 0)) (sym r)
+                (rw q (rewrites c t new (c .free - quota) (0x00 ∷ []) 0 k (none-to-come _ (m .none-open))));
           };
     }

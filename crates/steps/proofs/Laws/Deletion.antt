@@ -21,6 +21,7 @@ use Rattle.card.specs.declared.Card.{Card}
 use Rattle.card.specs.declared.Phase.the-variants.{Quiet}
 use Rattle.card.proofs.Sounds.{parts}
 use Rattle.card.proofs.Deletions.{deletable, may-be-deleted, by-delete-too}
+use Rattle.card.proofs.Free.{given-back}
 use Rattle.steps.specs.Asked.{Act.delete, Act.masterDelete}
 use Rattle.steps.specs.Laws.Answer.{Holds}
 use Rattle.steps.specs.Laws.Deletion.{MayDelete, MayMasterDelete, Deleted, DeleteLaw, MasterDeleteLaw}
@@ -40,17 +41,17 @@ module _ (c : Card) (aid : List ℕ) where
   master-may-be-taken : profileOf c aid .life ≡ disabled → (t ≡ c .fallback → ⊥) → not (mayBeMasterDeleted c t) ≡ false
   master-may-be-taken d n = rw (d, ne-eqb _ _ n)
 
-  clears : Holds c aid t → c .phase ≡ Quiet → Deleted c t (accepted Done (stepTo c (cleared c t) noAid) (0x00 ∷ []))
-  clears h q = rewrites c t vacant (0x00 ∷ []) 0 (held-within (c .places) t (h .held-there)) (none-to-come _ q)
+  clears : sound c ≡ true → Holds c aid t → c .phase ≡ Quiet → Deleted c t (accepted Done (stepTo c (cleared c t) noAid) (0x00 ∷ []))
+  clears s h q = rw (given-back t c (parts c s .placed .room)) (rewrites c t vacant _ (0x00 ∷ []) 0 (held-within (c .places) t (h .held-there)) (none-to-come _ q))
 
 pub delete-law : DeleteLaw
 delete-law c aid s =
     command-law c aid delete (MayDelete c) (Deleted c) s
     (λ p. let d = deletable c (placeOf c aid) (not-false _ (p .state)) in record { none-open = quietly (c .phase) (p .change); not-enabled = eqb-false _ _ (d .off); not-fallback = d .apart; allows = p .policy })
-    (λ h m. (held-passes c aid delete h (rw (m .none-open)) (ap not (may-be-taken c aid s h (m .not-enabled) (m .not-fallback))) (m .allows) refl refl, clears c aid h (m .none-open)))
+    (λ h m. (held-passes c aid delete h (rw (m .none-open)) (ap not (may-be-taken c aid s h (m .not-enabled) (m .not-fallback))) (m .allows) refl refl, clears c aid s h (m .none-open)))
 
 pub master-delete-law : MasterDeleteLaw
 master-delete-law c aid verdict s =
     command-law c aid (masterDelete verdict) (MayMasterDelete c verdict) (Deleted c) s
     (λ p. let d = not-false _ (p .state) in record { none-open = quietly (c .phase) (p .change); is-disabled = eqb-true _ _ (and-l (eqb (profileOf c aid .life) disabled) _ d); not-fallback = deletable c (placeOf c aid) (by-delete-too c (placeOf c aid) d) .apart; verified = eqb-true _ _ (not-false _ (p .verdict)) })
-    (λ h m. (held-passes c aid (masterDelete verdict) h (rw (m .none-open)) (master-may-be-taken c aid (m .is-disabled) (m .not-fallback)) refl (rw (m .verified)) refl, clears c aid h (m .none-open)))
+    (λ h m. (held-passes c aid (masterDelete verdict) h (rw (m .none-open)) (master-may-be-taken c aid (m .is-disabled) (m .not-fallback)) refl (rw (m .verified)) refl, clears c aid s h (m .none-open)))

@@ -48,7 +48,7 @@ module _ (c : Card) (t : ℕ) (x : Isdp) (held-in : t < length (c .places)) (w :
   clock = clock-case c (set (c .places) t x) (c .phase) (set-enabled x (c .places) t w (c .fallback))
 
   loads : Loaded c (λ i. x) t (accepted Done (stepTo c (withPlaces c (set (c .places) t x)) noAid) [])
-  loads = rewrites c t x [] (ticksByPhase c) held-in (counted (withPlaces c (set (c .places) t x)) (whole _ s) ∙ clock)
+  loads = rewrites c t x (c .free) [] (ticksByPhase c) held-in (counted (withPlaces c (set (c .places) t x)) (whole _ s) ∙ clock)
 
 -- the AID of a place that keeps the sizes
 aid-length : (n : ℕ) (l : List ℕ) → n ≤ length l → length (take n l) ≡ n

@@ -11,6 +11,7 @@ use Rattle.isdp.specs.declared.Isdp.{Isdp}
 use Rattle.places.specs.Places.{at}
 use Rattle.card.specs.Cards.{placeOf}
 use Rattle.card.specs.declared.Card.{Card}
+use Rattle.card.proofs.Free.{sound-card}
 use Rattle.responses.specs.Responses.{attributeOf, statusBody, statusRow, rowOf, rowsFrom, statusResponse, oneStatus, dataResponse}
 use Rattle.steps.specs.Asked.{Act.status, Asked.on, Asked.statusOfAll, Asked.getData}
 use Rattle.steps.specs.Laws.Answer.{profileAt, Still}
@@ -57,4 +58,6 @@ status-of-one-law c aid life attribute s =
 
 pub get-data-law : GetDataLaw
 unfolding dataResponse
-get-data-law c s = subst (Still c _) (sym (asked-taken c getData s (record { change = refl; target = refl; already = refl; state = refl; policy = refl; verdict = refl; room = refl }))) (still c (dataResponse c) s)
+get-data-law c s =
+    rw (← (sound-card c s .summed))
+    (subst (Still c _) (sym (asked-taken c getData s (record { change = refl; target = refl; already = refl; state = refl; policy = refl; verdict = refl; room = refl }))) (still c (dataResponse c) s))

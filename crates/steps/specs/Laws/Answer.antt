@@ -40,6 +40,7 @@ element tag value = tag ∷ length value ∷ value
 
 -- what an accepted call leaves and hands out
 pub record Result : Type 0 where
+  pub free : ℕ
   pub last : ℕ
   pub fallback : ℕ
   pub phase : Phase
@@ -54,6 +55,7 @@ pub record Answers (c : Card) (r : Result) (o : Outcome) : Type 0 where
   pub eid : o .card .eid ≡ c .eid
   pub capacity : o .card .capacity ≡ c .capacity
   pub volatile : o .card .volatile ≡ c .volatile
+  pub free : o .card .free ≡ r .free
   pub last : o .card .last ≡ r .last
   pub fallback : o .card .fallback ≡ r .fallback
   pub phase : o .card .phase ≡ r .phase
@@ -91,10 +93,11 @@ traded c e t i =
     cond (eqb i t) (withLife (profileAt c i) enabled)
     (cond (eqb i e) (withLife (profileAt c i) disabled) (profileAt c i))
 
--- the places become so, and nothing else; no notification
-abbrev pub replaced : Card → (ℕ → Isdp) → List ℕ → ℕ → Result
-replaced c place response ticks =
+-- the places become so, with so much free, and nothing else; no notification
+abbrev pub replaced : Card → ℕ → (ℕ → Isdp) → List ℕ → ℕ → Result
+replaced c free place response ticks =
     record {
+      free = free;
       last = c .last;
       fallback = c .fallback;
       phase = c .phase;
@@ -108,6 +111,7 @@ replaced c place response ticks =
 abbrev pub rephased : Card → Phase → ℕ → Result
 rephased c phase ticks =
     record {
+      free = c .free;
       last = c .last;
       fallback = c .fallback;
       phase = phase;
@@ -122,6 +126,7 @@ rephased c phase ticks =
 abbrev pub entered : Card → ℕ → ℕ → Phase → Kind → ℕ → Result
 entered c e t phase kind ticks =
     record {
+      free = c .free;
       last = nextOf (c .last);
       fallback = c .fallback;
       phase = phase;

@@ -1,6 +1,6 @@
 -- Document 01, 'Steps': "Confirmation: closes the change. In Trial the previous profile is then deleted if its policy says delete once
 -- disabled and it is not the fall-back. Response as in 000." (Table 63: 80 with 4F of the deleted ISD-P, where there is one.)
-use Prim.Native.Nat.{ℕ}
+use Prim.Native.Nat.{ℕ, _+_}
 use mathlib.Core.Path.{_≡_}
 use mathlib.Core.Bool.{true, cond, not, _&&_}
 use lib.Dec.{eqb}
@@ -18,10 +18,11 @@ use Rattle.steps.specs.Asked.{Asked.confirm}
 use Rattle.steps.specs.Steps.{askedWork}
 use Rattle.steps.specs.Laws.Answer.{profileAt, element, Result, Answers, Exactly, onlyAt, rephased}
 
--- the change closes, and the previous profile is deleted
+-- the change closes, and the previous profile is deleted: its quota is free again (request 2026-04)
 abbrev pub closedWithout : Card → ℕ → Result
 closedWithout c previous =
     record {
+      free = c .free + profileAt c previous .quota;
       last = c .last;
       fallback = c .fallback;
       phase = Quiet;

@@ -1,5 +1,5 @@
 -- Document 01, 'Steps': "Create: the lowest free place, SELECTABLE, used 0, empty policy", with no mark (request 2026-02). "Freed places and room are used again".
-use Prim.Native.Nat.{ℕ, _+_, _≤_, _<_}
+use Prim.Native.Nat.{ℕ, _+_, _-_, _≤_, _<_}
 use mathlib.Core.Path.{_≡_}
 use mathlib.Core.List.{List, [], _∷_}
 use mathlib.Core.Bool.{true, false}
@@ -28,11 +28,12 @@ pub record MayCreate (c : Card) (aid : List ℕ) (quota : ℕ) : Type 0 where
   pub not-held : (i : ℕ) → Holds c aid i → ⊥
   pub room : quotas (c .places) + quota ≤ c .capacity
 
--- the new profile field by field: AID, SELECTABLE, quota, used, policy, mark; a response of one byte 00 (000, 4.1.1.1)
+-- free less the quota (request 2026-04); the new profile field by field: AID, SELECTABLE, quota, used, policy, mark; a response of one
+-- byte 00 (000, 4.1.1.1)
 abbrev pub CreateAnswers : Card → List ℕ → ℕ → Outcome → Type 0
 CreateAnswers c aid quota =
     OnPlace (LowestFree c) (λ t. MayCreate c aid quota)
-    (λ t. Answers c (replaced c (onlyAt c t (profile (named aid) selectable quota 0 0 0)) (0x00 ∷ []) 0))
+    (λ t. Answers c (replaced c (c .free - quota) (onlyAt c t (profile (named aid) selectable quota 0 0 0)) (0x00 ∷ []) 0))
 
 abbrev pub CreateLaw : Type 0
 CreateLaw =

@@ -1,7 +1,7 @@
 -- Document 01, 'Steps': "Delete: target DISABLED and not fall-back, else 69 85; 69 E1 if it forbids deletion. Master delete is the same
 -- without policy, with the token verdict. Response of both: 00." Request 2026-03: "69 85 for Delete narrows to ENABLED or fall-back";
 -- "master delete stays with DISABLED only".
-use Prim.Native.Nat.{ℕ}
+use Prim.Native.Nat.{ℕ, _+_}
 use mathlib.Core.Path.{_≡_}
 use mathlib.Core.List.{List, [], _∷_}
 use mathlib.Core.Bool.{true, false}
@@ -29,9 +29,9 @@ pub record MayMasterDelete (c : Card) (verdict t : ℕ) : Type 0 where
   pub not-fallback : t ≡ c .fallback → ⊥
   pub verified : verdict ≡ 1
 
--- the place is no longer held
+-- the place is no longer held, and its quota is free again (request 2026-04)
 abbrev pub Deleted : Card → ℕ → Outcome → Type 0
-Deleted c t = Answers c (replaced c (onlyAt c t vacant) (0x00 ∷ []) 0)
+Deleted c t = Answers c (replaced c (c .free + profileAt c t .quota) (onlyAt c t vacant) (0x00 ∷ []) 0)
 
 abbrev pub DeleteAnswers : Card → List ℕ → Outcome → Type 0
 DeleteAnswers c aid = OnPlace (Holds c aid) (MayDelete c) (Deleted c)

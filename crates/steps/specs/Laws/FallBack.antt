@@ -22,6 +22,7 @@ pub record MayBeFallBack (c : Card) (t : ℕ) : Type 0 where
 abbrev pub fallsBackTo : Card → ℕ → Result
 fallsBackTo c t =
     record {
+      free = c .free;
       last = c .last;
       fallback = t;
       phase = c .phase;

@@ -17,7 +17,7 @@ use Rattle.steps.specs.Laws.Answer.{profileAt, Holds, Answers, OnPlace, 
 
 -- the profile becomes so; no response, and the clock runs on
 abbrev pub Loaded : Card → (ℕ → Isdp) → ℕ → Outcome → Type 0
-Loaded c new t = Answers c (replaced c (onlyAt c t (new t)) [] (ticksByPhase c))
+Loaded c new t = Answers c (replaced c (c .free) (onlyAt c t (new t)) [] (ticksByPhase c))
 
 abbrev pub KeyedAnswers : Card → List ℕ → Outcome → Type 0
 KeyedAnswers c aid =

@@ -9,11 +9,11 @@ all-ok-requires c κs = search needs
 all-distinct-requires : tie.Need-all-distinct-requires
 all-distinct-requires c κs = search needs
 
-within-requires : tie.Need-within-requires
-within-requires c κs = search needs
+leave-requires : tie.Need-leave-requires
+leave-requires c κs = search needs
 
 returns : tie.Need-returns
-returns c = rw (c .within .ensures, c .before .all-distinct .ensures, c .before .before .all-ok .ensures)
+returns c = rw (c .leave .ensures, c .before .all-distinct .ensures, c .before .before .all-ok .ensures)
 
 pub places-ok-spec : {M : Type 1} → statement M
-places-ok-spec = tie.close (tie.spec all-ok-requires all-distinct-requires within-requires returns)
+places-ok-spec = tie.close (tie.spec all-ok-requires all-distinct-requires leave-requires returns)

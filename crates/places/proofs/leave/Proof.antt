@@ -1,24 +1,24 @@
--- `places::within`: what is left of the capacity is held against the quotas left.
+-- `places::leave`: free and the quotas left are held against what is left of the capacity.
 use mathlib.Core.Path.{_≡_, sym, _∙_}
 use Prim.Native.Nat.{_+_, _-_, _≤_}
 use native.Mathlib.Omega.{arith}
 use lib.ListN.{length, getD, drop}
-use lib.Dec.{leb}
+use lib.Dec.{eqb}
 use borrow.Author.Needs.{needs}
-use borrow.Author.Tests.{le-leb, lt-leb}
+use borrow.Author.Tests.{ne-eqb}
 use Rattle.isdp.specs.Sizes.{mostPlaces}
-use Rattle.isdp.proofs.Bytes.{leb-same}
+use Rattle.isdp.proofs.Bytes.{eqb-same}
 use Rattle.places.specs.Places.{quotas}
 use Rattle.places.proofs.Turns.{quotas-step, quotas-end}
 use Rattle.places.proofs.Records.{unread}
-use Rattle.places.proofs.within.Statement.{statement}
-use Rattle.places.proofs.within.Tie as tie
+use Rattle.places.proofs.leave.Statement.{statement}
+use Rattle.places.proofs.leave.Tie as tie
 
 abbrev Inv-loop : tie.InvT-loop
-Inv-loop capacity places left₀ i₀ left i = (i ≤ mostPlaces) × (leb (quotas (drop i places)) left ≡ leb (quotas places) capacity)
+Inv-loop capacity free places left₀ i₀ left i = (i ≤ mostPlaces) × (eqb (free + quotas (drop i places)) left ≡ eqb (free + quotas places) capacity)
 
 abbrev μ-loop : tie.MeasureT-loop
-μ-loop capacity places left₀ i₀ left i = mostPlaces - i
+μ-loop capacity free places left₀ i₀ left i = mostPlaces - i
 
 loop-holds : tie.Need-loop-holds Inv-loop μ-loop
 loop-holds c = search needs
@@ -34,7 +34,7 @@ returns c = let s = c .before .before .before in
     let o = c .before .before .loop in
     let n : length (s .args .t1) ≡ mostPlaces = search needs in
     let e = quotas-step (s .args .t1) unread (o .i) (omega arith) in
-    sym (lt-leb (quotas (drop (o .i) (s .args .t1))) (o .left) (omega arith)) ∙ o .inv .1
+    sym (ne-eqb (s .args .free + quotas (drop (o .i) (s .args .t1))) (o .left) (λ h. omega arith)) ∙ o .inv .1
 
 add-i : tie.Need-add-i Inv-loop μ-loop
 add-i c = search needs
@@ -47,17 +47,17 @@ loop-again c = let s = c .before .before .before in
     let o = c .before .before .loop in
     let n : length (s .args .t1) ≡ mostPlaces = search needs in
     let e = quotas-step (s .args .t1) unread (o .i) (omega arith) in
-    (search needs, leb-same (quotas (drop (o .i + 1) (s .args .t1))) (o .left - getD (s .args .t1) (o .i) unread .quota) (quotas (drop (o .i) (s .args .t1))) (o .left) (λ h. omega arith) (λ h. omega arith) ∙ o .inv .1)
+    (search needs, eqb-same (s .args .free + quotas (drop (o .i + 1) (s .args .t1))) (o .left - getD (s .args .t1) (o .i) unread .quota) (s .args .free + quotas (drop (o .i) (s .args .t1))) (o .left) (λ h. omega arith) (λ h. omega arith) ∙ o .inv .1)
 
 returns-2 : tie.Need-returns-2 Inv-loop μ-loop
 returns-2 c = let s = c .before .before in
     let o = c .before .loop in
     let n : length (s .args .t1) ≡ mostPlaces = search needs in
     let e = quotas-end (s .args .t1) (o .i) (omega arith) in
-    sym (le-leb (quotas (drop (o .i) (s .args .t1))) (o .left) (omega arith)) ∙ o .inv .1
+    eqb-same (s .args .free) (o .left) (s .args .free + quotas (drop (o .i) (s .args .t1))) (o .left) (λ h. omega arith) (λ h. omega arith) ∙ o .inv .1
 
-pub within-spec : {M : Type 1} → statement M
-within-spec =
+pub leave-spec : {M : Type 1} → statement M
+leave-spec =
     tie.close
     (tie.spec
     Inv-loop
