@@ -30,7 +30,7 @@ pub fn create(card: Card, aid: &[u8], quota: u32) -> Answer
     let Found::At(t) = card.free_place() else {
         return card.refused(Status::NoRoom);
     };
-    if quota > card.free() {
+    if quota > card.free {
         return card.refused(Status::NoRoom);
     }
     let after = card.filled(t, Isdp::made(aid, Isdp::SELECTABLE, quota, 0));

@@ -1,4 +1,4 @@
--- "`card EID CAPACITY VOLATILE LAST FALLBACK PHASE PLACE0 .. PLACE7` hands in any record, sound or not: EID 16 bytes; FALLBACK a
+-- "`card EID CAPACITY VOLATILE FREE LAST FALLBACK PHASE PLACE0 .. PLACE7` hands in any record, sound or not: EID 16 bytes; FALLBACK a
 -- place number 0-255", with a PLACE for each place of a card. The words are read from left to right, and the first that is wrong gives the reason.
 use Prim.Native.Nat.{ℕ, zero, suc}
 use mathlib.Core.List.{List, [], _∷_, _++_}
@@ -20,6 +20,8 @@ use Rattle.records.specs.declared.colons.Phased.{Phased}
 use Rattle.records.specs.declared.colons.Phased.the-variants as phased
 use Rattle.records.specs.declared.PhaseRead.{PhaseRead}
 use Rattle.records.specs.declared.PhaseRead.the-variants as phaseread
+use Rattle.records.specs.declared.Memory.{Memory}
+use Rattle.records.specs.declared.Memory.the-variants as memory
 use Rattle.records.specs.declared.Head.{Head}
 use Rattle.records.specs.declared.Head.the-variants as head
 use Rattle.records.specs.declared.Reading.{Reading}
@@ -35,9 +37,13 @@ abbrev pub onPhase {ℓ} : {X : Type ℓ} → PhaseRead → (Reason → X) → (
 onPhase (phaseread.Wrong why) g f = g why
 onPhase (phaseread.Is phase next) g f = f phase next
 
-abbrev pub onHead {ℓ} : {X : Type ℓ} → Head → (Reason → X) → (ℕ → ℕ → ℕ → ℕ → Phase → ℕ → X) → X
+abbrev pub onMemory {ℓ} : {X : Type ℓ} → Memory → (Reason → X) → (ℕ → ℕ → ℕ → ℕ → X) → X
+onMemory (memory.Wrong why) g f = g why
+onMemory (memory.Is capacity volatile free next) g f = f capacity volatile free next
+
+abbrev pub onHead {ℓ} : {X : Type ℓ} → Head → (Reason → X) → (ℕ → ℕ → ℕ → ℕ → ℕ → Phase → ℕ → X) → X
 onHead (head.Wrong why) g f = g why
-onHead (head.Is capacity volatile last fallback phase next) g f = f capacity volatile last fallback phase next
+onHead (head.Is capacity volatile free last fallback phase next) g f = f capacity volatile free last fallback phase next
 
 abbrev pub onReading {ℓ} : {X : Type ℓ} → Reading → (Reason → X) → X → X
 onReading (reading.Wrong why) g x = g why
@@ -49,14 +55,20 @@ phaseAt s at =
     onWord (wordAt s at) (phaseread.Wrong WordsMissing) λ a e.
     onPhased (phaseWord (part s a e)) (phaseread.Wrong BadPhase) λ phase. phaseread.Is phase e
 
--- CAPACITY VOLATILE LAST FALLBACK PHASE, and the place after them
+-- CAPACITY VOLATILE FREE, and the place after them
+unfoldable pub memoryAt : List ℕ → ℕ → Memory
+memoryAt s at =
+    onValue (valueAt most32 s at) memory.Wrong λ capacity b.
+    onValue (valueAt most32 s b) memory.Wrong λ volatile c.
+    onValue (valueAt most32 s c) memory.Wrong λ free next. memory.Is capacity volatile free next
+
+-- these, LAST FALLBACK PHASE, and the place after them
 unfoldable pub headAt : List ℕ → ℕ → Head
 headAt s at =
-    onValue (valueAt most32 s at) head.Wrong λ capacity b.
-    onValue (valueAt most32 s b) head.Wrong λ volatile c.
-    onValue (valueAt most16 s c) head.Wrong λ last d.
-    onValue (valueAt most8 s d) head.Wrong λ fallback e.
-    onPhase (phaseAt s e) head.Wrong λ phase next. head.Is capacity volatile last fallback phase next
+    onMemory (memoryAt s at) head.Wrong λ capacity volatile free b.
+    onValue (valueAt most16 s b) head.Wrong λ last c.
+    onValue (valueAt most8 s c) head.Wrong λ fallback d.
+    onPhase (phaseAt s d) head.Wrong λ phase next. head.Is capacity volatile free last fallback phase next
 
 abbrev pub notHeld : Reason → Held
 notHeld why = record { reading = reading.Wrong why; places = replicate mostPlaces vacant }
@@ -71,19 +83,19 @@ placesOn (suc n) s at before =
 abbrev pub noRecord : Reason → Record
 noRecord why = record { reading = reading.Wrong why; card = zeroCard }
 
-abbrev pub fine : List ℕ → ℕ → ℕ → ℕ → ℕ → Phase → List Isdp → Record
-fine eid capacity volatile last fallback phase places =
+abbrev pub fine : List ℕ → ℕ → ℕ → ℕ → ℕ → ℕ → Phase → List Isdp → Record
+fine eid capacity volatile free last fallback phase places =
     record {
       reading = reading.Fine;
-      card = cardWith eid capacity volatile last fallback phase places;
+      card = cardWith eid capacity volatile free last fallback phase places;
     }
 
 -- what stands after the EID
 unfoldable pub recordWith : List ℕ → ℕ → List ℕ → Record
 recordWith s at eid =
-    onHead (headAt s at) noRecord λ capacity volatile last fallback phase next.
+    onHead (headAt s at) noRecord λ capacity volatile free last fallback phase next.
     onReading (placesOn mostPlaces s next [] .reading) noRecord
-    (fine eid capacity volatile last fallback phase (placesOn mostPlaces s next [] .places))
+    (fine eid capacity volatile free last fallback phase (placesOn mostPlaces s next [] .places))
 
 -- the words after `card`
 unfoldable pub recordAt : List ℕ → ℕ → Record

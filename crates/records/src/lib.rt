@@ -22,7 +22,7 @@ ghost use mathlib.Core.Path.{_≡_};
 ghost use Prim.Native.Nat.{_≤_};
 ghost use Rattle.isdp.specs.Sizes.{mostPlaces};
 ghost use mathlib.Core.List.{[]};
-ghost use Rattle.records.specs.Records.{phaseAt, headAt, notHeld, placesOn, noRecord, recordWith, recordAt};
+ghost use Rattle.records.specs.Records.{phaseAt, memoryAt, headAt, notHeld, placesOn, noRecord, recordWith, recordAt};
 
 pub enum PhaseRead {
     Is { phase: Phase, next: usize },
@@ -41,11 +41,49 @@ fn next_phase(s: &[u8], at: usize) -> PhaseRead
     PhaseRead::Is { phase, next: to }
 }
 
+// The figures of the card's memory, which stand after the EID.
+pub enum Memory {
+    Is {
+        capacity: u32,
+        volatile: u32,
+        free: u32,
+        next: usize,
+    },
+    Wrong(Reason),
+}
+
+fn memory_at(s: &[u8], at: usize) -> Memory
+    ensures { λ r. ⌜ r ≡ memoryAt (now (s .entry)) at ⌝ }
+{
+    match next_value(s, at, MOST) {
+        Value::Wrong(why) => Memory::Wrong(why),
+        Value::Is {
+            n: capacity,
+            next: b,
+        } => match next_value(s, b, MOST) {
+            Value::Wrong(why) => Memory::Wrong(why),
+            Value::Is {
+                n: volatile,
+                next: c,
+            } => match next_value(s, c, MOST) {
+                Value::Wrong(why) => Memory::Wrong(why),
+                Value::Is { n: free, next } => Memory::Is {
+                    capacity,
+                    volatile,
+                    free,
+                    next,
+                },
+            },
+        },
+    }
+}
+
 // What stands between the EID and the places.
 pub enum Head {
     Is {
         capacity: u32,
         volatile: u32,
+        free: u32,
         last: u16,
         fallback: u8,
         phase: Phase,
@@ -57,33 +95,30 @@ pub enum Head {
 fn head_at(s: &[u8], at: usize) -> Head
     ensures { λ r. ⌜ r ≡ headAt (now (s .entry)) at ⌝ }
 {
-    match next_value(s, at, MOST) {
-        Value::Wrong(why) => Head::Wrong(why),
-        Value::Is {
-            n: capacity,
+    match memory_at(s, at) {
+        Memory::Wrong(why) => Head::Wrong(why),
+        Memory::Is {
+            capacity,
+            volatile,
+            free,
             next: b,
-        } => match next_value(s, b, MOST) {
+        } => match next_value(s, b, 65535) {
             Value::Wrong(why) => Head::Wrong(why),
-            Value::Is {
-                n: volatile,
-                next: c,
-            } => match next_value(s, c, 65535) {
+            Value::Is { n: last, next: c } => match next_value(s, c, 255) {
                 Value::Wrong(why) => Head::Wrong(why),
-                Value::Is { n: last, next: d } => match next_value(s, d, 255) {
-                    Value::Wrong(why) => Head::Wrong(why),
-                    Value::Is {
-                        n: fallback,
-                        next: e,
-                    } => match next_phase(s, e) {
-                        PhaseRead::Wrong(why) => Head::Wrong(why),
-                        PhaseRead::Is { phase, next } => Head::Is {
-                            capacity,
-                            volatile,
-                            last: last as u16,
-                            fallback: fallback as u8,
-                            phase,
-                            next,
-                        },
+                Value::Is {
+                    n: fallback,
+                    next: d,
+                } => match next_phase(s, d) {
+                    PhaseRead::Wrong(why) => Head::Wrong(why),
+                    PhaseRead::Is { phase, next } => Head::Is {
+                        capacity,
+                        volatile,
+                        free,
+                        last: last as u16,
+                        fallback: fallback as u8,
+                        phase,
+                        next,
                     },
                 },
             },
@@ -163,6 +198,7 @@ fn record_with(s: &[u8], at: usize, eid: [u8; 16]) -> Record
         Head::Is {
             capacity,
             volatile,
+            free,
             last,
             fallback,
             phase,
@@ -174,7 +210,16 @@ fn record_with(s: &[u8], at: usize, eid: [u8; 16]) -> Record
                 Reading::Wrong(why) => no_record(why),
                 Reading::Fine => {
                     let places = held.places;
-                    let card = Card::with(eid, capacity, volatile, last, fallback, phase, places);
+                    let card = Card::with(
+                        eid,
+                        capacity,
+                        volatile,
+                        free,
+                        last,
+                        fallback,
+                        phase,
+                        places,
+                    );
                     Record {
                         reading: Reading::Fine,
                         card,

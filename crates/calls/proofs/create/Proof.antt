@@ -54,9 +54,8 @@ vacancy c = found-hit _ _ (sym (seeking c .free-place .ensures) ∙ c .before .t
 returns-4 : tie.Need-returns-4
 unfolding wordOf
 returns-4 c =
-    let r = c .before .before in
-    let k = r .before in
-    rw (quiet (asking (seeking k)), free (seeking k), lt-ltb _ mostPlaces (vacancy k .1), sym (r .free .ensures), lt-leb _ _ (c .before .if2 .taken)) (c .refused4 .ensures)
+    let k = c .before .before .before in
+    rw (quiet (asking (seeking k)), free (seeking k), lt-ltb _ mostPlaces (vacancy k .1), lt-leb _ _ (c .before .if2 .taken)) (c .refused4 .ensures)
 
 returns-5 : tie.Need-returns-5
 unfolding wordOf
@@ -66,7 +65,7 @@ returns-5 c =
     let k = e .before .before in
     let s = start (asking (seeking k)) .args in
     accepts (s .card) (askedWork (s .card) (create (s .aid .now) (s .quota)))
-    (rw (quiet (asking (seeking k)), free (seeking k), lt-ltb _ mostPlaces (vacancy k .1), sym (e .before .free .ensures), le-leb _ _ (e .if2 .left)))
+    (rw (quiet (asking (seeking k)), free (seeking k), lt-ltb _ mostPlaces (vacancy k .1), le-leb _ _ (e .if2 .left)))
     (rw (a .filled .ensures, a .before .made .ensures, vacancy k .0))
     (c .before .before .none .ensures)
     (c .before .step-since .ensures)
@@ -89,7 +88,6 @@ create-spec =
     (λ c. search needs)
     (λ c κs. search needs)
     returns-3
-    (λ c κs. search needs)
     (λ c κs. search needs)
     returns-4
     (λ c κs. search needs)
