@@ -35,7 +35,7 @@ aid-02 = 0xA0 ∷ 0x00 ∷ 0x00 ∷ 0x00 ∷ 0x02 ∷ []
 -- card, with a mark of 0A, at place 3
 abbrev changed : Card
 changed =
-    cardWith (replicate 16 0) 1048576 0 1 0 (Trial 0 10 1)
+    cardWith (replicate 16 0) 1048576 0 979040 1 0 (Trial 0 10 1)
     (profile (named aid-01) disabled 65536 4096 0 1 ∷ vacant ∷ profile (named aid-02) enabled 2000 0 4 0 ∷ profile (named aid-02) enabled 2000 0 4 0x0A ∷ [])
 
 abbrev answered : Status → Card → Notification → ℕ → Answer

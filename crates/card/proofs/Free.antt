@@ -25,13 +25,17 @@ abbrev pub Even : Card → Type 0
 Even c = freeIn c + quotas (c .places) ≡ c .capacity
 
 pub even : (c : Card) → FreeTrue c → Even c
-even c t = let s = t .summed in let w = t .within in omega arith
+even c t = let s = t .as-summed in let w = t .within in omega arith
 
 pub true-free : (c : Card) → Even c → FreeTrue c
-true-free c e = record { summed = omega arith; within = omega arith }
+true-free c e = record { as-summed = omega arith; within = omega arith }
 
 pub sound-card : (c : Card) → sound c ≡ true → FreeTrue c
 sound-card c s = true-free c (parts c s .placed .room)
+
+-- so it is told by the capacity and the places
+pub same-free : (c d : Card) → Even c → Even d → d .capacity ≡ c .capacity → d .places ≡ c .places → d .free ≡ c .free
+same-free c d e f k l = let q = ap quotas l in omega arith
 
 pub creation : (i : ℕ) (p : Isdp) (c : Card) → i < length (c .places) → at (c .places) i ≡ vacant → p .quota ≤ freeIn c → Even c → Even (filled c i p)
 creation i p c h v q e =

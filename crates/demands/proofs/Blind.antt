@@ -1,7 +1,7 @@
 -- The used bytes of one profile influence no call that does not store or finish it. Every condition of the table, every step and every
 -- response goes past them; where the profile is deleted the cards are equal from then on. Assumes nothing.
 use mathlib.Core.Path.{_≡_, refl, ap, sym, _∙_}
-use Prim.Native.Nat.{ℕ}
+use Prim.Native.Nat.{ℕ, _-_}
 use mathlib.Core.List.{List}
 use mathlib.Core.Bool.{Bool, true, false, not, cond, false≢true}
 use lib.ListN.{set}
@@ -18,7 +18,7 @@ use Rattle.isdp.proofs.Bools.{and-r}
 use Rattle.places.specs.Places.{at}
 use Rattle.places.proofs.Seeks.{seek-below, bears}
 use Rattle.places.proofs.Lives.{Lives, enable-lives, lives-at}
-use Rattle.card.specs.Cards.{placeOf, profileOf, freePlace, withChange, withPhase, withPlaces}
+use Rattle.card.specs.Cards.{placeOf, profileOf, freePlace, inState, withPhase, withPlaces, cleared}
 use Rattle.card.specs.Clock.{moved, dropped, confirmIn, confirmOf}
 use Rattle.card.specs.Ticks.{ticksToCome}
 use Rattle.card.specs.Notifications.{noticeSince}
@@ -31,7 +31,7 @@ use Rattle.steps.specs.Conditions.{cardRows}
 use Rattle.steps.specs.Steps.{stepOf, actStep, responseOf, actResponse}
 use Rattle.steps.proofs.Laws.Places.{held-within}
 use Rattle.demands.proofs.Others.{free-other, tick-lives, lost-lives}
-use Rattle.demands.proofs.Uses.{useAt, reuseAt, use-at, use-other, set-other, set-used, set-over, reuse-moved, enabled-reuse, place-reuse, free-reuse, drops-reuse, tick-reuse, lost-reuse, ticks-reuse, status-reuse, one-reuse, room-reuse, data-reuse, notice-reuse}
+use Rattle.demands.proofs.Uses.{useAt, reuseAt, use-at, use-other, set-other, set-used, set-over, reuse-moved, enabled-reuse, place-reuse, free-reuse, drops-reuse, tick-reuse, lost-reuse, ticks-reuse, status-reuse, one-reuse, data-reuse, notice-reuse}
 
 -- the cards are equal, or place i still bears the AID and they differ in its used bytes
 pub data Near (a : List ℕ) (i : ℕ) (c d : Card) : Type 0 where
@@ -105,7 +105,7 @@ module _ (a : List ℕ) (i u : ℕ) (c : Card) (b : isFor a (at (c .places) i) �
 
   pub rows-near : (x : Asked) → spares a x ≡ true → cardRows (reuseAt i u c) x ≡ cardRows c x
   rows-near unread n = refl
-  rows-near (create aid quota) n = rw (profile aid, free-reuse i u c, room-reuse i u c)
+  rows-near (create aid quota) n = rw (profile aid, free-reuse i u c)
   rows-near (on aid x) n = act-rows aid x n
   rows-near (confirm number) n = refl
   rows-near (statusOfAll life fallback) n = refl
@@ -120,17 +120,21 @@ module _ (a : List ℕ) (i u : ℕ) (c : Card) (b : isFor a (at (c .places) i) �
   moved-near : (j : ℕ) (p : Phase) → Near a i (moved c j p) (moved (reuseAt i u c) j p)
   moved-near j p = apart u (reuse-moved i u c j p) (lives-for a i (enable-lives (c .places) j) b)
 
+  -- these places, so much free and this phase
+  abbrev made : ℕ → Phase → List Isdp → Card
+  made r p l = inState c r (c .last) (c .fallback) p l
+
   -- another place
-  other-near : (j : ℕ) (x : Isdp) (p : Phase) → (j ≡ i → ⊥) → Near a i (withChange c (c .last) p (set (c .places) j x)) (withChange c (c .last) p (set (useAt (c .places) i u) j x))
-  other-near j x p n = apart u (ap (withChange c (c .last) p) (set-other (c .places) i u j x n)) (set-for j x n)
+  other-near : (j : ℕ) (x : Isdp) (r : ℕ) (p : Phase) → (j ≡ i → ⊥) → Near a i (made r p (set (c .places) j x)) (made r p (set (useAt (c .places) i u) j x))
+  other-near j x r p n = apart u (ap (made r p) (set-other (c .places) i u j x n)) (set-for j x n)
 
   -- a deletion, of this place or of another
-  cleared-case : (j : ℕ) (p : Phase) (t : Bool) → eqb j i ≡ t → Near a i (withChange c (c .last) p (set (c .places) j vacant)) (withChange c (c .last) p (set (useAt (c .places) i u) j vacant))
-  cleared-case j p true e = same (rw (eqb-true j i e) (ap (withChange c (c .last) p) (set-over (c .places) i u vacant)))
-  cleared-case j p false e = other-near j vacant p (eqb-false j i e)
+  cleared-case : (j r : ℕ) (p : Phase) (t : Bool) → eqb j i ≡ t → Near a i (made r p (set (c .places) j vacant)) (made r p (set (useAt (c .places) i u) j vacant))
+  cleared-case j r p true e = same (rw (eqb-true j i e) (ap (made r p) (set-over (c .places) i u vacant)))
+  cleared-case j r p false e = other-near j vacant r p (eqb-false j i e)
 
-  cleared-near : (j : ℕ) (p : Phase) → Near a i (withChange c (c .last) p (set (c .places) j vacant)) (withChange c (c .last) p (set (useAt (c .places) i u) j vacant))
-  cleared-near j p = cleared-case j p (eqb j i) refl
+  cleared-near : (j : ℕ) (p : Phase) → Near a i (cleared (withPhase c p) j) (cleared (withPhase (reuseAt i u c) p) j)
+  cleared-near j p = rw (use-at (c .places) i u j) (cleared-case j _ p (eqb j i) refl)
 
   -- another life cycle, of this place or of another
   alive-case : (j v : ℕ) (t : Bool) → eqb j i ≡ t → Near a i (withPlaces c (set (c .places) j (withLife (at (c .places) j) v))) (withPlaces c (set (useAt (c .places) i u) j (withLife (at (useAt (c .places) i u) j) v)))
@@ -138,7 +142,7 @@ module _ (a : List ℕ) (i u : ℕ) (c : Card) (b : isFor a (at (c .places) i) �
       rw (eqb-true j i e)
       (apart u (ap (withPlaces c) (set-used (c .places) i u v))
       (rw (getD-set-same (c .places) i (withLife (at (c .places) i) v) vacant (held-within (c .places) i held-there)) (is-for-life a (at (c .places) i) v ∙ b)))
-  alive-case j v false e = rw (use-other (c .places) i u j (eqb-false j i e)) (other-near j _ (c .phase) (eqb-false j i e))
+  alive-case j v false e = rw (use-other (c .places) i u j (eqb-false j i e)) (other-near j _ (c .free) (c .phase) (eqb-false j i e))
 
   choose-near : (t : Bool) (x y x' y' : Card) → Near a i x x' → Near a i y y' → Near a i (cond t x y) (cond t x' y')
   choose-near true x y x' y' p q = p
@@ -161,13 +165,13 @@ module _ (a : List ℕ) (i u : ℕ) (c : Card) (b : isFor a (at (c .places) i) �
   act-near aid setFallBack n = rw (place-reuse i u c aid) (apart u refl b)
   act-near aid (status life fallback) n = apart u refl b
   act-near aid keyed n = rw (place-reuse i u c aid) (alive-case (placeOf c aid) personalized (eqb (placeOf c aid) i) refl)
-  act-near aid (stored m) n = rw (profile-other aid n, place-reuse i u c aid) (other-near (placeOf c aid) _ (c .phase) (elsewhere aid n))
-  act-near aid (finished policy mark) n = rw (profile-other aid n, place-reuse i u c aid) (other-near (placeOf c aid) _ (c .phase) (elsewhere aid n))
+  act-near aid (stored m) n = rw (profile-other aid n, place-reuse i u c aid) (other-near (placeOf c aid) _ (c .free) (c .phase) (elsewhere aid n))
+  act-near aid (finished policy mark) n = rw (profile-other aid n, place-reuse i u c aid) (other-near (placeOf c aid) _ (c .free) (c .phase) (elsewhere aid n))
 
   pub card-near : (x : Asked) → spares a x ≡ true → Near a i (stepOf c x .card) (stepOf (reuseAt i u c) x .card)
   unfolding tickStep lostStep confirmStep confirmOf
   card-near unread n = apart u refl b
-  card-near (create aid quota) n = rw (free-reuse i u c) (other-near (freePlace c) _ (c .phase) (free-other (c .places) i held-there))
+  card-near (create aid quota) n = rw (free-reuse i u c) (other-near (freePlace c) _ (c .free - quota) (c .phase) (free-other (c .places) i held-there))
   card-near (on aid x) n = act-near aid x n
   card-near (confirm number) n = confirm-near (c .phase)
   card-near (statusOfAll life fallback) n = apart u refl b

@@ -2,6 +2,7 @@
 -- one nothing; capacity is never changed; and of a sound card the quotas counted are those held. Assumes nothing.
 use mathlib.Core.Path.{_≡_, refl, ap, sym, subst, _∙_}
 use Prim.Native.Nat.{ℕ, _-_, _≤_, _<_}
+use native.Mathlib.Omega.{arith}
 use mathlib.Core.List.{List, [], _∷_}
 use mathlib.Core.Bool.{Bool, true, false, not, cond, false≢true}
 use lib.ListN.{length, set}
@@ -22,7 +23,7 @@ use Rattle.places.specs.Places.{at, isFree}
 use Rattle.places.proofs.Seeks.{seek-below}
 use Rattle.places.proofs.Lives.{enable-lives, within}
 use Rattle.places.proofs.Sets.{all-at}
-use Rattle.card.specs.Cards.{freeIn, isQuiet, placeOf, profileOf, freePlace, onFallback, withChange, withPhase}
+use Rattle.card.specs.Cards.{freeIn, isQuiet, placeOf, profileOf, freePlace, onFallback, withPhase, cleared}
 use Rattle.card.specs.Sound.{sound}
 use Rattle.card.specs.Clock.{tickIn, tickOf, lostOf, dropped, confirmIn, confirmOf}
 use Rattle.card.specs.Steps.{stepTo, tickStep, lostStep, confirmStep, goneIn}
@@ -120,7 +121,7 @@ module _ (c : Card) (s : Sound c) (ms : List Made) (t : Tally ms (c .places)) wh
       placed (c .capacity) (at (c .places) q) (ne-eqb _ _ n)
       (all-at (placeOk (c .capacity)) (c .places) q (within (c .places) q n) (s .placed .each)) .there
 
-  trial-case : (q : ℕ) (b : Bool) → dropped c q ≡ b → at (c .places) q .life ≡ disabled → Tally (afterConfirm (deletedResponse (cond b (at (c .places) q .aid) noAid)) ms) (cond b (withChange c (c .last) Quiet (set (c .places) q vacant)) (withPhase c Quiet) .places)
+  trial-case : (q : ℕ) (b : Bool) → dropped c q ≡ b → at (c .places) q .life ≡ disabled → Tally (afterConfirm (deletedResponse (cond b (at (c .places) q .aid) noAid)) ms) (cond b (cleared (withPhase c Quiet) q) (withPhase c Quiet) .places)
   trial-case q true e h =
       let k = previous-held q h in
       subst (λ l. Tally l (set (c .places) q vacant)) (sym (gone-named (at (c .places) q) k))
@@ -171,7 +172,8 @@ run-free : (calls : List Call) (c : Card) (capacity : ℕ) (ms : List Made) → 
 unfolding run exchanges history
 run-free [] c capacity ms e s t =
     let r = tally-room (c .capacity) ms (c .places) (parts c s .placed .each) t in
-    (rw (r, e), rw (r, ← e) (parts c s .placed .room))
+    let q = parts c s .placed .room in
+    (omega arith, omega arith)
 run-free (call ∷ calls) c capacity ms e s t =
     run-free calls (step c call .card) capacity (madeAfter capacity (exchanged c call) ms) (capacity-kept c call ∙ e) (step-sound c call s)
     (subst (λ k. Tally (madeAfter k (exchanged c call) ms) (step c call .card .places)) e (step-tally c call ms s t))

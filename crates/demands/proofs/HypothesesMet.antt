@@ -90,7 +90,7 @@ demand-2-met =
 -- F enabled and on trial, the profile before it not the fall-back
 abbrev trial : Card
 trial =
-    cardWith eid 1000 0 1 0 (Trial 1 10 1)
+    cardWith eid 1000 0 800 1 0 (Trial 1 10 1)
     (withMark (made (aidEnding 1) enabled 100 0) 1 ∷ made (aidEnding 2) disabled 100 1 ∷ replicate (mostPlaces - 2) vacant)
 
 pub ticks-met : TicksMet

@@ -31,6 +31,7 @@ pub mod Free
 pub mod Provisioning
 pub mod Room
 pub mod RoomMet
+pub mod Summed
 pub mod InfluenceMet
 pub mod Notified
 pub mod SilentEngines

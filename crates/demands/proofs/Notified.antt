@@ -20,7 +20,7 @@ use Rattle.isdp.proofs.Placed.{vacant-is}
 use Rattle.places.specs.Places.{at, seek, isFree}
 use Rattle.places.proofs.Seeks.{seek-below}
 use Rattle.places.proofs.Sets.{all-at}
-use Rattle.card.specs.Cards.{placeOf, profileOf, freePlace, enabledAid, mayBeDeleted, withPlaces, withFallback}
+use Rattle.card.specs.Cards.{placeOf, profileOf, freePlace, enabledAid, mayBeDeleted, withRoom, withFallback}
 use Rattle.card.specs.Sound.{sound}
 use Rattle.card.specs.Noticed.{JustOpened, Noticed, silently, told}
 use Rattle.card.specs.Steps.{stepTo}
@@ -61,8 +61,8 @@ module _ (c : Card) (s : sound c ≡ true) where
   other-life : (i v : ℕ) → eqb v enabled ≡ false → at (c .places) i .life ≡ v → isEnabled (at (c .places) i) ≡ false
   other-life i v n e = rw e n
 
-  -- one place that is not enabled is rewritten, and is not enabled then
-  rewrites : (i : ℕ) (x : Isdp) → isEnabled x ≡ false → isEnabled (at (c .places) i) ≡ false → Noticed c (stepTo c (withPlaces c (set (c .places) i x)) noAid)
+  -- one place that is not enabled is rewritten, and is not enabled then; whatever is free
+  rewrites : (i : ℕ) (x : Isdp) {free : ℕ} → isEnabled x ≡ false → isEnabled (at (c .places) i) ≡ false → Noticed c (stepTo c (withRoom c free (set (c .places) i x)) noAid)
   rewrites i x e f = unmoved c _ noAid refl (ap (λ (p : Isdp). p .aid) (found-kept x e (c .places) i f))
 
   -- a free place is not enabled

@@ -23,6 +23,7 @@ use Rattle.card.specs.Answers.{Outcome, accepted}
 use Rattle.card.specs.declared.Card.{Card}
 use Rattle.card.specs.declared.Phase.the-variants.{Quiet}
 use Rattle.card.proofs.Records.{same-card}
+use Rattle.card.proofs.Free.{same-free}
 use Rattle.card.proofs.Sounds.{parts, resort-nonzero}
 use Rattle.fields.specs.Grammar as field
 use Rattle.command.specs.Grammar.{Encodes}
@@ -66,7 +67,7 @@ beside-itself c t =
     record { eid = refl; capacity = refl; volatile = refl; last = refl; fallback = refl; phase = refl; as-many = refl; others = λ i e. refl }
 
 -- an accepted call that rewrites place t
-module _ (c : Card) (t : ℕ) (d : Card) (x : Isdp) (bytes : List ℕ) (ticks : ℕ) (o : Outcome) (b : Beside c t d) (a : Answers d (replaced d (onlyAt d t x) bytes ticks) o) where
+module _ (c : Card) (t : ℕ) (d : Card) (x : Isdp) (free : ℕ) (bytes : List ℕ) (ticks : ℕ) (o : Outcome) (b : Beside c t d) (a : Answers d (replaced d free (onlyAt d t x) bytes ticks) o) where
   there : profileAt (o .card) t ≡ x
   there = a .places t ∙ ap (λ (b : Bool). cond b x (profileAt d t)) (eq-eqb t t refl)
 
@@ -88,11 +89,11 @@ module _ (c : Card) (t : ℕ) (d : Card) (x : Isdp) (bytes : List ℕ) (ticks : 
   same-case e i true q = e ∙ ap (profileAt c) (sym (eqb-true i t q))
   same-case e i false q = b .others i q
 
-  undone : x ≡ profileAt c t → o .card ≡ c
-  undone e =
+  undone : sound c ≡ true → sound (o .card) ≡ true → x ≡ profileAt c t → o .card ≡ c
+  undone s s' e =
       let k = still-beside in
-      same-card c (o .card) (k .eid) (k .capacity) (k .volatile) (k .last) (k .fallback) (k .phase)
-      (same-places (o .card .places) (c .places) (k .as-many) (λ i. a .places i ∙ same-case e i (eqb i t) refl))
+      let l = same-places (o .card .places) (c .places) (k .as-many) (λ i. a .places i ∙ same-case e i (eqb i t) refl) in
+      same-card c (o .card) (k .eid) (k .capacity) (k .volatile) (same-free c (o .card) (parts c s .placed .room) (parts (o .card) s' .placed .room) (k .capacity) l) (k .last) (k .fallback) (k .phase) l
 
 -- a download on the way: place t bears the AID, and while it is loaded its policy is empty
 record Half (c : Card) (aid : List ℕ) (t : ℕ) (d : Card) : Type 0 where
@@ -102,20 +103,20 @@ record Half (c : Card) (aid : List ℕ) (t : ℕ) (d : Card) : Type 0 where
   no-policy : isCreated (profileAt d t .life) ≡ true → profileAt d t .policy ≡ 0
 
 module _ (c : Card) (aid : List ℕ) (t : ℕ) where
-  written-half : (d : Card) (x : Isdp) (bytes : List ℕ) (ticks : ℕ) (o : Outcome) → Beside c t d → Answers d (replaced d (onlyAt d t x) bytes ticks) o → sound (o .card) ≡ true → held x ≡ true → aidOf x ≡ aid → (isCreated (x .life) ≡ true → x .policy ≡ 0) → Half c aid t (o .card)
-  written-half d x bytes ticks o b a s h n p =
-      let new = there c t d x bytes ticks o b a in
+  written-half : (d : Card) (x : Isdp) (free : ℕ) (bytes : List ℕ) (ticks : ℕ) (o : Outcome) → Beside c t d → Answers d (replaced d free (onlyAt d t x) bytes ticks) o → sound (o .card) ≡ true → held x ≡ true → aidOf x ≡ aid → (isCreated (x .life) ≡ true → x .policy ≡ 0) → Half c aid t (o .card)
+  written-half d x free bytes ticks o b a s h n p =
+      let new = there c t d x free bytes ticks o b a in
       record {
         still-sound = s;
-        beside = still-beside c t d x bytes ticks o b a;
+        beside = still-beside c t d x free bytes ticks o b a;
         bears = record { held-there = ap held new ∙ h; named = ap aidOf new ∙ n };
         no-policy = subst (λ (p : Isdp). isCreated (p .life) ≡ true → p .policy ≡ 0) (sym new) p;
       }
 
   -- by an inner call: the AID stays
-  loaded-half : (d : Card) (x : Isdp) (ticks : ℕ) (call : Call) → Half c aid t d → Answers d (replaced d (onlyAt d t x) [] ticks) (step d call) → x .aid ≡ profileAt d t .aid → (isCreated (x .life) ≡ true → x .policy ≡ 0) → Half c aid t (step d call .card)
+  loaded-half : (d : Card) (x : Isdp) (ticks : ℕ) (call : Call) → Half c aid t d → Answers d (replaced d (d .free) (onlyAt d t x) [] ticks) (step d call) → x .aid ≡ profileAt d t .aid → (isCreated (x .life) ≡ true → x .policy ≡ 0) → Half c aid t (step d call .card)
   loaded-half d x ticks call h a n p =
-      written-half d x [] ticks (step d call) (h .beside) a (step-sound d call (h .still-sound)) (rw n (h .bears .held-there)) (ap bytesOf n ∙ h .bears .named) p
+      written-half d x (d .free) [] ticks (step d call) (h .beside) a (step-sound d call (h .still-sound)) (rw n (h .bears .held-there)) (ap bytesOf n ∙ h .bears .named) p
 
   inner-half : (d : Card) (x : Inner) → Half c aid t d → Half c aid t (step d (innerCall aid x) .card)
   inner-half d keyed h =
@@ -168,7 +169,7 @@ no-room-lost c v _ _ inner (commands verdict s room long encoded) (commands verd
     let a = exact .where-may may in
     let n = encoded .encoded .named in
     let ok : aidOk aid ≡ true = both _ _ (le-leb 5 (length aid) (n .least)) (le-leb (length aid) 16 (n .most)) in
-    let first = written-half c aid t c _ _ _ _ (beside-itself c t) a (step-sound c creation sounds) (made-held aid selectable (v .quota) 0 ok) (made-aid aid selectable (v .quota) 0 ok) (λ l. refl) in
+    let first = written-half c aid t c _ _ _ _ _ (beside-itself c t) a (step-sound c creation sounds) (made-held aid selectable (v .quota) 0 ok) (made-aid aid selectable (v .quota) 0 ok) (λ l. refl) in
     let d = reachedBy step (step c creation .card) (innerCalls aid inner) in
     let h = inners-half c aid t inner (step c creation .card) first in
     let free = vacant-is (c .capacity) (profileAt c t) (low .free) (all-at (placeOk (c .capacity)) (c .places) t (low .a-place) (parts c sounds .placed .each)) in
@@ -177,7 +178,7 @@ no-room-lost c v _ _ inner (commands verdict s room long encoded) (commands verd
     let r = every-call .delete aid d verdict' s' room' (h .still-sound) long' encodes .exactly t (h .bears) .where-may (may-delete c aid t d h sounds (may .none-open) free l) in
     record {
       status = r .status;
-      card = undone c t d vacant _ _ _ (h .beside) r (sym free);
+      card = undone c t d vacant _ _ _ _ (h .beside) r sounds (step-sound d (Command verdict' s' room') (h .still-sound)) (sym free);
       response = r .response;
       notification = r .notification;
       ticks = r .ticks ∙ rw (may .none-open);

@@ -10,8 +10,8 @@ use Rattle.isdp.specs.declared.Aid.{Aid}
 use Rattle.isdp.specs.LifeCycle.{enabled, isEnabled, withLife, withUsed}
 use Rattle.isdp.specs.Place.{held, isFor}
 use Rattle.isdp.specs.declared.Isdp.{Isdp}
-use Rattle.places.specs.Places.{at, seek, isFree, quotas, countOf, allOff, enableAt}
-use Rattle.card.specs.Cards.{isQuiet, placeOf, enabledPlace, freePlace, freeIn, onFallback, withPlaces, enabledAid}
+use Rattle.places.specs.Places.{at, seek, isFree, countOf, allOff, enableAt}
+use Rattle.card.specs.Cards.{isQuiet, placeOf, enabledPlace, freePlace, onFallback, withPlaces, enabledAid}
 use Rattle.card.specs.Clock.{moved, dropped, tickIn, tickOf, lostOf}
 use Rattle.card.specs.Ticks.{stepsIn, ticksToCome}
 use Rattle.card.specs.Notifications.{issued, noticeSince, kindOf}
@@ -63,12 +63,6 @@ unfolding countOf useAt
 use-count t b [] i u = refl
 use-count t b (p ∷ ps) zero u = rw (b p u)
 use-count t b (p ∷ ps) (suc i) u = rw (use-count t b ps i u)
-
-pub use-quotas : (l : List Isdp) (i u : ℕ) → quotas (useAt l i u) ≡ quotas l
-unfolding quotas useAt
-use-quotas [] i u = refl
-use-quotas (p ∷ ps) zero u = refl
-use-quotas (p ∷ ps) (suc i) u = rw (use-quotas ps i u)
 
 use-off : (l : List Isdp) (i u : ℕ) → allOff (useAt l i u) ≡ useAt (allOff l) i u
 unfolding useAt allOff
@@ -187,12 +181,9 @@ module _ (i u : ℕ) where
   unfolding oneStatus
   one-reuse c j life fallback = rw (use-at (c .places) i u j, row-reuse (at (c .places) j) (at (useAt (c .places) i u) j .used) (attributeOf (c .fallback) j) life fallback)
 
-  pub room-reuse : (c : Card) → freeIn (reuseAt i u c) ≡ freeIn c
-  room-reuse c = rw (use-quotas (c .places) i u)
-
   pub data-reuse : (c : Card) → dataResponse (reuseAt i u c) ≡ dataResponse c
   unfolding dataResponse
-  data-reuse c = rw (use-count held (λ p v. refl) (c .places) i u, room-reuse c)
+  data-reuse c = rw (use-count held (λ p v. refl) (c .places) i u)
 
 pub notice-reuse : (i u v : ℕ) (c d : Card) → noticeSince (c .last) (reuseAt i v d) ≡ noticeSince (c .last) d
 unfolding noticeSince

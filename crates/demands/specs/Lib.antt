@@ -23,5 +23,6 @@ pub mod Others
 pub mod Free
 pub mod Provisioning
 pub mod Room
+pub mod Summed
 pub mod Notified
 pub mod SilentEngines

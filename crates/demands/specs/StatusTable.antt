@@ -14,6 +14,7 @@ use Rattle.isdp.specs.LifeCycle.{selectable, personalized, disabled, enabled, w
 use Rattle.isdp.specs.Place.{vacant, made}
 use Rattle.isdp.specs.declared.Isdp.{Isdp}
 use Rattle.card.specs.Fresh.{zeroCard}
+use Rattle.card.specs.Free.{withFree}
 use Rattle.card.specs.declared.Card.{Card}
 use Rattle.card.specs.declared.Phase.the-variants.{Quiet}
 use Rattle.manager.specs.Calls.{Call, Call.Command, Call.Keyed, Call.Stored, Call.Finished, Call.Tick, Call.Lost}
@@ -89,6 +90,15 @@ cases =
     ∷ case 16 0x9000 (handedIn 1 (withMark (made (aid 2) selectable 50 0) 1)) [] Tick
     ∷ case 16 0x9000 (handedIn 1 (made (aid 2) disabled 50 5)) [] Tick
     ∷ case 16 0x9000 fresh [] Tick
+    -- request 2026-04: for a number kept for free that is not what the quotas leave, and for quotas over the capacity; also before 6F 02
+    ∷ case 1 0x6F00 (withFree fresh 899) [] Tick
+    ∷ case 1 0x6F00 (withFree fresh 901) [] Lost
+    ∷ case 1 0x6F00 (withFree fresh 0) [] (create 2 1)
+    ∷ case 1 0x6F00 (withFree fresh 1000) [] getStatus
+    ∷ case 1 0x6F00 (withFree fresh 4294967295) [] (Command 0 (listing 0x80 0) 255)
+    ∷ case 1 0x6F00 (handedIn 1 (made (aid 2) disabled 901 5)) [] Tick
+    ∷ case 16 0x9000 (withFree fresh 900) [] Tick
+    ∷ case 16 0x9000 (handedIn 1 (made (aid 2) disabled 900 5)) [] Tick
     -- 6F 02, also before 67 00
     ∷ case 2 0x6F02 fresh [] (Command 0 (0x80 ∷ 0xF2 ∷ 0x40 ∷ []) 255)
     ∷ case 2 0x6F02 fresh [] (Command 0 (listing 0x80 0) 255)
@@ -211,6 +221,9 @@ cases =
     ∷ case 16 0x9000 fresh (creates 2 (mostPlaces - 1) ++ delete 3 ∷ []) (create (mostPlaces + 1) 1)
     ∷ case 15 0x6A84 fresh (create 2 900 ∷ []) (create 3 1)
     ∷ case 16 0x9000 fresh (create 2 900 ∷ Keyed (aid 2) ∷ Stored (aid 2) 900 ∷ delete 2 ∷ []) (create 3 900)
+    -- and what a confirmation's deletion gives back: 02 is gone, F and 03 are left
+    ∷ case 15 0x6A84 fresh (onto 4 ++ load 3 0 ++ enable 3 ∷ confirm 2 ∷ []) (create 4 851)
+    ∷ case 16 0x9000 fresh (onto 4 ++ load 3 0 ++ enable 3 ∷ confirm 2 ∷ []) (create 4 850)
     ∷ case 15 0x6A84 fresh (create 2 50 ∷ Keyed (aid 2) ∷ []) (Stored (aid 2) 51)
     ∷ case 15 0x6A84 fresh (create 2 50 ∷ Keyed (aid 2) ∷ []) (Stored (aid 2) 4294967295)
     ∷ case 16 0x9000 fresh (create 2 50 ∷ Keyed (aid 2) ∷ []) (Stored (aid 2) 50)

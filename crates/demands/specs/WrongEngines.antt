@@ -13,9 +13,8 @@ use Rattle.isdp.specs.Sizes.{wait}
 use Rattle.isdp.specs.Aids.{noAid}
 use Rattle.isdp.specs.Policy.{forbidsDisabling}
 use Rattle.isdp.specs.LifeCycle.{isFinished}
-use Rattle.isdp.specs.Place.{vacant}
 use Rattle.places.specs.Places.{at}
-use Rattle.card.specs.Cards.{isQuiet, placeOf, profileOf, enabledPlace, withPlaces, withPhase, withFallback}
+use Rattle.card.specs.Cards.{isQuiet, placeOf, profileOf, enabledPlace, withPhase, cleared, withFallback}
 use Rattle.card.specs.Sound.{sound}
 use Rattle.card.specs.Clock.{nextOf, outstanding, dropped}
 use Rattle.card.specs.Steps.{stepTo, confirmStep}
@@ -176,7 +175,7 @@ previousDeletedAtEnable =
     plain
     (λ c call.
     cond ((asksEnable (asked c call) && taken c call) && dropped c (enabledPlace c))
-    (withCard (step c call) (withPlaces (step c call .card) (set (step c call .card .places) (enabledPlace c) vacant)))
+    (withCard (step c call) (cleared (step c call .card) (enabledPlace c)))
     (step c call))
 
 -- "A second enable during Trial that restarts the ten ticks."

@@ -43,8 +43,8 @@ examples =
     ∷ record { line = "stored A0F 4294967296"; says = Wrong BadHex }
     ∷ record { line = "stored A0 4294967296"; says = Wrong BadNumber }
     ∷ record { line = "command 0 80 1025"; says = Wrong BadNumber }
-    ∷ record { line = "card 89 0 0 0 0 Q - - - - - - -"; says = Wrong WordsMissing }
-    ∷ record { line = "card 89 0 0 0 0 Q - - - - - - - -"; says = Record 4 }
+    ∷ record { line = "card 89 0 0 0 0 0 Q - - - - - - -"; says = Wrong WordsMissing }
+    ∷ record { line = "card 89 0 0 0 0 0 Q - - - - - - - -"; says = Record 4 }
     ∷ []
 
 says-so : map (λ (e : Example). orderOf (ascii (e .line))) examples ≡ map (λ (e : Example). e .says) examples

@@ -88,7 +88,7 @@ finishedAt s at =
 
 -- `card` EID CAPACITY VOLATILE LAST FALLBACK PHASE, and a word for each place
 abbrev pub recordWords : ℕ
-recordWords = 7 + mostPlaces
+recordWords = 8 + mostPlaces
 
 -- by the first word, which ends at `at`, of n words
 unfoldable pub orderBy : Verb → ℕ → List ℕ → ℕ → Order

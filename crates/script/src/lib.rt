@@ -38,7 +38,7 @@ pub enum Order {
 }
 
 // The words of a `card` line: seven, and one for each place.
-const RECORD: usize = 7 + Card::PLACES;
+const RECORD: usize = 8 + Card::PLACES;
 
 pub enum Verb {
     Fresh,

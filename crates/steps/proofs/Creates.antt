@@ -1,7 +1,7 @@
 -- A profile made in the lowest free place keeps a sound card sound: the place was empty, so neither the fall-back nor the enabled one,
 -- and no held place bears the new AID. Assumes nothing.
 use mathlib.Core.Path.{_≡_, refl, ap, sym, _∙_}
-use Prim.Native.Nat.{ℕ, _+_, _≤_, _<_}
+use Prim.Native.Nat.{ℕ, _≤_, _<_}
 use native.Mathlib.Omega.{arith}
 use mathlib.Core.List.{List, [], _∷_}
 use mathlib.Core.Bool.{Bool, true, false, _&&_, false≢true}
@@ -16,9 +16,9 @@ use Rattle.isdp.specs.declared.Isdp.{Isdp}
 use Rattle.isdp.proofs.Bools.{or-l, or-r}
 use Rattle.byte_string.proofs.Alike.{same-sym}
 use Rattle.isdp.proofs.Placed.{vacant-is, made-held, made-aid, made-ok}
-use Rattle.places.specs.Places.{at, seek, isFree, quotas, anyOf}
+use Rattle.places.specs.Places.{at, seek, isFree, anyOf}
 use Rattle.places.proofs.Seeks.{seek-at, seek-below}
-use Rattle.places.proofs.Sets.{set-quotas, set-distinct, all-at}
+use Rattle.places.proofs.Sets.{set-distinct, all-at}
 use Rattle.card.specs.Cards.{profileOf, freePlace, freeIn, filled}
 use Rattle.card.specs.declared.Card.{Card}
 use Rattle.card.specs.declared.Phase.the-variants.{Quiet}

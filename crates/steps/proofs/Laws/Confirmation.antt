@@ -1,7 +1,7 @@
 -- Confirmation, phase by phase: two rows are left, and the change closes with the previous profile deleted or not. Assumes nothing.
 use mathlib.Core.Path.{_≡_, refl, sym, ap, subst, _∙_}
 use Prim.Native.Nat.{ℕ, _+_}
-use mathlib.Core.List.{List, [], _∷_}
+use mathlib.Core.List.{[], _∷_}
 use mathlib.Core.Bool.{Bool, true, false, not, cond}
 use lib.ListN.{set, length-set}
 use lib.Dec.{eqb}

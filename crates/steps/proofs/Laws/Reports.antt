@@ -59,5 +59,5 @@ status-of-one-law c aid life attribute s =
 pub get-data-law : GetDataLaw
 unfolding dataResponse
 get-data-law c s =
-    rw (← (sound-card c s .summed))
+    rw (← (sound-card c s .as-summed))
     (subst (Still c _) (sym (asked-taken c getData s (record { change = refl; target = refl; already = refl; state = refl; policy = refl; verdict = refl; room = refl }))) (still c (dataResponse c) s))

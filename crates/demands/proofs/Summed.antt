@@ -1,0 +1,95 @@
+-- On a sound card the number kept is the sum, so the manager that reads it answers as the one that sums; by induction over the calls, since
+-- every call keeps a sound card sound. The engines that do not keep it true leave a card that is not sound, by computing. Assumes nothing.
+use mathlib.Core.Path.{_≡_, refl, ap, sym}
+use Prim.Native.Nat.{ℕ, _+_, _-_}
+use native.Mathlib.Omega.{arith}
+use mathlib.Core.List.{List, [], _∷_}
+use mathlib.Core.Bool.{Bool, true, false}
+use lib.Dec.{eqb, leb}
+use borrow.Author.Tests.{eq-eqb, ne-eqb, leb-true, leb-false}
+use Rattle.status.specs.StatusWords.{numberOf}
+use Rattle.byte_string.specs.Bytes.{sameBytes}
+use Rattle.status.specs.Rows.{wordOf}
+use Rattle.isdp.specs.Aids.{padded}
+use Rattle.isdp.specs.Place.{isFor, clash, zeros, placeOk}
+use Rattle.places.specs.Places.{seek, quotas, allOf, anyOf, countOf, distinct, allOff, enableAt}
+use Rattle.card.specs.Sound.{phaseOk, sound}
+use Rattle.card.specs.Clock.{tickOf, lostOf, confirmOf}
+use Rattle.card.specs.Steps.{tickStep, lostStep, confirmStep}
+use Rattle.card.specs.Notifications.{noticeSince}
+use Rattle.card.specs.Ticks.{stepsIn, ticksToCome}
+use Rattle.card.specs.Answers.{refused, accepted}
+use Rattle.card.specs.Fresh.{freshOutcome}
+use Rattle.choice.specs.Choice.{pick, atMost, isBelow, isSame}
+use Rattle.tlv.specs.Lists.{listWrong, listAt, listWithin, listOf, elementOf, restOf, closed}
+use Rattle.tlv.specs.Tlv.{tagAt, lengthAt, afterLength, afterTag, headAt, expectOf, expectAt}
+use Rattle.reader.specs.Reader.{aloneAt}
+use Rattle.fields.specs.StoreData.{dgiAt, confirmationAt, namedBy, storeDataAt}
+use Rattle.fields.specs.Delete.{verificationAt, deletionAt}
+use Rattle.fields.specs.GetStatus.{noted, listedWithin, listedAt, tagsAt, listingAt}
+use Rattle.install.specs.Parameters.{protocolsWithin, protocolsAt, numberAt, grantOf, memoryAt, parametersAt}
+use Rattle.install.specs.Install.{prefixedOf, prefixedAt, namesAt, rightsAt, installOf}
+use Rattle.command.specs.Framing.{lengthWrong, classRight, classWrong, instructionWrong, parametersRight, parametersWrong, shapeRight, shapeWrong}
+use Rattle.command.specs.Requests.{fieldOf, dataWrong}
+use Rattle.responses.specs.Responses.{statusBody, statusRow, rowOf, rowsFrom, statusResponse, oneStatus, dataResponse, deletedResponse}
+use Rattle.manager.specs.Manager.{step}
+use Rattle.card.specs.Free.{withFree, summed}
+use Rattle.card.specs.Answers.{Outcome, outcome}
+use Rattle.card.specs.declared.Card.{Card}
+use Rattle.card.proofs.Free.{sound-card}
+use Rattle.steps.specs.Asked.{Asked.create}
+use Rattle.steps.specs.Steps.{askedWork}
+use Rattle.manager.specs.Calls.{Call}
+use Rattle.manager.proofs.Kept.{step-sound}
+use Rattle.demands.specs.Examples.{fresh}
+use Rattle.demands.specs.Summed.{SumsAnew, summing, answersBy, AnswersStay, NotKept}
+
+summed-is : (c : Card) → sound c ≡ true → summed c ≡ c
+summed-is c s = ap (withFree c) (sym (sound-card c s .as-summed))
+
+-- what the quotas leave makes up the capacity where they are within it
+within-case : (q k : ℕ) (b : Bool) → leb q k ≡ b → eqb ((k - q) + q) k ≡ b
+within-case q k true e = eq-eqb ((k - q) + q) k (let h = leb-true q k e in omega arith)
+within-case q k false e = ne-eqb ((k - q) + q) k (λ w. let h = leb-false q k e in omega arith)
+
+pub sums-anew : SumsAnew
+unfolding dataResponse
+sums-anew =
+    record {
+      looks-at-none = λ c free call. refl;
+      gives = λ c. refl;
+      asks = λ c aid quota. refl;
+      within = λ c. within-case (quotas (c .places)) (c .capacity) _ refl;
+    }
+
+every : (calls : List Call) (c : Card) → sound c ≡ true → answersBy step c calls ≡ answersBy summing c calls
+unfolding answersBy
+every [] c s = refl
+every (call ∷ calls) c s = rw (summed-is c s) (ap (λ (l : List Outcome). step c call ∷ l) (every calls (step c call .card) (step-sound c call s)))
+
+pub answers-stay : AnswersStay
+answers-stay =
+    record {
+      get-data = λ c s. ap dataResponse (sym (summed-is c s));
+      create = λ c aid quota s. ap (λ (d : Card). outcome d (askedWork d (create aid quota))) (sym (summed-is c s));
+      every = λ c calls s. every calls c s;
+    }
+
+-- the word of the last answer
+unfoldable lastWord : List Outcome → ℕ
+lastWord [] = 0
+lastWord (o ∷ []) = numberOf (o .status)
+lastWord (o ∷ p ∷ rest) = lastWord (p ∷ rest)
+
+told : (l m : List Outcome) → lastWord l ≡ 0x6F00 → lastWord m ≡ 0x9000 → l ≡ m → ⊥
+told l m a b e = let w = ap lastWord e in omega arith
+
+pub not-kept : NotKept
+unfolding fresh step wordOf sameBytes padded isFor clash zeros placeOk seek quotas allOf anyOf countOf distinct allOff enableAt phaseOk sound tickOf lostOf confirmOf tickStep lostStep confirmStep noticeSince stepsIn ticksToCome refused accepted freshOutcome pick atMost isBelow isSame tagAt lengthAt afterLength afterTag headAt expectOf expectAt aloneAt dgiAt confirmationAt namedBy storeDataAt verificationAt deletionAt noted listedWithin listedAt tagsAt listingAt protocolsWithin protocolsAt numberAt grantOf memoryAt parametersAt prefixedOf prefixedAt namesAt rightsAt installOf lengthWrong classRight classWrong instructionWrong parametersRight parametersWrong shapeRight shapeWrong fieldOf dataWrong statusBody statusRow rowOf rowsFrom statusResponse oneStatus dataResponse deletedResponse listWrong listAt listWithin listOf elementOf restOf closed answersBy lastWord
+not-kept =
+    record {
+      create = told _ _ refl refl;
+      delete = told _ _ refl refl;
+      master-delete = told _ _ refl refl;
+      confirmation = told _ _ refl refl;
+    }
