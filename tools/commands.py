@@ -67,6 +67,14 @@ def place_word(aid, state, quota=50, used=5, policy=0, mark=1):
     return f"{aid}:{state}:{quota}:{used}:{policy}:{mark}"
 
 
-def card_line(places, capacity=1000, volatile=7, last=0, fall_back=0, phase="Q", eid=EID):
+def free_left(places, capacity):
+    """What the quotas of these words leave of the capacity, 0 where they pass it."""
+    quotas = [int(word.split(":")[2]) for word in places if word != "-"]
+    return max(0, capacity - sum(quotas))
+
+
+def card_line(places, capacity=1000, volatile=7, last=0, fall_back=0, phase="Q", eid=EID, free=None):
+    """A card line. Its FREE is the right one, where there is one, unless it is given."""
     words = [*places, *["-"] * (PLACES - len(places))]
-    return f"card {eid} {capacity} {volatile} {last} {fall_back} {phase} " + " ".join(words)
+    free = free_left(places, capacity) if free is None else free
+    return f"card {eid} {capacity} {volatile} {free} {last} {fall_back} {phase} " + " ".join(words)

@@ -119,6 +119,8 @@ pub struct Card {
     pub eid: [u8; EID_LENGTH],
     pub capacity: u32,
     pub volatile: u32,
+    /// What the quotas leave of the capacity, kept so that no call has to add them up. `fill` and `clear` alone write it.
+    pub free: u32,
     pub last: u16,
     pub fall_back: u8,
     pub phase: Phase,
@@ -130,6 +132,7 @@ impl Card {
         eid: [0; EID_LENGTH],
         capacity: 0,
         volatile: 0,
+        free: 0,
         last: 0,
         fall_back: 0,
         phase: Phase::Quiet,
@@ -145,9 +148,9 @@ impl Card {
         if !right {
             return None;
         }
-        let mut card = Card { capacity, volatile, ..Card::ZEROS };
+        let mut card = Card { capacity, volatile, free: capacity, ..Card::ZEROS };
         card.eid.copy_from_slice(eid);
-        card.places[0] = Place { aid: Aid::of(aid), life_cycle: ENABLED, quota, used, mark: MARKED, ..Place::ZERO };
+        card.fill(0, Place { aid: Aid::of(aid), life_cycle: ENABLED, quota, used, mark: MARKED, ..Place::ZERO });
         Some(card)
     }
 
@@ -156,8 +159,8 @@ impl Card {
             return false;
         }
         let mut enabled = 0;
-        // An unsound record may hold eight quotas of 2^32-1.
-        let mut quotas = 0u64;
+        // An unsound record may hold eight quotas of 2^32-1, and a free of as much.
+        let mut together = u64::from(self.free);
         for (index, place) in self.places.iter().enumerate() {
             if *place == Place::ZERO {
                 continue;
@@ -169,10 +172,10 @@ impl Card {
                 return false;
             }
             enabled += usize::from(place.life_cycle == ENABLED);
-            quotas += u64::from(place.quota);
+            together += u64::from(place.quota);
         }
         enabled == 1
-            && quotas <= u64::from(self.capacity)
+            && together == u64::from(self.capacity)
             && self.held_at(self.fall_back).is_some_and(Place::may_be_fall_back)
             && self.phase_is_sound()
     }
@@ -208,8 +211,16 @@ impl Card {
         self.places.iter().filter(|place| place.is_held()).count()
     }
 
-    pub fn free(&self) -> u32 {
-        self.places.iter().fold(self.capacity, |free, place| free - place.quota)
+    /// Puts a new profile into a free place; there is room for its quota.
+    pub fn fill(&mut self, index: usize, profile: Place) {
+        self.free -= profile.quota;
+        self.places[index] = profile;
+    }
+
+    /// Every deletion: a place of zeros is left, and the whole quota is free again, whatever was stored of it.
+    pub fn clear(&mut self, index: usize) {
+        self.free += self.places[index].quota;
+        self.places[index] = Place::ZERO;
     }
 
     pub fn enabled(&self) -> usize {
@@ -312,12 +323,11 @@ impl Card {
     pub fn close(&mut self) -> Option<Aid> {
         let phase = std::mem::replace(&mut self.phase, Phase::Quiet);
         let Phase::Trial { previous, .. } = phase else { return None };
-        let place = &mut self.places[previous as usize];
-        if previous == self.fall_back || place.policy & DELETE_ONCE_DISABLED == 0 {
+        let Place { aid, policy, .. } = self.places[previous as usize];
+        if previous == self.fall_back || policy & DELETE_ONCE_DISABLED == 0 {
             return None;
         }
-        let aid = place.aid;
-        *place = Place::ZERO;
+        self.clear(previous as usize);
         Some(aid)
     }
 

@@ -7,6 +7,8 @@ mod card;
 #[cfg(test)]
 mod deletion_tests;
 mod events;
+#[cfg(test)]
+mod free_tests;
 mod manager;
 mod minutes;
 #[cfg(test)]

@@ -171,8 +171,8 @@ fn create(card: &mut Card, aid: &[u8], quota: u32, buffer: &mut [u8]) -> Result<
     no_change_open(card)?;
     require(card.find(aid).is_none(), WRONG_DATA)?;
     let index = card.lowest_free_place().ok_or(NO_ROOM)?;
-    require(quota <= card.free(), NO_ROOM)?;
-    card.places[index] = Place { aid: Aid::of(aid), life_cycle: SELECTABLE, quota, ..Place::ZERO };
+    require(quota <= card.free, NO_ROOM)?;
+    card.fill(index, Place { aid: Aid::of(aid), life_cycle: SELECTABLE, quota, ..Place::ZERO });
     Ok(write_zero(buffer))
 }
 
@@ -220,7 +220,7 @@ fn master_delete(card: &mut Card, aid: &[u8], verdict: u8, buffer: &mut [u8]) ->
 }
 
 fn remove(card: &mut Card, index: usize, buffer: &mut [u8]) -> Done {
-    card.places[index] = Place::ZERO;
+    card.clear(index);
     write_zero(buffer)
 }
 
@@ -263,7 +263,7 @@ fn get_data(card: &Card, buffer: &mut [u8]) -> Done {
     let mut response = Response::into(buffer);
     response.list(&[0xFF, 0x21], |response| {
         response.element(&[0x81], &[card.held() as u8]);
-        response.element(&[0x82], &card.free().to_be_bytes());
+        response.element(&[0x82], &card.free.to_be_bytes());
         response.element(&[0x83], &card.volatile.to_be_bytes());
     });
     Done::wrote(response.length)

@@ -134,7 +134,7 @@ fn words_after(first: &[u8]) -> Result<(usize, usize), Bad> {
         b"keyed" => (1, 1),
         b"stored" => (2, 2),
         b"tick" | b"lost" => (0, 0),
-        b"card" => (6 + PLACES, 6 + PLACES),
+        b"card" => (7 + PLACES, 7 + PLACES),
         _ => return Err(Bad::UnknownWord),
     })
 }
@@ -193,12 +193,13 @@ fn card(words: &[&[u8]]) -> Result<Card, Bad> {
         eid: bytes_of(words[0])?.try_into().map_err(|_| Bad::Hex)?,
         capacity: number_of(words[1], u32::MAX)?,
         volatile: number_of(words[2], u32::MAX)?,
-        last: two_bytes(words[3]).ok_or(Bad::Number)?,
-        fall_back: byte_of(words[4])?,
-        phase: phase(words[5]).ok_or(Bad::Phase)?,
+        free: number_of(words[3], u32::MAX)?,
+        last: two_bytes(words[4]).ok_or(Bad::Number)?,
+        fall_back: byte_of(words[5])?,
+        phase: phase(words[6]).ok_or(Bad::Phase)?,
         places: [Place::ZERO; PLACES],
     };
-    for (index, word) in words[6..].iter().enumerate() {
+    for (index, word) in words[7..].iter().enumerate() {
         card.places[index] = place(word).ok_or(Bad::Place)?;
     }
     Ok(card)

@@ -133,7 +133,7 @@ fn marked_examples_7_to_12() {
     assert_eq!(play(&[&disabled, &ticks(30)]), "9000 - - 0");
     assert_eq!(play(&[&disabled, &ticks(30), &[STATUS]]), format!("{enabled_f}0"));
 
-    let worn = card_line(EID, "1000 0 65535 0", "Q", &["A000000001:3F:100:0:0:1", "A000000002:1F:50:5:0:0"]);
+    let worn = card_line(EID, "1000 0 850 65535 0", "Q", &["A000000001:3F:100:0:0:1", "A000000002:1F:50:5:0:0"]);
     assert_eq!(last(&[&worn, ENABLE_02]), "9000 - 02:0000:A000000002 20");
 
     assert_eq!(play(&[&["lost"]]), "9000 - - 0");
@@ -165,7 +165,7 @@ ticks to come 20";
     lines.push("command 0 80F240020B4F05A0000000025C029F70");
     assert_eq!(explained(&lines).lines().nth(1).unwrap(), "response E30B4F05A0000000029F70013F");
     let places = ["-", "-:3F:1:1:1:1", "A0:AB:4294967295:12345678:255:255", "A1:07:0:0:3:1"];
-    let strange = card_line(EID, "0 0 9 3", "F:255:65535", &places);
+    let strange = card_line(EID, "0 0 0 9 3", "F:255:65535", &places);
     assert_eq!(
         explained(&[&strange]),
         "6F 00 the card is not sound
@@ -203,8 +203,8 @@ fn bad_lines() {
     assert_eq!(bad("  stored   -  0004294967295  "), Ok(()));
     assert_eq!(bad("command 256 -"), Err(Bad::Number));
     assert_eq!(bad("command 255 - 1025"), Err(Bad::Number));
-    assert_eq!(bad(&card_line("00", "0 0 0 0", "Q", &["-"])), Err(Bad::Hex));
-    let card = |phase: &str, place: &str| bad(&card_line(EID, "0 0 0 0", phase, &[place]));
+    assert_eq!(bad(&card_line("00", "0 0 0 0 0", "Q", &["-"])), Err(Bad::Hex));
+    let card = |phase: &str, place: &str| bad(&card_line(EID, "0 0 0 0 0", phase, &[place]));
     assert_eq!(card("Q", "-"), Ok(()));
     assert_eq!(card("T:0:0", "x"), Err(Bad::Phase));
     assert_eq!(card("B:256:0", "-"), Err(Bad::Phase));
@@ -278,7 +278,7 @@ fn readings_name_the_request() {
     assert_eq!(read("-"), "6700\n");
 }
 
-/// Four DISABLED profiles with these marks.
+/// Four DISABLED profiles with these marks, each with a tenth of the capacity.
 fn four_profiles(marks: [u8; 4]) -> Card {
     let mut card = Card::fresh(&[7; 16], &[1; 5], 100, 10, 1, 9).unwrap();
     card.places[0].life_cycle = DISABLED;
@@ -286,6 +286,7 @@ fn four_profiles(marks: [u8; 4]) -> Card {
         let (aid, policy) = (Aid::of(&[number; 6]), number);
         card.places[usize::from(number) - 1] = Place { aid, policy, ..card.places[0] };
     }
+    card.free = 60;
     for (place, mark) in card.places.iter_mut().zip(marks) {
         place.mark = mark;
     }
@@ -400,7 +401,7 @@ fn unsound_cards() {
     broken(&|card| card.places[3].life_cycle = ENABLED);
     broken(&|card| card.places[3].used = 11);
     broken(&|card| card.places[3].quota = 0);
-    broken(&|card| card.places[3].quota = 71);
+    broken(&|card| (card.places[3].quota, card.free) = (71, 0));
     broken(&|card| card.places[3].aid = card.places[2].aid);
     broken(&|card| card.places[5].used = 1);
     broken(&|card| card.places[5].mark = 1);

@@ -1,7 +1,8 @@
-//! `generate SEED CALLS [bad | month]`: writes one script of about CALLS calls, the same for the same seed.
-//! It plays each line on the peer's own card as it writes it, so that most calls meet a card on
+//! `generate SEED CALLS [bad | month | free | free bad]`: writes one script of about CALLS calls, the same for the
+//! same words. It plays each line on the peer's own card as it writes it, so that most calls meet a card on
 //! which they matter; with `bad`, the script ends in a line that cannot be read; with `month`, it is
-//! one fresh card and what an event file can hold.
+//! one fresh card and what an event file can hold; with `free`, the free memory is looked at wherever it moves,
+//! and the card is handed in again and again with a free that is not its own.
 
 // The generator needs only part of each module it shares with the peer.
 #![allow(dead_code)]
@@ -74,6 +75,11 @@ fn held_places(card: &Card) -> Vec<usize> {
     (0..PLACES).filter(|index| card.places[*index].is_held()).collect()
 }
 
+/// What the quotas leave of the capacity, 0 where they pass it.
+fn left_free(card: &Card) -> u32 {
+    card.places.iter().fold(card.capacity, |free, place| free.saturating_sub(place.quota))
+}
+
 struct Generator {
     random: Random,
     model: Script,
@@ -84,6 +90,9 @@ struct Generator {
     calls: usize,
     /// The script is to be an event file: no command says how long its buffer is.
     is_month: bool,
+    /// The script is about the free memory. The others draw no random number for it: they are what they were
+    /// before a card kept its free, and so are their stored answers.
+    is_free: bool,
 }
 
 impl Generator {
@@ -219,7 +228,7 @@ impl Generator {
     /// bytes or a mark, a previous that is the fall-back, eight places full, numbers about to wrap.
     fn sound_card(&mut self) -> Card {
         let capacity = self.random.pick(&[100, 1000, 1_048_576]);
-        let mut card = Card { capacity, volatile: self.random.next() as u32, ..Card::ZEROS };
+        let mut card = Card { capacity, volatile: self.random.next() as u32, free: capacity, ..Card::ZEROS };
         for byte in &mut card.eid {
             *byte = self.random.byte();
         }
@@ -250,7 +259,7 @@ impl Generator {
             let name = names.swap_remove(self.random.below(names.len()));
             let quota = self.random.number(1, card.capacity / PLACES as u32);
             let most = self.random.pick(&[0, 3.min(quota), quota]);
-            card.places[index] = Place {
+            let profile = Place {
                 aid: Aid::of(&name),
                 life_cycle: self.random.pick(&[SELECTABLE, PERSONALIZED, DISABLED, DISABLED, DISABLED]),
                 quota,
@@ -258,9 +267,10 @@ impl Generator {
                 policy: self.random.pick(&[0, 0, 0, 1, 2, 3, 4, 4]),
                 mark: self.random.pick(&[0, MARKED]),
             };
+            card.fill(index, profile);
         }
         if card.held() == 0 {
-            card.places[5] = Place { aid: Aid::of(&names[0]), life_cycle: DISABLED, quota: 7, ..Place::ZERO };
+            card.fill(5, Place { aid: Aid::of(&names[0]), life_cycle: DISABLED, quota: 7, ..Place::ZERO });
         }
     }
 
@@ -280,6 +290,7 @@ impl Generator {
         }
     }
 
+    /// Broken in anything but its free, which is right wherever it can be.
     fn broken_card(&mut self) -> Card {
         let mut card = self.sound_card();
         match self.random.below(22) {
@@ -301,6 +312,7 @@ impl Generator {
             11 => card = Card::ZEROS,
             _ => self.break_place(&mut card),
         }
+        card.free = left_free(&card);
         card
     }
 
@@ -324,6 +336,51 @@ impl Generator {
         }
     }
 
+    /// Nothing but free, capacity and quotas is touched. Mostly they no longer add up; at last they do again.
+    fn off_balance(&mut self, card: Card) -> Card {
+        let mut card = card;
+        let any = self.random.next() as u32;
+        let held = held_places(&card);
+        let place = &mut card.places[self.random.pick(&held)];
+        match self.random.below(12) {
+            0 | 1 => card.free = card.free.wrapping_add(1),
+            2 | 3 => card.free = card.free.wrapping_sub(1),
+            4 => card.free = 0,
+            5 => card.free = card.capacity,
+            6 => card.free = u32::MAX,
+            7 => card.free = self.random.pick(&[any, any % CAPACITY_MOST, card.capacity - card.free]),
+            8 => card.capacity = self.random.pick(&[card.capacity + 1, card.capacity - 1]),
+            9 => place.quota += 1,
+            // Over the capacity, and only by what a number of 32 bits does not show.
+            10 => {
+                place.quota = card.capacity;
+                card.free = card.places.iter().fold(card.capacity, |free, place| free.wrapping_sub(place.quota));
+            }
+            _ => {
+                let more = self.random.pick(&[0, 1, card.free]).min(card.free);
+                place.quota += more;
+                card.free -= more;
+            }
+        }
+        card
+    }
+
+    /// The card as it stands with its balance lost, and a call or two that must leave it so; then as it was, and
+    /// the chapter goes on.
+    fn lose_balance(&mut self) {
+        let card = *self.model.card();
+        let off_balance = self.off_balance(card);
+        self.hand_in(&off_balance);
+        for _ in 0..self.random.below(3) {
+            if self.random.chance(40) {
+                self.get_data();
+            } else {
+                self.any_call();
+            }
+        }
+        self.hand_in(&card);
+    }
+
     fn hand_in(&mut self, card: &Card) {
         let phase = match card.phase {
             Phase::Quiet => "Q".to_owned(),
@@ -332,10 +389,11 @@ impl Generator {
             Phase::Fallen { left, number } => format!("F:{left}:{number}"),
         };
         let mut line = format!(
-            "card {} {} {} {} {} {phase}",
+            "card {} {} {} {} {} {} {phase}",
             hex_word(&card.eid),
             card.capacity,
             card.volatile,
+            card.free,
             card.last,
             card.fall_back
         );
@@ -434,11 +492,14 @@ impl Generator {
             7 => format!(" {odd}"),
             _ => String::new(),
         };
-        let before = self.model.card().places;
+        let before = *self.model.card();
         self.put(format!("command {verdict} {word}{length}"));
-        let mut places = before.iter().zip(&self.model.card().places);
+        let mut places = before.places.iter().zip(&self.model.card().places);
         let deleted = places.find(|(before, after)| before.is_held() && !after.is_held());
         self.gone = deleted.map(|(before, _)| before.aid).or(self.gone);
+        if self.is_free && self.model.card().free != before.free {
+            self.get_data();
+        }
     }
 
     fn verdict(&mut self) -> u8 {
@@ -464,11 +525,13 @@ impl Generator {
     fn create(&mut self) {
         let card = *self.model.card();
         let aid = self.aid_to_create();
-        let free = if card.is_sound() { card.free() } else { 0 };
+        let free = if card.is_sound() { card.free } else { 0 };
         let small = self.random.number(1, (card.capacity / 10).min(free / 2) + 1);
         let choices =
             [small, small, small, small, small, small, small, small, small, free, free.wrapping_add(1), card.capacity];
-        let quota = if self.random.chance(4) {
+        let quota = if self.is_free && self.random.chance(25) {
+            self.random.pick(&[free, free, free.wrapping_sub(1), free.wrapping_add(1)])
+        } else if self.random.chance(4) {
             let any = self.random.next() as u32;
             self.random.pick(&[0, card.capacity.wrapping_add(1), any])
         } else {
@@ -654,7 +717,7 @@ impl Generator {
     /// On a full card mostly a delete, so that the places come and go.
     fn create_if_room(&mut self) {
         let card = *self.model.card();
-        let room = card.is_sound() && card.lowest_free_place().is_some() && card.free() > 0;
+        let room = card.is_sound() && card.lowest_free_place().is_some() && card.free > 0;
         if room || self.random.chance(15) {
             self.create();
         } else if card.is_open() {
@@ -752,7 +815,7 @@ impl Generator {
     /// Where hardly any command can be accepted, a chapter is not worth its full length.
     fn is_stuck(&self) -> bool {
         let card = self.model.card();
-        let alone = card.held() == 1 && card.free() == 0;
+        let alone = card.held() == 1 && card.free == 0;
         let bound = card.places[card.enabled()].policy & DISABLING_FORBIDDEN != 0 && card.is_fall_back(card.enabled());
         !card.is_open() && (alone || bound)
     }
@@ -770,6 +833,9 @@ impl Generator {
         let end = most.min(self.calls + length as usize);
         while self.calls < end && !(self.is_stuck() && self.random.chance(20)) {
             self.call();
+            if self.is_free && self.random.chance(8) {
+                self.lose_balance();
+            }
         }
         for _ in 0..self.random.below(4) {
             self.unsound();
@@ -809,7 +875,8 @@ impl Generator {
         match self.random.below(60) {
             0 => "x".repeat(4097),
             1 => format!("#{}", " ".repeat(4096)),
-            2..=14 => format!("card EID 1000 0 0 0 Q {} REST", self.random.pick(&BAD_PLACES)),
+            _ if self.is_free => self.random.pick(&BAD_FREES).to_owned(),
+            2..=14 => format!("card EID 1000 0 1000 0 0 Q {} REST", self.random.pick(&BAD_PLACES)),
             15..=28 => self.random.pick(&BAD_CARDS).to_owned(),
             _ => self.random.pick(&BAD_CALLS).to_owned(),
         }
@@ -868,20 +935,39 @@ const BAD_CALLS: [&str; 42] = [
 ];
 
 const BAD_CARDS: [&str; 14] = [
-    "card EID 1000 0 0 0 Q REST",
-    "card EID 1000 0 0 0 Q NONE -",
-    "card EID00 1000 0 0 0 Q NONE",
-    "card - 1000 0 0 0 Q NONE",
-    "card EID 1000 0 65536 0 Q NONE",
-    "card EID 1000 0 0 256 Q NONE",
-    "card EID 1000 0 0 0 q NONE",
-    "card EID 1000 0 0 0 Q: NONE",
-    "card EID 1000 0 0 0 T:0:1 NONE",
-    "card EID 1000 0 0 0 T:256:1:0 NONE",
-    "card EID 1000 0 0 0 B:1:65536 NONE",
-    "card EID 1000 0 0 0 B::0 NONE",
-    "card EID 1000 0 0 0 F:1:0:0 NONE",
-    "card EID 1000 0 0 0 X x REST",
+    "card EID 1000 0 1000 0 0 Q REST",
+    "card EID 1000 0 1000 0 0 Q NONE -",
+    "card EID00 1000 0 1000 0 0 Q NONE",
+    "card - 1000 0 1000 0 0 Q NONE",
+    "card EID 1000 0 1000 65536 0 Q NONE",
+    "card EID 1000 0 1000 0 256 Q NONE",
+    "card EID 1000 0 1000 0 0 q NONE",
+    "card EID 1000 0 1000 0 0 Q: NONE",
+    "card EID 1000 0 1000 0 0 T:0:1 NONE",
+    "card EID 1000 0 1000 0 0 T:256:1:0 NONE",
+    "card EID 1000 0 1000 0 0 B:1:65536 NONE",
+    "card EID 1000 0 1000 0 0 B::0 NONE",
+    "card EID 1000 0 1000 0 0 F:1:0:0 NONE",
+    "card EID 1000 0 1000 0 0 X x REST",
+];
+
+const BAD_FREES: [&str; 15] = [
+    // As it was spelled before a card kept its free.
+    "card EID 1000 0 0 0 Q NONE",
+    "card EID 1000 0 1000 0 0 Q REST",
+    "card EID 1000 0 1000 0 0 Q NONE -",
+    "card EID 1000 0 4294967296 0 0 Q NONE",
+    "card EID 1000 0 99999999999999999999999 0 0 Q NONE",
+    "card EID 1000 0 -1 0 0 Q NONE",
+    "card EID 1000 0 +1 0 0 Q NONE",
+    "card EID 1000 0 0x1 0 0 Q NONE",
+    "card EID 1000 0 1.0 0 0 Q NONE",
+    "card EID 1000 0 - 0 0 Q NONE",
+    "card EID 1000 0 x 0 0 q x REST",
+    "card EID00 1000 0 x 0 0 Q NONE",
+    "card EID 1000 4294967296 1000 0 0 Q NONE",
+    "card EID 1000 0 65536 65536 0 Q NONE",
+    "card EID 1000 0 256 256 256 Q NONE",
 ];
 
 const BAD_PLACES: [&str; 13] = [
@@ -901,14 +987,24 @@ const BAD_PLACES: [&str; 13] = [
     "LONG:3F:1:1:0:0",
 ];
 
+fn usage() -> ExitCode {
+    eprintln!("usage: generate SEED CALLS [bad | month | free | free bad]");
+    ExitCode::from(2)
+}
+
 fn main() -> ExitCode {
     let arguments: Vec<String> = std::env::args().skip(1).collect();
     let number = |index: usize| arguments.get(index).and_then(|word| word.parse::<u64>().ok());
-    let (Some(seed), Some(calls)) = (number(0), number(1)) else {
-        eprintln!("usage: generate SEED CALLS [bad | month]");
-        return ExitCode::from(2);
+    let words: Vec<&str> = arguments.iter().skip(2).map(String::as_str).collect();
+    let (is_month, is_free, is_bad) = match words[..] {
+        [] => (false, false, false),
+        ["bad"] => (false, false, true),
+        ["month"] => (true, false, false),
+        ["free"] => (false, true, false),
+        ["free", "bad"] => (false, true, true),
+        _ => return usage(),
     };
-    let mode = arguments.get(2).map_or("", String::as_str);
+    let (Some(seed), Some(calls)) = (number(0), number(1)) else { return usage() };
     let mut generator = Generator {
         random: Random(seed),
         model: Script::new(Options::default()),
@@ -916,14 +1012,15 @@ fn main() -> ExitCode {
         gone: None,
         out: String::new(),
         calls: 0,
-        is_month: mode == "month",
+        is_month,
+        is_free,
     };
-    if generator.is_month {
+    if is_month {
         generator.month(calls as usize);
     } else {
         generator.chapters(calls as usize);
     }
-    if mode == "bad" {
+    if is_bad {
         let line = generator.bad_line();
         generator.out.push_str(&line);
         generator.out.push_str("\ntick\n");
