@@ -1906,6 +1906,569 @@ call("finished A000000002 004 0000000000000000001", done())
 sets(2)
 card(no("6F00"), [place(1, E), place(2, D, mark=255)])
 card(done(), [place(1, E), place(2, D, mark="000")])
+
+# ---------------------------------------------------------------- request 2026-04: free memory kept, not summed
+
+GET_DATA = "80CAFF2100"
+MOST, WRAP = 1_048_576, 1 << 32
+
+
+def right_free(held, free, ticks=0, **more):
+    """A record handed in with a free that is the figure: it is sound, and GET DATA shows it."""
+    card(done(ticks), held, free=free, **more)
+    figures(len(held) - held.count("-"), free, ticks, volatile=7)
+
+
+def wrong_free(held, *frees, **more):
+    """A record handed in with any free that is not: 6F 00, and GET DATA is 6F 00 too."""
+    for free in frees:
+        card(no("6F00"), held, free=free, **more)
+        command(GET_DATA, no("6F00"))
+
+
+def nothing_runs():
+    """Every kind of call is 6F 00, one that would be refused otherwise and one with a short buffer too."""
+    for step in (makes, enables, disables, sets, deletes, master, keyed):
+        step(2, no("6F00"))
+    makes(4, no("6F00"), quota=1)
+    stored(2, 0, no("6F00"))
+    finished(2, 255, no("6F00"), mark=2)
+    confirms(9, no("6F00"))
+    command(status("4F00"), no("6F00"))
+    command(GET_DATA, no("6F00"), buffer=255)
+    command("", no("6F00"), buffer=0)
+    command("80CAFF2101", no("6F00"))
+    call("keyed -", no("6F00"))
+    for report in ("lost", "tick"):
+        call(report, no("6F00"))
+
+
+def of_quotas(*quotas, used=0, policy=0):
+    """Profiles of these quotas, 01 ENABLED and the fall-back, the others DISABLED."""
+    return [place(n, E if n == 1 else D, quota=quota, used=used, policy=policy) for n, quota in enumerate(quotas, 1)]
+
+
+def gone_at_confirmation(n, first=1):
+    """Enabled and confirmed, then left for 01 and confirmed; `first` is the number of the first change."""
+    enables(n, done(20, notification=note(2, first, n)))
+    confirms(first)
+    enables(1, done(30, notification=note(2, first + 1, 1)))
+    confirms(first + 1, done(response=f"80074F05{aid(n)}"))
+
+
+def chain(free, *steps):
+    """Creations, with their quotas, and deletions, without; free is counted from these alone, and GET DATA shows it after each."""
+    quotas = {}
+    for n, *quota in steps:
+        if quota:
+            makes(n, quota=quota[0])
+            quotas[n] = quota[0]
+            free -= quota[0]
+        else:
+            deletes(n)
+            free += quotas.pop(n)
+        figures(1 + len(quotas), free)
+
+
+name("B65: a record whose free is the figure is sound, one with any other is not")
+three = [place(1, E, quota=100), place(2, D, quota=50), place(3, S, quota=30)]
+right_free(three, 820)
+# One more and one less; nothing, all and the most; the quotas; the capacity less used bytes; the figure with other high bytes, with its bytes in the
+# other order, and taken from 0 in 32 bits.
+wrong_free(three, 821, 819, 0, 1000, WRAP - 1, 180, 985, 820 + 256, 820 + 65_536, 820 + (1 << 24), 820 + (1 << 31), 0x3403, 0x34030000, WRAP - 180)
+right_free(three, 820)
+
+name("B65: the quota of each place counts, and counts once")
+eight = of_quotas(1, 2, 4, 8, 16, 32, 64, 128)
+for n in range(8):
+    wrong_free(eight, 745 + (1 << n), 745 - (1 << n))
+right_free(eight, 745)
+
+name("B65: a quota counts in each life cycle, whatever is used, the policy and the mark")
+for state in (S, P, D):
+    for used, policy, mark in ((0, 0, 0), (50, 4, 1), (5, 3, 0)):
+        held = [place(1, E, quota=100), place(2, state, quota=50, used=used, policy=policy, mark=mark)]
+        right_free(held, 850)
+        wrong_free(held, 900, 950, 1000)
+held = [place(1, D, quota=100), place(2, E, quota=50)]
+right_free(held, 850)
+wrong_free(held, 900, 950)
+
+name("B65: places that are not held count for nothing, and have no quota")
+held = ["-", place(2, E, quota=100), "-", "-", place(5, D, quota=50), "-", "-", "-"]
+right_free(held, 850, fall_back=1)
+wrong_free(held, 849, 851, 842, fall_back=1)
+for free in (850, 900):
+    wrong_free([place(1, E, quota=100), "-:00:50:0:0:0"], free)
+card(done(), [place(1, E, quota=100), "-:00:0:0:0:0"], free=900)
+figures(1, 900, volatile=7)
+
+name("B65: the figure is 0 on a full card")
+for capacity, quotas in ((1, (1,)), (100, (100,)), (1000, (999, 1)), (1000, (125,) * 8), (MOST, (MOST,)), (MOST, (131_072,) * 8)):
+    right_free(of_quotas(*quotas), 0, capacity=capacity)
+    makes(9, no("6A84"), quota=1)
+    wrong_free(of_quotas(*quotas), 1, capacity, WRAP - 1, capacity=capacity)
+
+name("B65: the largest figure, and the smallest that is not 0")
+right_free(of_quotas(1), MOST - 1, capacity=MOST)
+wrong_free(of_quotas(1), MOST, MOST - 2, 0, 1, capacity=MOST)
+right_free(of_quotas(MOST - 1), 1, capacity=MOST)
+wrong_free(of_quotas(MOST - 1), 0, 2, MOST - 1, capacity=MOST)
+
+name("B65: quotas that together pass the capacity: no free is right, nor what is left of it in 32 bits")
+for capacity, quotas in (
+    (1000, (501, 500)), (1000, (1000, 1000)), (1000, (1000,) * 8), (1000, (125,) * 7 + (126,)), (100, (51, 50)), (1, (1, 1)), (MOST, (MOST, 1)), (MOST, (MOST,) * 8),
+):
+    over = sum(quotas) - capacity
+    wrong_free(of_quotas(*quotas), 0, 1, capacity, over, WRAP - over, WRAP - 1, capacity=capacity)
+
+name("B65: quotas that together pass 32 bits: no free is right, nor the one that a sum of 32 bits would leave")
+for quotas in ((1 << 29,) * 8, (1 << 31,) * 2, (WRAP - 1, 1), (WRAP - 1, 101), (100, WRAP - 1, 1), (100, WRAP - 1000, 1000), (WRAP - 1,) * 8):
+    wrong_free(of_quotas(*quotas), (1000 - sum(quotas)) % WRAP, 0, 1000, WRAP - 1)
+
+name("B65: a free that with the quotas passes 32 bits and comes round to the capacity")
+for quotas, free in (((501, 500), WRAP - 1), ((1000, 1000), WRAP - 1000), ((1000,) * 8, WRAP - 7000), ((WRAP - 1000,), 2000), ((WRAP - 1,), 1001)):
+    assert (sum(quotas) + free) % WRAP == 1000
+    wrong_free(of_quotas(*quotas), free)
+
+name("B65: in Trial, Back and Fallen the figure is the same, and no other is right")
+held = [place(1, D, quota=100), place(2, D, quota=50, policy=4), place(3, E, quota=30)]
+fallen = [place(1, E, quota=100), place(2, D, quota=50, policy=4), place(3, D, quota=30)]
+for records, phase, to_come in ((held, "T:1:5:9", 25), (held, "T:0:5:9", 15), (held, "B:5:9", 15), (fallen, "B:5:9", 5), (fallen, "F:5:9", 5)):
+    right_free(records, 820, to_come, last=9, phase=phase)
+    # 870 is what it will be once 02 is deleted.
+    wrong_free(records, 821, 819, 870, 920, 850, 0, 1000, WRAP - 1, last=9, phase=phase)
+    call("tick", no("6F00"))
+    confirms(9, no("6F00"))
+    confirms(8, no("6F00"))
+
+name("B65: the record of zeros stays not sound, with free 0 and with any other; so does a card of no profiles")
+for free in (0, 1, WRAP - 1):
+    wrong_free([], free, capacity=0, volatile=0, eid="00" * 16)
+    call("tick", no("6F00"))
+for capacity in (1, 1000, MOST):
+    wrong_free([], capacity, 0, capacity=capacity)
+
+name("B65: a capacity that no card has, with the free that its quotas leave")
+wrong_free([place(1, E)], 0, WRAP - 50, capacity=0)
+wrong_free([place(1, E)], MOST + 1 - 50, capacity=MOST + 1)
+wrong_free([place(1, E)], WRAP - 1 - 50, capacity=WRAP - 1)
+right_free([place(1, E)], MOST - 50, capacity=MOST)
+
+name("B65: on a record whose free alone is wrong every call is 6F 00, before 6F 02 and before all else")
+held = [place(1, E, quota=100), place(2, D, quota=50), place(3, P, quota=30)]
+for free in (819, 821, WRAP - 1):
+    card(no("6F00"), held, free=free)
+    nothing_runs()
+card(no("6F00"), held, free=0, last=9, phase="T:1:5:9")
+nothing_runs()
+card(no("6F00"), [place(1, E, quota=100), place(2, S, quota=50)], free=900)
+nothing_runs()
+right_free(held, 820)
+makes(4, quota=820)
+figures(4, 0, volatile=7)
+
+name("B65: a wrong free beside another fault")
+for free in (849, 850, 851):
+    card(no("6F00"), [place(1, E, quota=100, mark=0), place(2, D, quota=50)], free=free)
+    card(no("6F00"), [place(1, E, quota=100), place(2, E, quota=50)], free=free)
+    card(no("6F00"), [place(1, E, quota=100), place(2, D, quota=50)], free=free, fall_back=2)
+    card(no("6F00"), [place(1, E, quota=100), place(2, D, quota=50)], free=free, last=9, phase="B:5:8")
+
+name("B66: free and the volatile figure are two numbers, each in its own tag")
+held = [place(1, E, quota=100), place(2, D, quota=50)]
+for volatile in (0, 850, 849, WRAP - 1):
+    card(done(), held, free=850, volatile=volatile)
+    figures(2, 850, volatile=volatile)
+for volatile in (849, 850):
+    card(no("6F00"), held, free=volatile - 849, volatile=volatile)
+card(no("6F00"), held, free=7, volatile=850)
+# Nor are it and the numbers beside it read in each other's place.
+card(done(), held, free=850, last=1)
+enables(2, done(20, notification=note(2, 2, 2)))
+card(no("6F00"), held, free=1, last=850)
+
+name("B66: GET DATA after fresh: capacity less quota, whatever is used; and the fresh before it is forgotten")
+for capacity, quota, free in ((1000, 100, 900), (1, 1, 0), (2, 1, 1), (65_536, 1, 65_535), (65_537, 1, 65_536), (MOST, 1, MOST - 1), (MOST, MOST, 0)):
+    for used in (0, quota):
+        fresh(capacity=capacity, quota=quota, used=used)
+        figures(1, free)
+makes(2, no("6A84"), quota=1)
+makes(2, no("6A84"), quota=MOST)
+fresh()
+makes(2, quota=900)
+figures(2, 0)
+fresh()
+figures(1, 900)
+fresh(quota=1001, answer=no("6A80"))
+command(GET_DATA, no("6F00"))
+makes(2, no("6F00"), quota=1)
+
+name("B66: GET DATA after a creation, and after another; the quota in two bytes and in four")
+fresh()
+makes(2, quota=300)
+figures(2, 600)
+makes(3, quota=1)
+figures(3, 599)
+command(create(aid=aid(4), params=C9 + ef(99, 4)), done(response="00"))
+figures(4, 500)
+makes(5, quota=500)
+figures(5, 0)
+
+name("B66: a creation that is refused takes nothing, whatever refuses it")
+fresh()
+profile(2, quota=300)
+figures(2, 600)
+for quota, word in ((601, "6A84"), (1000, "6A84"), (1001, "6A80"), (0, "6A80")):
+    makes(3, no(word), quota=quota)
+    figures(2, 600)
+for n in (1, 2):
+    makes(n, no("6A80"), quota=1)
+command(create(aid=aid(3)), no("6F02"), buffer=255)
+command(create(aid=aid(3)) + "01", no("6700"))
+command(create(aid=aid(3), params=ef(50)), no("6A80"))
+figures(2, 600)
+enables(2, done(20, notification=note(2, 1, 2)))
+makes(3, no("6985", 20), quota=1)
+makes(3, no("6985", 20), quota=601)
+figures(2, 600, ticks=20)
+
+name("B66: no place is left: the creation takes nothing, with room and without")
+fresh()
+for n in range(2, 9):
+    makes(n, quota=n)
+    figures(n, 900 - sum(range(2, n + 1)))
+for quota in (1, 865, 866, 1000):
+    makes(9, no("6A84"), quota=quota)
+    figures(8, 865)
+deletes(5)
+figures(7, 870)
+makes(9, no("6A84"), quota=871)
+makes(9, quota=870)
+figures(8, 0)
+
+name("B66: delete gives the quota back: DISABLED, SELECTABLE, PERSONALIZED, and whatever was stored")
+for calls, used in ((1, 0), (2, 0), (3, 1), (3, 300), (4, 1), (4, 300)):
+    fresh()
+    makes(2, quota=7)
+    if calls == 4:
+        profile(3, quota=300, used=used)
+    else:
+        broken(3, calls, quota=300, used=used)
+    figures(3, 593)
+    deletes(3)
+    figures(2, 893)
+    deletes(3, no("6A88"))
+    figures(2, 893)
+
+name("B66: a delete that is refused gives nothing back, whatever refuses it")
+fresh()
+profile(2, 2, quota=300)
+profile(3, quota=40)
+figures(3, 560)
+sets(3)
+for n, word in ((1, "6985"), (2, "69E1"), (3, "6985"), (9, "6A88")):
+    deletes(n, no(word))
+    figures(3, 560)
+command(delete(four_f()), no("6F02"), buffer=255)
+command(delete(four_f()) + "01", no("6700"))
+command(delete(four_f() + four_f()), no("6A80"))
+enables(3, done(30, notification=note(2, 1, 3)))
+for n in (1, 2, 3, 9):
+    deletes(n, no("6985", 30))
+figures(3, 560, ticks=30)
+
+name("B66: master delete gives the quota back; refused, by the verdict too, it gives nothing")
+fresh()
+profile(2, 2, quota=300)
+loaded(3, quota=40)
+figures(3, 560)
+for verdict in (0, 2, 255):
+    master(2, no("6982"), verdict)
+    figures(3, 560)
+for n, word in ((1, "6985"), (3, "6985"), (9, "6A88")):
+    master(n, no(word))
+    figures(3, 560)
+master(2)
+figures(2, 860)
+master(2, no("6A88"))
+finished(3, 4)
+figures(2, 860)
+master(3)
+figures(1, 900)
+
+name("B66: the deletion at confirmation gives the quota of the previous profile back, and only the confirmation does")
+fresh()
+profile(2, 4, quota=300)
+figures(2, 600)
+enables(2, done(20, notification=note(2, 1, 2)))
+figures(2, 600, ticks=20)
+confirms(1)
+figures(2, 600)
+enables(1, done(30, notification=note(2, 2, 1)))
+figures(2, 600, ticks=30)
+for number in (0, 1, 3):
+    confirms(number, no("6A88", 30))
+call("tick", done(29))
+figures(2, 600, ticks=29)
+confirms(2, done(response="80074F05A000000002"))
+figures(1, 900)
+confirms(2, no("6985"))
+figures(1, 900)
+makes(3, no("6A84"), quota=901)
+makes(3, quota=900)
+figures(2, 0)
+
+name("B66: of two with that policy the one that was left is deleted, and its quota is free, not the other's")
+fresh()
+profile(2, 4, quota=300)
+profile(3, 4, quota=40)
+enables(2, done(20, notification=note(2, 1, 2)))
+confirms(1)
+enables(3, done(30, notification=note(2, 2, 3)))
+figures(3, 560, ticks=30)
+confirms(2, done(response="80074F05A000000002"))
+figures(2, 860)
+disables(3, done(30, notification=note(2, 3, 1)))
+figures(2, 860, ticks=30)
+confirms(3, done(response="80074F05A000000003"))
+figures(1, 900)
+
+name("B66: a confirmation that deletes nothing gives nothing back: by policy, by the fall-back, in Back and in Fallen")
+for policy in range(4):
+    right_free([place(1, D), place(2, D, quota=300, policy=policy), place(3, E, policy=4)], 600, 25, last=9, phase="T:1:5:9")
+    confirms(9)
+    figures(3, 600, volatile=7)
+held = [place(1, D), place(2, D, quota=300, policy=4), place(3, E, policy=4)]
+right_free(held, 600, 15, last=9, phase="T:1:5:9", fall_back=1)
+confirms(9)
+figures(3, 600, volatile=7)
+right_free(held, 600, 15, last=9, phase="B:5:9")
+confirms(9)
+figures(3, 600, volatile=7)
+right_free([place(1, E, policy=4), place(2, D, quota=300, policy=4), place(3, D, policy=4)], 600, 5, last=9, phase="F:5:9")
+confirms(9)
+figures(3, 600, volatile=7)
+
+name("B66: keyed, stored and finished leave it, refused or not, in a change too")
+fresh()
+profile(2)
+makes(3, quota=300)
+figures(3, 550)
+keyed(3)
+figures(3, 550)
+for more, answer in ((0, None), (100, None), (200, None), (1, no("6A84")), (WRAP - 1, no("6A84"))):
+    stored(3, more, answer)
+    figures(3, 550)
+finished(3, 5, no("6A80"))
+finished(3, 4)
+figures(3, 550)
+keyed(3, no("6985"))
+stored(3, 1, no("6985"))
+makes(4, quota=20)
+figures(4, 530)
+enables(2, done(20, notification=note(2, 1, 2)))
+keyed(4, done(20))
+stored(4, 20, done(20))
+finished(4, 2, done(20))
+figures(4, 530, ticks=20)
+confirms(1)
+figures(4, 530)
+
+name("B66: enable, disable, set fall-back, lost and every tick leave it, with profiles that would be deleted once disabled")
+fresh()
+profile(2, 4, quota=300)
+profile(3, 4, quota=200)
+figures(3, 400)
+sets(2)
+figures(3, 400)
+sets(1)
+enables(2, done(20, notification=note(2, 1, 2)))
+figures(3, 400, ticks=20)
+ticks([*count(19, 11), (10, note(3, 2, 1))])
+figures(3, 400, ticks=10)
+ticks(count(9, 0))
+figures(3, 400)
+enables(2, done(20, notification=note(2, 3, 2)))
+confirms(3)
+disables(2, done(30, notification=note(2, 4, 1)))
+for left in count(29, 0):
+    ticks([{20: (20, note(3, 5, 2)), 10: (10, note(5, 6, 1))}.get(left, left)])
+    figures(3, 400, ticks=left)
+enables(3, done(20, notification=note(2, 7, 3)))
+confirms(7)
+call("lost", done(10, notification=note(5, 8, 1)))
+figures(3, 400, ticks=10)
+call("lost", done(10))
+confirms(8)
+figures(3, 400)
+enables(1, no("6985"))
+disables(1, no("6985"))
+sets(9, no("6A88"))
+figures(3, 400)
+
+name("B66: what a deletion gives back a creation takes to the last byte, and not one byte more")
+for goes in (deletes, master, gone_at_confirmation):
+    for quota in (1, 300, 899):
+        fresh()
+        profile(2, 4, quota=quota, used=1)
+        makes(3, quota=900 - quota)
+        figures(3, 0)
+        makes(4, no("6A84"), quota=1)
+        goes(2)
+        figures(2, quota)
+        makes(4, no("6A84"), quota=quota + 1)
+        makes(4, quota=quota)
+        figures(3, 0)
+        makes(5, no("6A84"), quota=1)
+for calls in (1, 2, 3):
+    fresh()
+    broken(2, calls, quota=300)
+    makes(3, quota=600)
+    deletes(2)
+    makes(4, no("6A84"), quota=301)
+    makes(4, quota=300)
+    figures(3, 0)
+
+name("B66: all of it taken, one byte refused, given back, taken again; with two bytes in all, and with one")
+fresh()
+for n in (2, 3, 4):
+    makes(n, quota=900)
+    figures(2, 0)
+    makes(9, no("6A84"), quota=1)
+    deletes(n)
+    figures(1, 900)
+fresh(capacity=2, quota=1)
+for n in (2, 3, 4):
+    makes(n, no("6A84"), quota=2)
+    makes(n, quota=1)
+    figures(2, 0)
+    makes(9, no("6A84"), quota=1)
+    deletes(n)
+    figures(1, 1)
+fresh(capacity=1, quota=1)
+makes(2, no("6A84"), quota=1)
+makes(2, no("6A80"), quota=2)
+figures(1, 0)
+
+name("B66: eight quotas that all differ: each deletion gives back its own, in any order, down to one profile")
+right_free(eight, 745)
+free = 745
+for gone_so_far, n in enumerate((5, 2, 8, 3, 7, 4, 6), 1):
+    (deletes if n % 2 else master)(n)
+    free += 1 << n - 1
+    figures(8 - gone_so_far, free, volatile=7)
+makes(2, no("6A84"), quota=1000)
+makes(2, quota=999)
+figures(2, 0, volatile=7)
+
+name("B66: the previous profile in each place, deleted at the confirmation")
+once = of_quotas(1, 2, 4, 8, 16, 32, 64, 128, policy=4)
+for n in range(2, 9):
+    right_free(once, 745, 25, last=9, phase=f"T:{n - 1}:5:9")
+    confirms(9, done(response=f"80074F05{aid(n)}"))
+    figures(7, 745 + (1 << n - 1), volatile=7)
+    makes(9, no("6A84"), quota=746 + (1 << n - 1))
+    makes(9, quota=745 + (1 << n - 1))
+    figures(8, 0, volatile=7)
+
+name("B66: the same AID created again with another quota gives back its own")
+fresh()
+for quota in (1, 900, 30, 899, 2):
+    makes(2, quota=quota)
+    figures(2, 900 - quota)
+    deletes(2)
+    figures(1, 900)
+
+name("B66: a chain of creations and deletions, of one byte and of all that is free, ends where it began")
+fresh(capacity=MOST, quota=1)
+figures(1, MOST - 1)
+chain(
+    MOST - 1,
+    (2, 1), (3, MOST - 2), (2,), (4, 1), (3,), (5, 65_536), (6, 1), (2, MOST - 65_539), (4,), (3, 1), (6,), (5,), (5, 1), (7, 65_536), (2,),
+    (3,), (2, MOST - 65_538), (5,), (7,), (2,), (8, MOST - 1), (8,), (8, 1), (7, 255), (6, 256), (5, 257), (4, 65_535), (3, 65_537), (2, 2), (4,), (4, 16),
+    (8,), (2,), (6,), (3,), (5,), (7,), (4,),
+)
+makes(2, no("6A84"), quota=MOST)
+makes(2, quota=MOST - 1)
+figures(2, 0)
+deletes(2)
+figures(1, MOST - 1)
+
+name("B66: all three deletions again and again: nothing is lost and nothing is won")
+fresh()
+for turn in range(6):
+    profile(2, 4, quota=300, used=1 + turn)
+    profile(3, 2, quota=77)
+    makes(4, quota=523)
+    figures(4, 0)
+    gone_at_confirmation(2, 1 + 2 * turn)
+    figures(3, 300)
+    master(3)
+    figures(2, 377)
+    deletes(4)
+    figures(1, 900)
+
+name("B66: a change handed in open, GET DATA before the confirmation that deletes and after it, and what was given back is taken")
+held = [place(1, D, quota=100), place(2, D, quota=250, policy=4), place(3, E, quota=30), place(4, S, quota=20, used=0)]
+right_free(held, 600, 30, last=65535, phase="T:1:10:65535")
+makes(5, no("6985", 30), quota=1)
+deletes(2, no("6985", 30))
+keyed(4, done(30))
+stored(4, 20, done(30))
+finished(4, 4, done(30))
+figures(4, 600, ticks=30, volatile=7)
+ticks(count(29, 21))
+figures(4, 600, ticks=21, volatile=7)
+confirms(65535, done(response="80074F05A000000002"))
+figures(3, 850, volatile=7)
+makes(2, no("6A84"), quota=851)
+makes(2, quota=850)
+figures(4, 0, volatile=7)
+enables(4, done(30, notification=note(2, 0, 4)))
+confirms(0)
+figures(4, 0, volatile=7)
+enables(1, done(30, notification=note(2, 1, 1)))
+confirms(1, done(response="80074F05A000000004"))
+figures(3, 20, volatile=7)
+deletes(2)
+figures(2, 870, volatile=7)
+deletes(3)
+figures(1, 900, volatile=7)
+
+name("B66: the same change rolled back: nothing is deleted, by the tick or by the confirmation in Back, until it is asked for")
+right_free(held, 600, 30, last=65535, phase="T:1:10:65535")
+ticks([*count(29, 21), (20, note(3, 0, 2))])
+figures(4, 600, ticks=20, volatile=7)
+confirms(0)
+figures(4, 600, volatile=7)
+enables(3, done(30, notification=note(2, 1, 3)))
+confirms(1, done(response="80074F05A000000002"))
+figures(3, 850, volatile=7)
+
+name("B66: on a full card handed in: no room and no place; a place and its room come back together")
+full = of_quotas(300, *[100] * 7)
+right_free(full, 0)
+for quota in (1, 100, 1000):
+    makes(9, no("6A84"), quota=quota)
+for n in (2, 8, 5):
+    deletes(n)
+    figures(7, 100, volatile=7)
+    makes(9, no("6A84"), quota=101)
+    makes(n, quota=100)
+    figures(8, 0, volatile=7)
+right_free(of_quotas(300, 700), 0)
+makes(9, no("6A84"), quota=1)
+right_free(of_quotas(*[100] * 8), 200)
+makes(9, no("6A84"), quota=1)
+
+name("B68: FREE as a number may be written, and the record is whole with it")
+card(done(), three, free="000000000000820", volatile=VOLATILE)
+figures(3, 820)
+call("  " + card_line(three, free="0820").replace(" ", "   ") + " ", done())
+figures(3, 820, volatile=7)
+card(no("6F00"), three, free="4294967295")
+card(no("6F00"), three, free="0")
 store_away("scenarios")
 
 # ---------------------------------------------------------------- the mark, and what a deletion leaves, in the explained form
@@ -2018,6 +2581,28 @@ changing("tick", DONE, "ENABLED", "DISABLED", CREATED, more=["notification 10: r
 changing(DELETES[0], WRONG_STATE, "ENABLED", "DISABLED", CREATED, **BACK)
 changing(f"command 0 {store('3A08', '4E02000A')}", DONE, "ENABLED", "DISABLED", CREATED)
 changing(DELETES[0], DONE, "ENABLED", "DISABLED", more=TAKEN)
+
+name("B66: the explained form shows no free: with another one a record differs in its word alone; GET DATA's response has it")
+READS = f"command 0 {GET_DATA}"
+TRIAL = {"phase": "trial: previous at place 1, ticks left 5, number 9"}
+ONE = (0, aid(1), "DISABLED", 100, 5, "yes", "yes", "none")
+TWO = (1, B, "DISABLED", 50, 5, "", "yes", "deleted once disabled")
+THREE = (2, aid(3), "ENABLED", 30, 5, "", "yes", "none")
+records = [place(1, D, quota=100), place(2, D, policy=4), place(3, E, quota=30)]
+for free in (819, 821, 870, WRAP - 1):
+    explained(card_line(records, last=9, phase="T:1:5:9", free=free), UNSOUND, ONE, TWO, THREE, **TRIAL)
+    explained(READS, UNSOUND, ONE, TWO, THREE, **TRIAL)
+explained("tick", UNSOUND, ONE, TWO, THREE, **TRIAL)
+explained(card_line(records, last=9, phase="T:1:5:9", free=820), DONE, ONE, TWO, THREE, ticks=25, **TRIAL)
+explained(READS, DONE, ONE, TWO, THREE, more=["response FF210F810103820400000334830400000007"], ticks=25, **TRIAL)
+explained(f"command 0 {store('3A08', '4E020009')}", DONE, ONE, THREE, more=["response 80074F05A000000002"])
+explained(READS, DONE, ONE, THREE, more=["response FF210F810102820400000366830400000007"])
+explained(f"command 0 {create(params=C9 + ef(871))}", "6A 84 no free place, or no room in the memory or the quota", ONE, THREE)
+AGAIN = (1, B, "SELECTABLE", 870, 0, "", "", "none")
+explained(f"command 0 {create(params=C9 + ef(870))}", DONE, ONE, AGAIN, THREE, more=TAKEN)
+explained(READS, DONE, ONE, AGAIN, THREE, more=["response FF210F810103820400000000830400000007"])
+explained(DELETES[0], DONE, ONE, THREE, more=TAKEN)
+explained(READS, DONE, ONE, THREE, more=["response FF210F810102820400000366830400000007"])
 store_away("explained", "\n\n", ["explain"])
 
 # ---------------------------------------------------------------- lines that cannot be read
@@ -2035,4 +2620,16 @@ unreadable("a PLACE without an AID has its MARK too", card_line([place(1, E), "-
 unreadable("the last place is read too", card_line([place(1, E), *["-"] * (PLACES - 2), place(2, D, mark=256)]), "bad place")
 unreadable("the PHASE comes before the places", card_line([place(1, E, mark=256)], phase="q"), "bad phase")
 unreadable("a long line comes before its words", f"finished {B} 0 " + "0" * 4096, "too long")
+for free in ("4294967296", "42949672950", "99999999999999999999", "x", "-", "-1", "+1", "0x10", "3E8", "950.0", "950:"):
+    unreadable("a FREE that is no number of four bytes", card_line([place(1, E)], free=free), "bad number")
+OLD_FORM = card_line([place(1, E)], free="").replace("  ", " ")
+unreadable("a card line without FREE is short of a word", OLD_FORM, "words missing")
+unreadable("the number of words comes before what they are", OLD_FORM.replace(EID, "x"), "words missing")
+unreadable("a card line with a word after its places", card_line([place(1, E)]) + " -", "too many words")
+unreadable("a card line with FREE twice", card_line([place(1, E)], free="950 950"), "too many words")
+unreadable("the EID comes before FREE", card_line([place(1, E)], eid=EID + "0", free="x"), "bad hex")
+unreadable("FREE comes before the PHASE", card_line([place(1, E)], phase="q", free="x"), "bad number")
+unreadable("FREE comes before the places", card_line([place(1, E, mark=256)], free="x"), "bad number")
+unreadable("VOLATILE is read too, before FREE", card_line([place(1, E)], volatile="x"), "bad number")
+unreadable("LAST is read too, after FREE", card_line([place(1, E)], last=65536), "bad number")
 store_bad_lines()
