@@ -447,6 +447,26 @@ reported("shares-of-a-two-thousandth", shared(1999, 1), {1: 1999, 2: 1}, 2006)
 reported("shares-under-a-two-thousandth", shared(2000, 1), {1: 2000, 2: 1}, 2007)
 reported("month", (TOP / "examples/month.events").read_bytes(), {1: 15, 2: 25, 3: 10}, 68, no=3)
 
+# ---------------------------------------------------------------- room given back, to the byte
+
+
+def sized(who, quota, policy=0):
+    """A profile of this quota made and loaded: four events."""
+    return makes(who, quota) + keyed(who) + stored(who) + finished(who, policy)
+
+
+# 900 bytes are free. They are taken whole, and after a delete, a deletion at confirmation and a master delete taken whole again; one byte more, or one byte
+# while they are taken, is refused.
+taken = sized(2, 900) + makes(3, 1) + enables(2) + ticks(2) + confirms(1) + enables(1) + confirms(2) + deletes(2)
+again = makes(3, 901) + sized(3, 900, 4) + enables(3) + ticks(3) + confirms(3) + enables(1) + confirms(4)
+kept = makes(4, 901) + sized(4, 900, 2) + enables(4) + ticks(4) + confirms(5) + enables(1) + confirms(6) + master(4, 0) + makes(5, 1) + master(4, 1)
+last = makes(5, 901) + sized(5, 900) + enables(5) + ticks(5)
+reported("room-given-back-by-each-deletion", of(taken + again + kept + last), {1: 0, 2: 2, 3: 3, 4: 4, 5: 5}, 51, no=6)
+# 02 and 03 have all the room; 04 comes into that of 02 once 03 is confirmed.
+full = sized(2, 300, 4) + sized(3, 600) + makes(4, 1) + enables(2) + confirms(1) + enables(3) + ticks(2)
+reported("room-given-back-at-the-confirmation", of(full + confirms(2) + makes(4, 301) + sized(4, 300) + enables(4) + ticks(3)), {1: 0, 2: 0, 3: 2, 4: 3}, 24, no=2)
+reported("room-not-given-back-before-it", of(full + makes(4, 300) + ticks(10) + confirms(3) + makes(4, 300) + ticks(3)), {1: 0, 2: 5, 3: 10}, 30, no=3)
+
 
 def main():
     assert len(dict.fromkeys(name[4:] for name, *_ in months)) == len(months), "a name stands twice"
