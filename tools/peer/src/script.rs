@@ -115,17 +115,6 @@ fn place(word: &[u8]) -> Option<Place> {
     })
 }
 
-enum Call {
-    Fresh { eid: Vec<u8>, aid: Vec<u8>, capacity: u32, quota: u32, used: u32, volatile: u32 },
-    Command { verdict: u8, bytes: Vec<u8>, length: usize },
-    Keyed(Vec<u8>),
-    Stored(Vec<u8>, u32),
-    Finished { aid: Vec<u8>, policy: u8, mark: u8 },
-    Tick,
-    Lost,
-    HandIn(Card),
-}
-
 /// How many words may follow a line's first one, at least and at most.
 fn words_after(first: &[u8]) -> Result<(usize, usize), Bad> {
     Ok(match first {
@@ -151,41 +140,17 @@ fn byte_of(word: &[u8]) -> Result<u8, Bad> {
     byte(word).ok_or(Bad::Number)
 }
 
-/// Fields are read in the order of the words: the first bad one gives the reason.
-fn call(words: &[&[u8]]) -> Result<Call, Bad> {
+/// The words after the first, where there are as many as a line of its kind has.
+fn fields<'a>(words: &'a [&'a [u8]]) -> Result<&'a [&'a [u8]], Bad> {
     let (least, most) = words_after(words[0])?;
-    let rest = &words[1..];
-    if rest.len() < least {
+    let fields = &words[1..];
+    if fields.len() < least {
         return Err(Bad::WordsMissing);
     }
-    if rest.len() > most {
+    if fields.len() > most {
         return Err(Bad::TooManyWords);
     }
-    Ok(match words[0] {
-        b"fresh" => Call::Fresh {
-            eid: bytes_of(rest[0])?,
-            aid: bytes_of(rest[1])?,
-            capacity: number_of(rest[2], u32::MAX)?,
-            quota: number_of(rest[3], u32::MAX)?,
-            used: number_of(rest[4], u32::MAX)?,
-            volatile: number_of(rest[5], u32::MAX)?,
-        },
-        b"command" => Call::Command {
-            verdict: byte_of(rest[0])?,
-            bytes: bytes_of(rest[1])?,
-            length: rest.get(2).map_or(Ok(manager::BUFFER_LEAST as u32), |word| number_of(word, BUFFER_MOST))? as usize,
-        },
-        b"keyed" => Call::Keyed(bytes_of(rest[0])?),
-        b"stored" => Call::Stored(bytes_of(rest[0])?, number_of(rest[1], u32::MAX)?),
-        b"finished" => Call::Finished {
-            aid: bytes_of(rest[0])?,
-            policy: byte_of(rest[1])?,
-            mark: rest.get(2).map_or(Ok(MARKED), |word| byte_of(word))?,
-        },
-        b"tick" => Call::Tick,
-        b"lost" => Call::Lost,
-        _ => Call::HandIn(card(rest)?),
-    })
+    Ok(fields)
 }
 
 fn card(words: &[&[u8]]) -> Result<Card, Bad> {
@@ -229,40 +194,53 @@ impl Script {
         self.kept.card()
     }
 
-    /// Answers one line (given without its line end) by adding to `out`.
+    /// Answers one line (given without its line end) by adding to `out`. Fields are read in the order of the words: the
+    /// first bad one gives the reason.
     pub fn line(&mut self, line: &[u8], out: &mut String) -> Result<(), Bad> {
         let Some(words) = words(line)? else { return Ok(()) };
-        let kept = &mut self.kept;
         if self.options.asks {
-            *kept = Kept::of(*kept.card());
+            self.kept = Kept::of(*self.kept.card());
         }
-        let answer = match call(&words)? {
-            Call::Fresh { eid, aid, capacity, quota, used, volatile } => {
-                let (new, answer) = manager::fresh(&eid, &aid, capacity, quota, used, volatile);
-                *kept = new;
-                answer
+        let fields = fields(&words)?;
+        let kept = &mut self.kept;
+        let answer = match words[0] {
+            b"fresh" => self.fresh(fields)?,
+            b"command" => return self.command(fields, out),
+            b"keyed" => manager::keyed(kept, &bytes_of(fields[0])?),
+            b"stored" => manager::stored(kept, &bytes_of(fields[0])?, number_of(fields[1], u32::MAX)?),
+            b"finished" => {
+                let (aid, policy) = (bytes_of(fields[0])?, byte_of(fields[1])?);
+                manager::finished(kept, &aid, policy, fields.get(2).map_or(Ok(MARKED), |word| byte_of(word))?)
             }
-            Call::Command { verdict, bytes, length } => {
-                let mut buffer = [0u8; BUFFER_MOST as usize];
-                let lent = &mut buffer[..length];
-                lend(lent);
-                let answer = manager::command(kept, verdict, &bytes, lent);
-                assert!(is_as_lent(lent, answer.written), "a byte past the response was written");
-                self.put(out, &answer, &lent[..answer.written]);
-                return Ok(());
-            }
-            Call::Keyed(aid) => manager::keyed(kept, &aid),
-            Call::Stored(aid, n) => manager::stored(kept, &aid, n),
-            Call::Finished { aid, policy, mark } => manager::finished(kept, &aid, policy, mark),
-            Call::Tick => manager::tick(kept),
-            Call::Lost => manager::lost(kept),
-            Call::HandIn(new) => {
-                let (new, answer) = manager::hand_in(new);
-                *kept = new;
-                answer
-            }
+            b"tick" => manager::tick(kept),
+            b"lost" => manager::lost(kept),
+            _ => self.keep(manager::hand_in(card(fields)?)),
         };
         self.put(out, &answer, &[]);
+        Ok(())
+    }
+
+    fn keep(&mut self, (kept, answer): (Kept, Answer)) -> Answer {
+        self.kept = kept;
+        answer
+    }
+
+    fn fresh(&mut self, fields: &[&[u8]]) -> Result<Answer, Bad> {
+        let (eid, aid) = (bytes_of(fields[0])?, bytes_of(fields[1])?);
+        let (capacity, quota) = (number_of(fields[2], u32::MAX)?, number_of(fields[3], u32::MAX)?);
+        let (used, volatile) = (number_of(fields[4], u32::MAX)?, number_of(fields[5], u32::MAX)?);
+        Ok(self.keep(manager::fresh(&eid, &aid, capacity, quota, used, volatile)))
+    }
+
+    fn command(&mut self, fields: &[&[u8]], out: &mut String) -> Result<(), Bad> {
+        let (verdict, bytes) = (byte_of(fields[0])?, bytes_of(fields[1])?);
+        let length = fields.get(2).map_or(Ok(manager::BUFFER_LEAST as u32), |word| number_of(word, BUFFER_MOST))?;
+        let mut buffer = [0u8; BUFFER_MOST as usize];
+        let lent = &mut buffer[..length as usize];
+        lend(lent);
+        let answer = manager::command(&mut self.kept, verdict, &bytes, lent);
+        assert!(is_as_lent(lent, answer.written), "a byte past the response was written");
+        self.put(out, &answer, &lent[..answer.written]);
         Ok(())
     }
 
