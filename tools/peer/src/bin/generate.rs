@@ -522,9 +522,9 @@ impl Generator {
         aid
     }
 
-    fn create(&mut self) {
-        let card = *self.model.card();
-        let aid = self.aid_to_create();
+    /// The quota of a creation as its bytes: mostly one that fits, also all that is free and one byte more, now and then a
+    /// wrong one.
+    fn quota(&mut self, card: &Card) -> Vec<u8> {
         let free = if card.is_sound() { card.free } else { 0 };
         let small = self.random.number(1, (card.capacity / 10).min(free / 2) + 1);
         let choices =
@@ -537,13 +537,19 @@ impl Generator {
         } else {
             self.random.pick(&choices)
         };
-        let quota = if quota <= 0xFF_FFFF && self.random.chance(2) {
+        if quota <= 0xFF_FFFF && self.random.chance(2) {
             quota.to_be_bytes()[1..].to_vec()
         } else if quota <= 0xFFFF && self.random.chance(50) {
             (quota as u16).to_be_bytes().to_vec()
         } else {
             quota.to_be_bytes().to_vec()
-        };
+        }
+    }
+
+    fn create(&mut self) {
+        let card = *self.model.card();
+        let aid = self.aid_to_create();
+        let quota = self.quota(&card);
         let occurrences = self.random.pick(&[1, 1, 1, 1, 1, 1, 1, 1, 1, 1, 1, 1, 1, 1, 2, 2, 3, 3, 33, 33, 0]);
         let mut protocols = [0x81, 2, 3, 0x70].repeat(occurrences);
         if self.random.chance(2) {
