@@ -1943,9 +1943,9 @@ def nothing_runs():
         call(report, no("6F00"))
 
 
-def of_quotas(*quotas, used=0, policy=0):
+def of_quotas(*quotas):
     """Profiles of these quotas, 01 ENABLED and the fall-back, the others DISABLED."""
-    return [place(n, E if n == 1 else D, quota=quota, used=used, policy=policy) for n, quota in enumerate(quotas, 1)]
+    return [place(n, E if n == 1 else D, quota=quota, used=0) for n, quota in enumerate(quotas, 1)]
 
 
 def gone_at_confirmation(n, first=1):
@@ -2363,9 +2363,11 @@ makes(2, quota=999)
 figures(2, 0, volatile=7)
 
 name("B66: the previous profile in each place, deleted at the confirmation")
-once = of_quotas(1, 2, 4, 8, 16, 32, 64, 128, policy=4)
-for n in range(2, 9):
-    right_free(once, 745, 25, last=9, phase=f"T:{n - 1}:5:9")
+for n in range(1, 9):
+    # The next one is ENABLED and the fall-back.
+    other = n % 8 + 1
+    once = [place(m, E if m == other else D, quota=1 << m - 1, used=0, policy=4) for m in range(1, 9)]
+    right_free(once, 745, 25, last=9, phase=f"T:{n - 1}:5:9", fall_back=other - 1)
     confirms(9, done(response=f"80074F05{aid(n)}"))
     figures(7, 745 + (1 << n - 1), volatile=7)
     makes(9, no("6A84"), quota=746 + (1 << n - 1))
