@@ -2147,14 +2147,13 @@ makes(9, no("6A84"), quota=871)
 makes(9, quota=870)
 figures(8, 0)
 
-name("B66: delete gives the quota back: DISABLED, SELECTABLE, PERSONALIZED, and whatever was stored")
-for calls, used in ((1, 0), (2, 0), (3, 1), (3, 300), (4, 1), (4, 300)):
+name("B66: delete gives the quota back: DISABLED, SELECTABLE, PERSONALIZED, and whatever was stored, marked or not")
+for calls, used, mark in ((1, 0, None), (2, 0, None), (3, 1, None), (3, 300, None), (4, 1, 0), (4, 1, 1), (4, 300, 0), (4, 300, 1)):
     fresh()
     makes(2, quota=7)
+    broken(3, calls, quota=300, used=used)
     if calls == 4:
-        profile(3, quota=300, used=used)
-    else:
-        broken(3, calls, quota=300, used=used)
+        finished(3, mark=mark)
     figures(3, 593)
     deletes(3)
     figures(2, 893)
