@@ -119,7 +119,7 @@ pub struct Card {
     pub eid: [u8; EID_LENGTH],
     pub capacity: u32,
     pub volatile: u32,
-    /// What the quotas leave of the capacity, kept so that no call has to add them up. `fill` and `clear` alone write it.
+    /// What the quotas leave of the capacity, kept so that no call has to add them up: `fill` and `clear` keep it true.
     pub free: u32,
     pub last: u16,
     pub fall_back: u8,

@@ -76,7 +76,7 @@ fn held_places(card: &Card) -> Vec<usize> {
 }
 
 /// What the quotas leave of the capacity, 0 where they pass it.
-fn left_free(card: &Card) -> u32 {
+fn free_left(card: &Card) -> u32 {
     card.places.iter().fold(card.capacity, |free, place| free.saturating_sub(place.quota))
 }
 
@@ -312,7 +312,7 @@ impl Generator {
             11 => card = Card::ZEROS,
             _ => self.break_place(&mut card),
         }
-        card.free = left_free(&card);
+        card.free = free_left(&card);
         card
     }
 
@@ -337,8 +337,7 @@ impl Generator {
     }
 
     /// Nothing but free, capacity and quotas is touched. Mostly they no longer add up; at last they do again.
-    fn off_balance(&mut self, card: Card) -> Card {
-        let mut card = card;
+    fn off_balance(&mut self, mut card: Card) -> Card {
         let any = self.random.next() as u32;
         let held = held_places(&card);
         let place = &mut card.places[self.random.pick(&held)];
