@@ -13,11 +13,12 @@ use Rattle.isdp.specs.Aids.{padded}
 use Rattle.isdp.specs.Sizes.{mostPlaces}
 use Rattle.isdp.specs.Profile.{profile}
 use Rattle.isdp.specs.Place.{vacant}
+use Rattle.card.specs.Cards.{cardWith}
 use Rattle.card.specs.declared.Phase.the-variants.{Trial}
 use Rattle.records.specs.Ascii.{ascii}
 use Rattle.records.specs.Arguments.{bytesAt, valueAt}
 use Rattle.records.specs.Colons.{numberField, openFields, trialFields, phaseWord, sizesFields, placeWith, placeWord}
-use Rattle.records.specs.Records.{phaseAt, memoryAt, headAt, placesOn, fine, recordWith, recordAt}
+use Rattle.records.specs.Records.{phaseAt, memoryAt, headAt, placesOn, recordWith, recordAt}
 use Rattle.records.specs.declared.arguments.Reason.the-variants.{BadHex, BadNumber, BadPlace, BadPhase}
 use Rattle.records.specs.declared.Reading.{Reading}
 use Rattle.records.specs.declared.Reading.the-variants as reading
@@ -45,9 +46,13 @@ reads-so = refl
 
 -- the record that a `card` line hands in
 handed-in : recordAt (ascii "card 89001012012341234012345678901224 1000 20 100 7 1 T:0:10:7 A000000001:1F:500:9:1:1 a000000002:3f:00400:0:255:255 - - - - - -") 4
-    ≡ fine (0x89 ∷ 0x00 ∷ 0x10 ∷ 0x12 ∷ 0x01 ∷ 0x23 ∷ 0x41 ∷ 0x23 ∷ 0x40 ∷ 0x12 ∷ 0x34 ∷ 0x56 ∷ 0x78 ∷ 0x90 ∷ 0x12 ∷ 0x24 ∷ []) 1000 20 100 7 1 (Trial 0 10 7)
-    (profile (record { bytes = 0xA0 ∷ 0 ∷ 0 ∷ 0 ∷ 1 ∷ replicate 11 0; len = 5 }) 0x1F 500 9 1 1
-    ∷ profile (record { bytes = 0xA0 ∷ 0 ∷ 0 ∷ 0 ∷ 2 ∷ replicate 11 0; len = 5 }) 0x3F 400 0 255 255
-    ∷ replicate (mostPlaces - 2) vacant)
+    ≡ record {
+      reading = reading.Fine;
+      card =
+          cardWith (0x89 ∷ 0x00 ∷ 0x10 ∷ 0x12 ∷ 0x01 ∷ 0x23 ∷ 0x41 ∷ 0x23 ∷ 0x40 ∷ 0x12 ∷ 0x34 ∷ 0x56 ∷ 0x78 ∷ 0x90 ∷ 0x12 ∷ 0x24 ∷ []) 1000 20 100 7 1 (Trial 0 10 7)
+          (profile (record { bytes = 0xA0 ∷ 0 ∷ 0 ∷ 0 ∷ 1 ∷ replicate 11 0; len = 5 }) 0x1F 500 9 1 1
+          ∷ profile (record { bytes = 0xA0 ∷ 0 ∷ 0 ∷ 0 ∷ 2 ∷ replicate 11 0; len = 5 }) 0x3F 400 0 255 255
+          ∷ replicate (mostPlaces - 2) vacant);
+    }
 unfolding bytesAt valueAt numberField openFields trialFields phaseWord sizesFields placeWith placeWord phaseAt memoryAt headAt placesOn recordWith recordAt pick atMost isBelow isSame before leading sameBytes wordFrom wordAt fieldAt digitsOn decimalOf nibbleOf pairsOf isHex byteOf spelled hexByteOf hexReadOf padded
 handed-in = refl
