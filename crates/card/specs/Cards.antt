@@ -82,7 +82,7 @@ withPlaces c l = withChange c (c .last) (c .phase) l
 abbrev pub withPhase : Card → Phase → Card
 withPhase c p = withChange c (c .last) p (c .places)
 
--- with another place, and so much free
+-- with other places, and so much free
 abbrev pub withRoom : Card → ℕ → List Isdp → Card
 withRoom c free l = inState c free (c .last) (c .fallback) (c .phase) l
 

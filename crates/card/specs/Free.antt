@@ -1,5 +1,5 @@
 -- Request 2026-04: "Keep free as a stored number in the card record. Create, both deletes and the deletion at confirmation keep it true, and a
--- sound card has it equal to capacity less the quotas." Nothing else that a card does moves it.
+-- sound card has it equal to capacity less the quotas." So does everything else that is done to a card.
 use Prim.Native.Nat.{ℕ, _≤_, _<_}
 use mathlib.Core.Path.{_≡_}
 use mathlib.Core.Bool.{true}

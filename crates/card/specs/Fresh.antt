@@ -26,6 +26,7 @@ zeroCard = cardWith (replicate eidSize 0) 0 0 0 0 0 Quiet (replicate mostPlaces 
 abbrev pub freshProfile : List ℕ → ℕ → ℕ → Isdp
 freshProfile aid quota used = withMark (made aid enabled quota used) 1
 
+-- free is what its quota leaves of the capacity
 abbrev pub freshCard : List ℕ → List ℕ → ℕ → ℕ → ℕ → ℕ → Card
 freshCard eid aid capacity quota used volatile =
     cardWith eid capacity volatile (capacity - quota) 0 0 Quiet (freshProfile aid quota used ∷ replicate (mostPlaces - 1) vacant)
