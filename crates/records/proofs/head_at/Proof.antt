@@ -6,42 +6,6 @@ use borrow.Author.Needs.{needs}
 use Rattle.records.proofs.head_at.Statement.{statement}
 use Rattle.records.proofs.head_at.Tie as tie
 
-memory-at-requires : tie.Need-memory-at-requires
-memory-at-requires c κs = search needs
-
-enum-known-why : tie.Need-enum-known-why
-enum-known-why c = search needs
-
-enum-known-capacity : tie.Need-enum-known-capacity
-enum-known-capacity c = search needs
-
-next-value-requires : tie.Need-next-value-requires
-next-value-requires c κs = search needs
-
-enum-known-why-2 : tie.Need-enum-known-why-2
-enum-known-why-2 c = search needs
-
-enum-known-last : tie.Need-enum-known-last
-enum-known-last c = search needs
-
-next-value-requires-2 : tie.Need-next-value-requires-2
-next-value-requires-2 c κs = search needs
-
-enum-known-why-3 : tie.Need-enum-known-why-3
-enum-known-why-3 c = search needs
-
-enum-known-fallback : tie.Need-enum-known-fallback
-enum-known-fallback c = search needs
-
-next-phase-requires : tie.Need-next-phase-requires
-next-phase-requires c κs = search needs
-
-enum-known-why-4 : tie.Need-enum-known-why-4
-enum-known-why-4 c = search needs
-
-enum-known-phase : tie.Need-enum-known-phase
-enum-known-phase c = search needs
-
 cast-t25 : tie.Need-cast-t25
 cast-t25 c =
     let f = c .before .before .before .before .before in
@@ -98,18 +62,18 @@ pub head-at-spec : {M : Type 1} → statement M
 head-at-spec =
     tie.close
     (tie.spec
-    memory-at-requires
-    enum-known-why
-    enum-known-capacity
-    next-value-requires
-    enum-known-why-2
-    enum-known-last
-    next-value-requires-2
-    enum-known-why-3
-    enum-known-fallback
-    next-phase-requires
-    enum-known-why-4
-    enum-known-phase
+    (λ c κs. search needs)
+    (λ c. search needs)
+    (λ c. search needs)
+    (λ c κs. search needs)
+    (λ c. search needs)
+    (λ c. search needs)
+    (λ c κs. search needs)
+    (λ c. search needs)
+    (λ c. search needs)
+    (λ c κs. search needs)
+    (λ c. search needs)
+    (λ c. search needs)
     cast-t25
     cast-t26
     returns

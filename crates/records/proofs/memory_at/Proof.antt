@@ -5,33 +5,6 @@ use borrow.Author.Needs.{needs}
 use Rattle.records.proofs.memory_at.Statement.{statement}
 use Rattle.records.proofs.memory_at.Tie as tie
 
-next-value-requires : tie.Need-next-value-requires
-next-value-requires c κs = search needs
-
-enum-known-why : tie.Need-enum-known-why
-enum-known-why c = search needs
-
-enum-known-capacity : tie.Need-enum-known-capacity
-enum-known-capacity c = search needs
-
-next-value-requires-2 : tie.Need-next-value-requires-2
-next-value-requires-2 c κs = search needs
-
-enum-known-why-2 : tie.Need-enum-known-why-2
-enum-known-why-2 c = search needs
-
-enum-known-volatile : tie.Need-enum-known-volatile
-enum-known-volatile c = search needs
-
-next-value-requires-3 : tie.Need-next-value-requires-3
-next-value-requires-3 c κs = search needs
-
-enum-known-why-3 : tie.Need-enum-known-why-3
-enum-known-why-3 c = search needs
-
-enum-known-free : tie.Need-enum-known-free
-enum-known-free c = search needs
-
 returns : tie.Need-returns
 unfolding memoryAt
 returns c =
@@ -65,15 +38,15 @@ pub memory-at-spec : {M : Type 1} → statement M
 memory-at-spec =
     tie.close
     (tie.spec
-    next-value-requires
-    enum-known-why
-    enum-known-capacity
-    next-value-requires-2
-    enum-known-why-2
-    enum-known-volatile
-    next-value-requires-3
-    enum-known-why-3
-    enum-known-free
+    (λ c κs. search needs)
+    (λ c. search needs)
+    (λ c. search needs)
+    (λ c κs. search needs)
+    (λ c. search needs)
+    (λ c. search needs)
+    (λ c κs. search needs)
+    (λ c. search needs)
+    (λ c. search needs)
     returns
     returns-2
     returns-3
