@@ -1,14 +1,13 @@
 -- On a sound card the number kept is the sum, so the manager that reads it answers as the one that sums; by induction over the calls, since
--- every call keeps a sound card sound. The engines that do not keep it true leave a card that is not sound, by computing. Assumes nothing.
-use mathlib.Core.Path.{_≡_, refl, ap, sym}
+-- every call keeps a sound card sound. The engines that do not keep it true give other figures, by computing. Assumes nothing.
+use mathlib.Core.Path.{_≡_, refl, ap, sym, _∙_}
 use Prim.Native.Nat.{ℕ, _+_, _-_}
 use native.Mathlib.Omega.{arith}
 use mathlib.Core.List.{List, [], _∷_}
 use mathlib.Core.Bool.{Bool, true, false}
 use lib.Dec.{eqb, leb}
 use borrow.Author.Tests.{eq-eqb, ne-eqb, leb-true, leb-false}
-use Rattle.status.specs.StatusWords.{numberOf}
-use Rattle.byte_string.specs.Bytes.{sameBytes}
+use Rattle.byte_string.specs.Bytes.{sameBytes, fourAt}
 use Rattle.status.specs.Rows.{wordOf}
 use Rattle.isdp.specs.Aids.{padded}
 use Rattle.isdp.specs.Place.{isFor, clash, zeros, placeOk}
@@ -17,7 +16,7 @@ use Rattle.card.specs.Sound.{phaseOk, sound}
 use Rattle.card.specs.Clock.{tickOf, lostOf, confirmOf}
 use Rattle.card.specs.Steps.{tickStep, lostStep, confirmStep}
 use Rattle.card.specs.Notifications.{noticeSince}
-use Rattle.card.specs.Ticks.{stepsIn, ticksToCome}
+use Rattle.card.specs.Ticks.{stepsIn, ticksToCome, ticksByPhase}
 use Rattle.card.specs.Answers.{refused, accepted}
 use Rattle.card.specs.Fresh.{freshOutcome}
 use Rattle.choice.specs.Choice.{pick, atMost, isBelow, isSame}
@@ -32,7 +31,7 @@ use Rattle.install.specs.Install.{prefixedOf, prefixedAt, namesAt, rightsAt, in
 use Rattle.command.specs.Framing.{lengthWrong, classRight, classWrong, instructionWrong, parametersRight, parametersWrong, shapeRight, shapeWrong}
 use Rattle.command.specs.Requests.{fieldOf, dataWrong}
 use Rattle.responses.specs.Responses.{statusBody, statusRow, rowOf, rowsFrom, statusResponse, oneStatus, dataResponse, deletedResponse}
-use Rattle.manager.specs.Manager.{step}
+use Rattle.manager.specs.Manager.{step, onSound}
 use Rattle.card.specs.Free.{withFree, summed}
 use Rattle.card.specs.Answers.{Outcome, outcome}
 use Rattle.card.specs.declared.Card.{Card}
@@ -41,8 +40,10 @@ use Rattle.steps.specs.Asked.{Asked.create}
 use Rattle.steps.specs.Steps.{askedWork}
 use Rattle.manager.specs.Calls.{Call}
 use Rattle.manager.proofs.Kept.{step-sound}
+use Rattle.demands.specs.Examples as sample
 use Rattle.demands.specs.Examples.{fresh}
-use Rattle.demands.specs.Summed.{SumsAnew, summing, answersBy, AnswersStay, NotKept}
+use Rattle.demands.specs.Engines.{reached}
+use Rattle.demands.specs.Summed.{SumsAnew, summing, answersBy, AnswersStay, getData, NotKept}
 
 summed-is : (c : Card) → sound c ≡ true → summed c ≡ c
 summed-is c s = ap (withFree c) (sym (sound-card c s .as-summed))
@@ -75,21 +76,23 @@ answers-stay =
       every = λ c calls s. every calls c s;
     }
 
--- the word of the last answer
-unfoldable lastWord : List Outcome → ℕ
-lastWord [] = 0
-lastWord (o ∷ []) = numberOf (o .status)
-lastWord (o ∷ p ∷ rest) = lastWord (p ∷ rest)
+-- the figure of the last answer
+unfoldable lastFigure : List Outcome → ℕ
+lastFigure [] = 0
+lastFigure (o ∷ []) = fourAt (o .response) 8
+lastFigure (o ∷ p ∷ rest) = lastFigure (p ∷ rest)
 
-told : (l m : List Outcome) → lastWord l ≡ 0x6F00 → lastWord m ≡ 0x9000 → l ≡ m → ⊥
-told l m a b e = let w = ap lastWord e in omega arith
+apart : (l m : List Outcome) (a b : ℕ) → lastFigure l ≡ a → lastFigure m ≡ b → (a ≡ b → ⊥) → l ≡ m → ⊥
+apart l m a b e f n q = n (sym e ∙ ap lastFigure q ∙ f)
 
 pub not-kept : NotKept
-unfolding fresh step wordOf sameBytes padded isFor clash zeros placeOk seek quotas allOf anyOf countOf distinct allOff enableAt phaseOk sound tickOf lostOf confirmOf tickStep lostStep confirmStep noticeSince stepsIn ticksToCome refused accepted freshOutcome pick atMost isBelow isSame tagAt lengthAt afterLength afterTag headAt expectOf expectAt aloneAt dgiAt confirmationAt namedBy storeDataAt verificationAt deletionAt noted listedWithin listedAt tagsAt listingAt protocolsWithin protocolsAt numberAt grantOf memoryAt parametersAt prefixedOf prefixedAt namesAt rightsAt installOf lengthWrong classRight classWrong instructionWrong parametersRight parametersWrong shapeRight shapeWrong fieldOf dataWrong statusBody statusRow rowOf rowsFrom statusResponse oneStatus dataResponse deletedResponse listWrong listAt listWithin listOf elementOf restOf closed answersBy lastWord
+unfolding fresh step wordOf sameBytes padded isFor clash zeros placeOk seek quotas allOf anyOf countOf distinct allOff enableAt phaseOk sound tickOf lostOf confirmOf tickStep lostStep confirmStep noticeSince stepsIn ticksToCome refused accepted freshOutcome pick atMost isBelow isSame tagAt lengthAt afterLength afterTag headAt expectOf expectAt aloneAt dgiAt confirmationAt namedBy storeDataAt verificationAt deletionAt noted listedWithin listedAt tagsAt listingAt protocolsWithin protocolsAt numberAt grantOf memoryAt parametersAt prefixedOf prefixedAt namesAt rightsAt installOf lengthWrong classRight classWrong instructionWrong parametersRight parametersWrong shapeRight shapeWrong fieldOf dataWrong statusBody statusRow rowOf rowsFrom statusResponse oneStatus dataResponse deletedResponse listWrong listAt listWithin listOf elementOf restOf closed onSound ticksByPhase reached answersBy lastFigure
 not-kept =
     record {
-      create = told _ _ refl refl;
-      delete = told _ _ refl refl;
-      master-delete = told _ _ refl refl;
-      confirmation = told _ _ refl refl;
+      create = (refl, refl);
+      delete = (refl, refl);
+      master-delete = (refl, refl);
+      confirmation = (refl, refl);
+      taking-nothing = λ f. apart _ _ 900 850 refl refl (λ e. omega arith) (f fresh (sample.create 2 50 ∷ getData ∷ []) refl);
+      giving-nothing-back = λ f. apart _ _ 850 900 refl refl (λ e. omega arith) (f fresh (sample.create 2 50 ∷ sample.delete 2 ∷ getData ∷ []) refl);
     }

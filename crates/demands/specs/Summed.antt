@@ -5,7 +5,7 @@ use mathlib.Core.Path.{_≡_}
 use mathlib.Core.List.{List, [], _∷_, _++_}
 use mathlib.Core.Bool.{true, not, _||_}
 use lib.Dec.{ltb, leb}
-use Rattle.byte_string.specs.Bytes.{fourBytes}
+use Rattle.byte_string.specs.Bytes.{fourAt, fourBytes}
 use Rattle.isdp.specs.Sizes.{mostPlaces}
 use Rattle.isdp.specs.Place.{held}
 use Rattle.places.specs.Places.{quotas, countOf}
@@ -19,10 +19,11 @@ use Rattle.steps.specs.Asked.{Asked.create}
 use Rattle.steps.specs.Conditions.{noRoom}
 use Rattle.steps.specs.Steps.{askedWork}
 use Rattle.manager.specs.Calls.{Call}
-use Rattle.manager.specs.Manager.{step}
+use Rattle.manager.specs.Manager.{step, onSound}
 use Rattle.demands.specs.Examples as sample
 use Rattle.demands.specs.SampleRun.{loading, changing}
 use Rattle.demands.specs.StatusTable.{masterDelete}
+use Rattle.demands.specs.Engines.{reachedBy}
 use Rattle.demands.specs.WrongEngines.{withCard}
 
 -- the manager of a record whose free is summed
@@ -42,29 +43,39 @@ unfoldable pub answersBy : (Card → Call → Outcome) → Card → List Call �
 answersBy answer c [] = []
 answersBy answer c (call ∷ calls) = answer c call ∷ answersBy answer (answer c call .card) calls
 
+-- it answers any calls from any sound card as the manager that sums
+abbrev pub AsSummed : (Card → Call → Outcome) → Type 0
+AsSummed answer = (c : Card) (calls : List Call) → sound c ≡ true → answersBy answer c calls ≡ answersBy summing c calls
+
 -- "All answers stay as they are": of every sound card the response of GET DATA, the answer to a create, and every answer to any calls
 pub record AnswersStay : Type 0 where
   pub get-data : (c : Card) → sound c ≡ true → dataResponse c ≡ dataResponse (summed c)
   pub create : (c : Card) (aid : List ℕ) (quota : ℕ) → sound c ≡ true → outcome c (askedWork c (create aid quota)) ≡ outcome (summed c) (askedWork (summed c) (create aid quota))
-  pub every : (c : Card) (calls : List Call) → sound c ≡ true → answersBy step c calls ≡ answersBy summing c calls
+  pub every : AsSummed step
 
--- engines that do not keep it true: no creation takes its quota from free, no deletion gives it back
+-- engines that do not keep it true, and do not ask for it either (`onSound`): no creation takes its quota from free, no deletion gives it back
 abbrev pub takesNothing : Card → Call → Outcome
-takesNothing c call = withCard (step c call) (withFree (step c call .card) (max (freeIn c) (freeIn (step c call .card))))
+takesNothing c call = withCard (onSound c call) (withFree (onSound c call .card) (max (freeIn c) (freeIn (onSound c call .card))))
 
 abbrev pub givesNothingBack : Card → Call → Outcome
-givesNothingBack c call = withCard (step c call) (withFree (step c call .card) (min (freeIn c) (freeIn (step c call .card))))
+givesNothingBack c call = withCard (onSound c call) (withFree (onSound c call .card) (min (freeIn c) (freeIn (onSound c call .card))))
 
 abbrev pub getData : Call
 getData = sample.command (0x80 ∷ 0xCA ∷ 0xFF ∷ 0x21 ∷ 0x00 ∷ [])
 
--- the engine is told from the one that sums, by these calls and a GET DATA on the fresh card of the examples
-abbrev pub ToldBy : List Call → (Card → Call → Outcome) → Type 0
-ToldBy calls engine = answersBy engine sample.fresh (calls ++ getData ∷ []) ≡ answersBy summing sample.fresh (calls ++ getData ∷ []) → ⊥
+-- the figure that GET DATA gives, its tag 82, after these calls on the fresh card of the examples
+abbrev pub figureAfter : (Card → Call → Outcome) → List Call → ℕ
+figureAfter answer calls = fourAt (answer (reachedBy answer sample.fresh calls) getData .response) 8
 
--- each by itself: create, delete, master delete, the deletion at confirmation
+-- the engine gives this figure, the manager that sums that one
+abbrev pub Gives : (Card → Call → Outcome) → List Call → ℕ → ℕ → Type 0
+Gives engine calls wrong right = (figureAfter engine calls ≡ wrong) × (figureAfter summing calls ≡ right)
+
+-- by create, by delete, by master delete and by the deletion at confirmation, each by itself; so neither answers as the manager that sums
 pub record NotKept : Type 0 where
-  pub create : ToldBy (sample.create 2 50 ∷ []) takesNothing
-  pub delete : ToldBy (sample.create 2 50 ∷ sample.delete 2 ∷ []) givesNothingBack
-  pub master-delete : ToldBy (sample.load 2 0 ++ masterDelete 1 2 ∷ []) givesNothingBack
-  pub confirmation : ToldBy (loading ++ (changing ++ sample.confirm 2 ∷ [])) givesNothingBack
+  pub create : Gives takesNothing (sample.create 2 50 ∷ []) 900 850
+  pub delete : Gives givesNothingBack (sample.create 2 50 ∷ sample.delete 2 ∷ []) 850 900
+  pub master-delete : Gives givesNothingBack (sample.load 2 0 ++ masterDelete 1 2 ∷ []) 850 900
+  pub confirmation : Gives givesNothingBack (loading ++ (changing ++ sample.confirm 2 ∷ [])) 800 850
+  pub taking-nothing : AsSummed takesNothing → ⊥
+  pub giving-nothing-back : AsSummed givesNothingBack → ⊥
