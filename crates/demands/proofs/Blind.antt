@@ -121,16 +121,16 @@ module _ (a : List ℕ) (i u : ℕ) (c : Card) (b : isFor a (at (c .places) i) �
   moved-near j p = apart u (reuse-moved i u c j p) (lives-for a i (enable-lives (c .places) j) b)
 
   -- these places, so much free and this phase
-  abbrev made : ℕ → Phase → List Isdp → Card
-  made r p l = inState c r (c .last) (c .fallback) p l
+  abbrev written : ℕ → Phase → List Isdp → Card
+  written r p l = inState c r (c .last) (c .fallback) p l
 
   -- another place
-  other-near : (j : ℕ) (x : Isdp) (r : ℕ) (p : Phase) → (j ≡ i → ⊥) → Near a i (made r p (set (c .places) j x)) (made r p (set (useAt (c .places) i u) j x))
-  other-near j x r p n = apart u (ap (made r p) (set-other (c .places) i u j x n)) (set-for j x n)
+  other-near : (j : ℕ) (x : Isdp) (r : ℕ) (p : Phase) → (j ≡ i → ⊥) → Near a i (written r p (set (c .places) j x)) (written r p (set (useAt (c .places) i u) j x))
+  other-near j x r p n = apart u (ap (written r p) (set-other (c .places) i u j x n)) (set-for j x n)
 
   -- a deletion, of this place or of another
-  cleared-case : (j r : ℕ) (p : Phase) (t : Bool) → eqb j i ≡ t → Near a i (made r p (set (c .places) j vacant)) (made r p (set (useAt (c .places) i u) j vacant))
-  cleared-case j r p true e = same (rw (eqb-true j i e) (ap (made r p) (set-over (c .places) i u vacant)))
+  cleared-case : (j r : ℕ) (p : Phase) (t : Bool) → eqb j i ≡ t → Near a i (written r p (set (c .places) j vacant)) (written r p (set (useAt (c .places) i u) j vacant))
+  cleared-case j r p true e = same (rw (eqb-true j i e) (ap (written r p) (set-over (c .places) i u vacant)))
   cleared-case j r p false e = other-near j vacant r p (eqb-false j i e)
 
   cleared-near : (j : ℕ) (p : Phase) → Near a i (cleared (withPhase c p) j) (cleared (withPhase (reuseAt i u c) p) j)
