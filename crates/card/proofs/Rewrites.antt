@@ -45,7 +45,7 @@ not-on : (y z : Bool) → (y || z) ≡ false → z ≡ false
 not-on true z w = absurd (false≢true (sym w))
 not-on false z w = w
 
-module _ (c : Card) (i : ℕ) (x : Isdp) (s : Sound c) (n : at (c .places) i .life ≡ 0 → ⊥) (d : isFinished (at (c .places) i .life) ≡ false) (v : isEnabled x ≡ false) (o : placeOk (c .capacity) x ≡ true) (a : x .aid ≡ at (c .places) i .aid) (q : x .quota ≡ at (c .places) i .quota) where
+module _ (c : Card) (i : ℕ) (x : Isdp) (s : Sound c) (d : isFinished (at (c .places) i .life) ≡ false) (v : isEnabled x ≡ false) (o : placeOk (c .capacity) x ≡ true) (a : x .aid ≡ at (c .places) i .aid) (q : x .quota ≡ at (c .places) i .quota) where
   pub off-before : isEnabled (at (c .places) i) ≡ false
   off-before = not-on (eqb (at (c .places) i .life) disabled) (isEnabled (at (c .places) i)) d
 

@@ -11,7 +11,7 @@ use borrow.Author.Tests.{eqb-true, eqb-false, not-true}
 use Rattle.byte_string.specs.Bytes.{sameBytes}
 use Rattle.byte_string.proofs.Alike.{same-true, same-self}
 use Rattle.isdp.specs.Aids.{aidOf}
-use Rattle.isdp.specs.LifeCycle.{personalized, withLife, withUsed, finish}
+use Rattle.isdp.specs.LifeCycle.{personalized, withLife, withUsed}
 use Rattle.isdp.specs.Place.{vacant, held, isFor}
 use Rattle.isdp.specs.declared.Isdp.{Isdp}
 use Rattle.isdp.proofs.Bools.{and-r}

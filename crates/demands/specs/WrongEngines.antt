@@ -4,7 +4,7 @@ use Prim.Native.Nat.{ℕ, suc, _+_}
 use mathlib.Core.Path.{_≡_}
 use mathlib.Core.List.{List, [], _∷_, _++_}
 use mathlib.Core.Bool.{Bool, true, false, not, cond, _&&_}
-use lib.ListN.{set, replicate}
+use lib.ListN.{replicate}
 use lib.Dec.{ltb, leb}
 use Rattle.status.specs.StatusWords.{isDone}
 use Rattle.status.specs.declared.Status.{Status}

@@ -5,12 +5,11 @@ use isdp::clashes;
 use isdp::is_for;
 use isdp::place_ok;
 ghost use mathlib.Core.Path.{_≡_};
-ghost use mathlib.Core.Bool.{true};
-ghost use Prim.Native.Nat.{_+_, _-_, _≤_};
-ghost use lib.ListN.{length, set, drop};
+ghost use Prim.Native.Nat.{_+_};
+ghost use lib.ListN.{set, drop};
 ghost use lib.Dec.{eqb};
 ghost use Rattle.isdp.specs.LifeCycle.{isEnabled};
-ghost use Rattle.isdp.specs.Place.{held, isFor, placeOk, clash};
+ghost use Rattle.isdp.specs.Place.{isFor, placeOk, clash};
 ghost use Rattle.places.specs.Places.{at, seek, foundOf, isFree, quotas, allOf, anyOf, countOf, distinct, allOff, enableAt};
 
 pub const PLACES: usize = 8;

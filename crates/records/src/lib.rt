@@ -19,7 +19,6 @@ use text::Word;
 use text::next_word;
 use text::read_hex;
 ghost use mathlib.Core.Path.{_≡_};
-ghost use Prim.Native.Nat.{_≤_};
 ghost use Rattle.isdp.specs.Sizes.{mostPlaces};
 ghost use mathlib.Core.List.{[]};
 ghost use Rattle.records.specs.Records.{phaseAt, memoryAt, headAt, notHeld, placesOn, noRecord, recordWith, recordAt};

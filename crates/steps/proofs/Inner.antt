@@ -51,15 +51,15 @@ module _ (c : Card) (i v : ℕ) (s : Sound c) (e : at (c .places) i .life ≡ v)
 pub keyed-at : (c : Card) (i : ℕ) → Sound c → at (c .places) i .life ≡ selectable → Sound (rewritten c i (withLife (at (c .places) i) personalized))
 keyed-at c i s e =
     let d : isFinished (at (c .places) i .life) ≡ false = rw e in
-    rewrites c i (withLife (at (c .places) i) personalized) s (there c i selectable s e refl) d refl (lively c i selectable s e refl personalized refl) refl refl
+    rewrites c i (withLife (at (c .places) i) personalized) s d refl (lively c i selectable s e refl personalized refl) refl refl
 
 pub stored-at : (c : Card) (i u : ℕ) → Sound c → at (c .places) i .life ≡ personalized → leb u (at (c .places) i .quota) ≡ true → Sound (rewritten c i (withUsed (at (c .places) i) u))
 stored-at c i u s e l =
     let d : isFinished (at (c .places) i .life) ≡ false = rw e in
     let w : isEnabled (withUsed (at (c .places) i) u) ≡ false = rw e in
-    rewrites c i (withUsed (at (c .places) i) u) s (there c i personalized s e refl) d w (fuller c i personalized s e refl u refl l) refl refl
+    rewrites c i (withUsed (at (c .places) i) u) s d w (fuller c i personalized s e refl u refl l) refl refl
 
 pub finished-at : (c : Card) (i b m : ℕ) → Sound c → at (c .places) i .life ≡ personalized → policyOk b ≡ true → markOk m ≡ true → Sound (rewritten c i (finish (at (c .places) i) b m))
 finished-at c i b m s e l o =
     let d : isFinished (at (c .places) i .life) ≡ false = rw e in
-    rewrites c i (finish (at (c .places) i) b m) s (there c i personalized s e refl) d refl (finisher c i personalized s e refl b m l o) refl refl
+    rewrites c i (finish (at (c .places) i) b m) s d refl (finisher c i personalized s e refl b m l o) refl refl

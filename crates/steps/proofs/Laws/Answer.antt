@@ -16,8 +16,7 @@ use Rattle.status.proofs.Tables as rows
 use Rattle.status.proofs.Tables.{proper, passed, no-row}
 use Rattle.isdp.specs.Sizes.{lastNumber}
 use Rattle.isdp.specs.Aids.{noAid}
-use Rattle.isdp.specs.LifeCycle.{enabled, isEnabled}
-use Rattle.isdp.specs.Place.{held}
+use Rattle.isdp.specs.LifeCycle.{isEnabled}
 use Rattle.isdp.specs.declared.Aid.{Aid}
 use Rattle.isdp.specs.declared.Isdp.{Isdp}
 use Rattle.places.specs.Places.{at, seek, enableAt}

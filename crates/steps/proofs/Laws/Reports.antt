@@ -4,7 +4,7 @@ use mathlib.Core.Path.{_≡_, refl, sym, ap, subst, _∙_}
 use Prim.Native.Nat.{ℕ, suc, _+_}
 use native.Mathlib.Omega.{arith}
 use mathlib.Core.List.{List, [], _∷_, _++_, append-assoc, append-nil}
-use mathlib.Core.Bool.{Bool, true, not, cond}
+use mathlib.Core.Bool.{Bool, true, cond}
 use lib.ListN.{length}
 use Rattle.isdp.specs.Place.{held}
 use Rattle.isdp.specs.declared.Isdp.{Isdp}
@@ -13,7 +13,7 @@ use Rattle.card.specs.Cards.{placeOf}
 use Rattle.card.specs.declared.Card.{Card}
 use Rattle.card.proofs.Free.{sound-card}
 use Rattle.responses.specs.Responses.{attributeOf, statusBody, statusRow, rowOf, rowsFrom, statusResponse, oneStatus, dataResponse}
-use Rattle.steps.specs.Asked.{Act.status, Asked.on, Asked.statusOfAll, Asked.getData}
+use Rattle.steps.specs.Asked.{Act.status, Asked.statusOfAll, Asked.getData}
 use Rattle.steps.specs.Laws.Answer.{profileAt, Still}
 use Rattle.steps.specs.Laws.Reports.{statusAt, statusBelow, StatusOfAllLaw, StatusOfOneLaw, GetDataLaw}
 use Rattle.steps.proofs.Laws.Answer.{asked-taken, command-law, held-passes, still}

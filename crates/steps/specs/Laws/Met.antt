@@ -1,11 +1,11 @@
 -- The laws are not empty: sound cards in every phase, and on them each call that can be refused is accepted.
-use Prim.Native.Nat.{ℕ}
+use Prim.Native.Nat.{ℕ, _-_}
 use mathlib.Core.Path.{_≡_}
 use mathlib.Core.List.{List, [], _∷_}
 use mathlib.Core.Bool.{Bool, true}
 use lib.ListN.{replicate}
 use Rattle.status.specs.declared.Status.the-variants.{Done}
-use Rattle.isdp.specs.Sizes.{eidSize}
+use Rattle.isdp.specs.Sizes.{mostPlaces, eidSize}
 use Rattle.isdp.specs.LifeCycle.{selectable, personalized, disabled, enabled, withMark}
 use Rattle.isdp.specs.Place.{vacant, made}
 use Rattle.card.specs.Cards.{cardWith}
@@ -28,11 +28,7 @@ sample first second last phase =
     ∷ withMark (made (aidEnding 2) second 100 10) 1
     ∷ made (aidEnding 3) selectable 100 0
     ∷ made (aidEnding 4) personalized 100 10
-    ∷ vacant
-    ∷ vacant
-    ∷ vacant
-    ∷ vacant
-    ∷ [])
+    ∷ replicate (mostPlaces - 4) vacant)
 
 -- the fall-back is enabled, or 02 is
 abbrev pub on01 : ℕ → Phase → Card
