@@ -3,9 +3,9 @@
 -- 'Reading a command' does, as the bounds of an element.
 use Prim.Native.Nat.{ℕ}
 
--- "1 to 8 ISD-Ps"
+-- "1 to 8 ISD-Ps"; request 2026-05: "Raise the limit to 32"
 abbrev pub mostPlaces : ℕ
-mostPlaces = 8
+mostPlaces = 32
 
 -- "AID 5 to 16 bytes"
 abbrev pub leastAid : ℕ

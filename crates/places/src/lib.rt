@@ -12,7 +12,7 @@ ghost use Rattle.isdp.specs.LifeCycle.{isEnabled};
 ghost use Rattle.isdp.specs.Place.{isFor, placeOk, clash};
 ghost use Rattle.places.specs.Places.{at, seek, foundOf, isFree, quotas, allOf, anyOf, countOf, distinct, allOff, enableAt};
 
-pub const PLACES: usize = 8;
+pub const PLACES: usize = 32;
 
 pub enum Found {
     At(u8),

@@ -1,5 +1,5 @@
 // The status words of document 01, each a case of one enum, and their numbers.
-// The order of the cases is that of the table's rows; 90 00 stands last, as in the paper.
+// The order of the cases is that of the table's rows; the two words of success stand last, 90 00 at the end, as in the paper.
 ghost use mathlib.Core.Path.{_≡_};
 ghost use Rattle.status.specs.StatusWords.{numberOf, isDone};
 
@@ -16,6 +16,8 @@ pub enum Status {
     PolicyForbids,
     VerdictWrong,
     NoRoom,
+    // 63 10: a success, and rows are left
+    More,
     Done,
 }
 
@@ -36,6 +38,7 @@ impl Status {
             Status::PolicyForbids => 0x69E1,
             Status::VerdictWrong => 0x6982,
             Status::NoRoom => 0x6A84,
+            Status::More => 0x6310,
             Status::Done => 0x9000,
         }
     }
@@ -45,6 +48,7 @@ impl Status {
     {
         match self {
             Status::Done => true,
+            Status::More => true,
             Status::Unsound => false,
             Status::BufferShort => false,
             Status::LengthWrong => false,
