@@ -70,7 +70,7 @@ fresh-parts eid aid capacity quota used volatile f =
         apart = distinct-two p (replicate (mostPlaces - 1) vacant) (rest-clash p) rest-apart;
         room = room-of aid quota used capacity (leb-true quota capacity (and-l _ _ h4));
       };
-      roles = record { one = one-on aid quota used; resort = refl };
+      roles = record { one = one-on aid quota used; resort = refl; listing = refl };
       phased = tt;
     }
 

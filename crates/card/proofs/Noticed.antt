@@ -14,7 +14,7 @@ use Rattle.isdp.specs.LifeCycle.{disabled, isEnabled}
 use Rattle.isdp.specs.declared.Aid.{Aid}
 use Rattle.isdp.specs.declared.Isdp.{Isdp}
 use Rattle.places.specs.Places.{at, seek}
-use Rattle.card.specs.Cards.{isQuiet, onFallback, enabledAid, withPhase, cleared}
+use Rattle.card.specs.Cards.{isQuiet, onFallback, enabledAid, forgotten, withPhase, cleared}
 use Rattle.card.specs.Clock.{nextOf, moved, opened, fallen, tickIn, tickOf, lostOf, dropped, confirmIn, confirmOf}
 use Rattle.card.specs.Notifications.{kindOf, noticeSince}
 use Rattle.card.specs.Noticed.{Entered, JustOpened, Noticed, Noticed.silently, Noticed.told, StepsNoticed}
@@ -75,20 +75,23 @@ module _ (c : Card) (s : Sound c) (gone : Aid) where
   falls : After (fallen c)
   falls = tells (c .fallback) _ (entered (c .fallback) _)
 
+  idle : After (forgotten c)
+  idle = unmoved c (forgotten c) gone refl refl
+
   rephases : (p : Phase) → After (withPhase c p)
   rephases p = unmoved c (withPhase c p) gone refl refl
 
   ticks : (p : Phase) → After (tickIn p c)
-  ticks Quiet = unmoved c c gone refl refl
+  ticks Quiet = idle
   ticks (Trial q l n) = choose After (ltb 1 l) _ _ (λ b. rephases _) (λ b. tells q _ (entered q _))
   ticks (Back l n) =
       choose After (ltb 1 l) _ _ (λ b. rephases _) (λ b. choose After (onFallback c) _ _ (λ e. rephases _) (λ e. falls))
   ticks (Fallen l n) = choose After (ltb 1 l) _ _ (λ b. rephases _) (λ b. rephases _)
 
-  loses : After (cond (isQuiet (c .phase)) (cond (onFallback c) c (fallen c)) c)
+  loses : After (cond (isQuiet (c .phase)) (cond (onFallback c) (forgotten c) (fallen c)) (forgotten c))
   loses =
       choose After (isQuiet (c .phase)) _ _
-      (λ q. choose After (onFallback c) _ _ (λ e. unmoved c c gone refl refl) (λ e. falls)) (λ q. unmoved c c gone refl refl)
+      (λ q. choose After (onFallback c) _ _ (λ e. idle) (λ e. falls)) (λ q. idle)
 
   clears : (i : ℕ) → at (c .places) i .life ≡ disabled → After (cleared (withPhase c Quiet) i)
   clears i h = unmoved c _ gone refl (ap (λ (p : Isdp). p .aid) (found-kept _ refl (c .places) i (rw h)))

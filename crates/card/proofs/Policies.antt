@@ -9,7 +9,7 @@ use Rattle.isdp.specs.Sizes.{wait}
 use Rattle.isdp.specs.declared.Isdp.{Isdp}
 use Rattle.places.specs.Places.{at, allOff, enableAt}
 use Rattle.places.proofs.Lives.{enable-lives, lives-at}
-use Rattle.card.specs.Cards.{isQuiet, onFallback, withPhase}
+use Rattle.card.specs.Cards.{isQuiet, onFallback, forgotten, withPhase}
 use Rattle.card.specs.Clock.{nextOf, moved, fallen, tickIn, tickOf, lostOf}
 use Rattle.card.specs.Policies.{repolicy, withPolicies, NoPolicyAsked}
 use Rattle.card.specs.declared.Card.{Card}
@@ -56,8 +56,8 @@ tick-blind bs c = tick-case bs c (c .phase)
 lost-blind : (bs : List ℕ) (c : Card) → lostOf (withPolicies bs c) ≡ withPolicies bs (lostOf c)
 unfolding lostOf
 lost-blind bs c =
-    rw (life-blind bs (c .places) (c .fallback), enable-blind bs (c .places) (c .fallback), split bs (onFallback c) c (fallen c))
-    (split bs (isQuiet (c .phase)) (cond (onFallback c) c (fallen c)) c)
+    rw (life-blind bs (c .places) (c .fallback), enable-blind bs (c .places) (c .fallback), split bs (onFallback c) (forgotten c) (fallen c))
+    (split bs (isQuiet (c .phase)) (cond (onFallback c) (forgotten c) (fallen c)) (forgotten c))
 
 -- every place is held with the AID that it had
 moved-keeps : (l : List Isdp) (i j : ℕ) → at (enableAt l i) j .aid .len ≡ at l j .aid .len

@@ -31,8 +31,8 @@ last-fits card vs g = search needs
 pub numbered : (card : Card) (vs : List Val) → Is (row C.the-type) card vs → card .last ≤ lastNumber
 numbered card vs g = let h = last-fits card vs g in omega arith
 
-respelled : (e e' : List ℕ) (k k' v v' r r' n n' f f' : ℕ) (p p' : Phase) (l l' : List Isdp) → e ≡ e' → k ≡ k' → v ≡ v' → r ≡ r' → n ≡ n' → f ≡ f' → p ≡ p' → l ≡ l' → cardWith e k v r n f p l ≡ cardWith e' k' v' r' n' f' p' l'
-respelled e e' k k' v v' r r' n n' f f' p p' l l' a b c d g h i j = rw (a, b, c, d, g, h, i, j)
+respelled : (e e' : List ℕ) (k k' v v' r r' n n' f f' : ℕ) (p p' : Phase) (o o' : ℕ) (l l' : List Isdp) → e ≡ e' → k ≡ k' → v ≡ v' → r ≡ r' → n ≡ n' → f ≡ f' → p ≡ p' → o ≡ o' → l ≡ l' → cardWith e k v r n f p o l ≡ cardWith e' k' v' r' n' f' p' o' l'
+respelled e e' k k' v v' r r' n n' f f' p p' o o' l l' a b c d g h i m j = rw (a, b, c, d, g, h, i, m, j)
 
-pub same-card : (c d : Card) → d .eid ≡ c .eid → d .capacity ≡ c .capacity → d .volatile ≡ c .volatile → d .free ≡ c .free → d .last ≡ c .last → d .fallback ≡ c .fallback → d .phase ≡ c .phase → d .places ≡ c .places → d ≡ c
-same-card c d a b e f g h i j = respelled _ _ _ _ _ _ _ _ _ _ _ _ _ _ _ _ a b e f g h i j
+pub same-card : (c d : Card) → d .eid ≡ c .eid → d .capacity ≡ c .capacity → d .volatile ≡ c .volatile → d .free ≡ c .free → d .last ≡ c .last → d .fallback ≡ c .fallback → d .phase ≡ c .phase → d .kept ≡ c .kept → d .places ≡ c .places → d ≡ c
+same-card c d a b e f g h i m j = respelled _ _ _ _ _ _ _ _ _ _ _ _ _ _ _ _ _ _ a b e f g h i m j

@@ -33,7 +33,7 @@ sets c i x r s o v d q f h =
     record {
       sizes = resized c r (c .last) (c .phase) (set (c .places) i x) (s .sizes) (s .sizes .numbered) (length-set (c .places) i x);
       placed = record { each = set-all (placeOk (c .capacity)) x o (c .places) i (s .placed .each); apart = d; room = q };
-      roles = record { one = set-count isEnabled x (c .places) i v ∙ s .roles .one; resort = f };
+      roles = record { one = set-count isEnabled x (c .places) i v ∙ s .roles .one; resort = f; listing = refl };
       phased = h;
     }
 
@@ -83,7 +83,7 @@ refalls c i s o d =
     record {
       sizes = record { named = z .named; full = z .full; numbered = z .numbered; some = z .some; most = z .most };
       placed = record { each = p .each; apart = p .apart; room = p .room };
-      roles = record { one = s .roles .one; resort = d };
+      roles = record { one = s .roles .one; resort = d; listing = refl };
       phased = rw o tt;
     }
 

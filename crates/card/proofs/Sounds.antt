@@ -16,8 +16,8 @@ use Rattle.isdp.specs.declared.Isdp.{Isdp}
 use Rattle.isdp.proofs.Bools.{and-l, and-r, both}
 use Rattle.places.specs.Places.{at, quotas, allOf, countOf, distinct, enableAt}
 use Rattle.places.proofs.Lives.{enable-lives, lives-length, lives-quotas, lives-distinct, enable-one, enable-at, enable-ok, enable-resort, within}
-use Rattle.card.specs.Cards.{isQuiet, freeIn, onFallback, inState, withPhase}
-use Rattle.card.specs.Sound.{sized, sizesOk, placesOk, rolesOk, openOk, phaseIn, phaseOk, sound, FallBackMarked}
+use Rattle.card.specs.Cards.{isQuiet, freeIn, onFallback, noPlace, keeping, forgotten, inState, withPhase}
+use Rattle.card.specs.Sound.{sized, sizesOk, placesOk, keptOk, rolesOk, openOk, phaseIn, phaseOk, sound, FallBackMarked}
 use Rattle.card.specs.Clock.{nextOf, moved, tickIn, tickOf, lostOf}
 use Rattle.card.specs.declared.Card.{Card}
 use Rattle.card.specs.declared.Phase.{Phase}
@@ -52,6 +52,7 @@ pub record Places (c : Card) : Type 0 where
 pub record Roles (c : Card) : Type 0 where
   pub one : countOf isEnabled (c .places) ≡ 1
   pub resort : mayBeFallBack (at (c .places) (c .fallback)) ≡ true
+  pub listing : keptOk c ≡ true
 
 pub record Sound (c : Card) : Type 0 where
   pub sizes : Sizes c
@@ -102,7 +103,9 @@ places-parts c w =
     record { each = and-l _ _ w; apart = and-l _ _ e; room = eqb-true (freeIn c + quotas (c .places)) (c .capacity) (and-r (distinct (c .places)) _ e) }
 
 roles-parts : (c : Card) → rolesOk c ≡ true → Roles c
-roles-parts c w = record { one = eqb-true (countOf isEnabled (c .places)) 1 (and-l _ _ w); resort = and-r (eqb (countOf isEnabled (c .places)) 1) _ w }
+roles-parts c w =
+    let h = and-r (eqb (countOf isEnabled (c .places)) 1) _ w in
+    record { one = eqb-true (countOf isEnabled (c .places)) 1 (and-l _ _ w); resort = and-l _ _ h; listing = and-r (mayBeFallBack (at (c .places) (c .fallback))) _ h }
 
 pub parts : (c : Card) → sound c ≡ true → Sound c
 unfolding sound phaseOk
@@ -123,7 +126,7 @@ places-whole : (c : Card) → Places c → placesOk c ≡ true
 places-whole c s = rw (s .each, s .apart, eq-eqb (freeIn c + quotas (c .places)) (c .capacity) (s .room))
 
 roles-whole : (c : Card) → Roles c → rolesOk c ≡ true
-roles-whole c s = rw (eq-eqb _ _ (s .one), s .resort)
+roles-whole c s = rw (eq-eqb _ _ (s .one), s .resort) (s .listing)
 
 pub whole : (c : Card) → Sound c → sound c ≡ true
 unfolding sound phaseOk
@@ -141,9 +144,31 @@ rephased c p s h =
     record {
       sizes = resized c (c .free) (c .last) p (c .places) (s .sizes) (s .sizes .numbered) refl;
       placed = record { each = z .each; apart = z .apart; room = z .room };
-      roles = record { one = r .one; resort = r .resort };
+      roles = record { one = r .one; resort = r .resort; listing = refl };
       phased = h;
     }
+
+-- a phase asks nothing of the kept place
+phase-unkept : (c : Card) (i : ℕ) (p : Phase) → Phased p c → Phased p (keeping c i)
+phase-unkept c i Quiet h = h
+phase-unkept c i (Trial q l n) h = h
+phase-unkept c i (Back l n) h = h
+phase-unkept c i (Fallen l n) h = h
+
+-- only the kept place is new
+pub keeps-place : (c : Card) (i : ℕ) → Sound c → keptOk (keeping c i) ≡ true → Sound (keeping c i)
+keeps-place c i s h =
+    let z = s .placed in
+    let r = s .roles in
+    record {
+      sizes = record { named = s .sizes .named; full = s .sizes .full; numbered = s .sizes .numbered; some = s .sizes .some; most = s .sizes .most };
+      placed = record { each = z .each; apart = z .apart; room = z .room };
+      roles = record { one = r .one; resort = r .resort; listing = h };
+      phased = phase-unkept c i (c .phase) (s .phased);
+    }
+
+pub forgets : (c : Card) → Sound c → Sound (forgotten c)
+forgets c s = keeps-place c noPlace s refl
 
 next-case : (n : ℕ) (b : Bool) → eqb n lastNumber ≡ b → n ≤ lastNumber → cond b 0 (n + 1) ≤ lastNumber
 next-case n true e h = omega arith
@@ -161,7 +186,7 @@ moves c i p s n h =
     record {
       sizes = resized c (c .free) (nextOf (c .last)) p (enableAt (c .places) i) (s .sizes) (next-small (c .last) (s .sizes .numbered)) (lives-length r);
       placed = record { each = enable-ok (c .capacity) (c .places) i (ne-eqb _ _ n) (z .each); apart = lives-distinct r ∙ z .apart; room = rw (lives-quotas r) (z .room) };
-      roles = record { one = enable-one (c .places) i k; resort = enable-resort (c .places) i (c .fallback) k (s .roles .resort) };
+      roles = record { one = enable-one (c .places) i k; resort = enable-resort (c .places) i (c .fallback) k (s .roles .resort); listing = refl };
       phased = h;
     }
 
@@ -200,7 +225,7 @@ falls c s =
     (fresh (nextOf (c .last)), enable-at (c .places) (c .fallback) (within (c .places) (c .fallback) n))
 
 tick-case : (c : Card) (p : Phase) → Sound c → Phased p c → Sound (tickIn p c)
-tick-case c Quiet s h = s
+tick-case c Quiet s h = forgets c s
 tick-case c (Trial q l n) s h =
     choose Sound (ltb 1 l) _ _ (λ b. rephased c (Trial q (l - 1) n) s (less l n (c .last) b (h .0), h .1))
     (λ b. moves c q (Back wait (nextOf (c .last))) s (nonzero _ 30 (h .1)) (fresh (nextOf (c .last))))
@@ -219,4 +244,4 @@ pub lost-sound : (c : Card) → sound c ≡ true → sound (lostOf c) ≡ true
 unfolding lostOf
 lost-sound c e =
     let s = parts c e in
-    whole _ (choose Sound (isQuiet (c .phase)) _ _ (λ q. choose Sound (onFallback c) _ _ (λ v. s) (λ v. falls c s)) (λ q. s))
+    whole _ (choose Sound (isQuiet (c .phase)) _ _ (λ q. choose Sound (onFallback c) _ _ (λ v. forgets c s) (λ v. falls c s)) (λ q. forgets c s))

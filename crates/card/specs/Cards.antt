@@ -55,8 +55,8 @@ abbrev pub mayBeMasterDeleted : Card → ℕ → Bool
 mayBeMasterDeleted c i = eqb (at (c .places) i .life) disabled && not (eqb i (c .fallback))
 
 -- the whole record, spelled once: every other card is made of this
-abbrev pub cardWith : List ℕ → ℕ → ℕ → ℕ → ℕ → ℕ → Phase → List Isdp → Card
-cardWith eid capacity volatile free last fallback phase places =
+abbrev pub cardWith : List ℕ → ℕ → ℕ → ℕ → ℕ → ℕ → Phase → ℕ → List Isdp → Card
+cardWith eid capacity volatile free last fallback phase kept places =
     record {
       capacity = capacity;
       volatile = volatile;
@@ -65,12 +65,37 @@ cardWith eid capacity volatile free last fallback phase places =
       phase = phase;
       last = last;
       fallback = fallback;
+      kept = kept;
       eid = eid;
     }
 
--- the same card in another state: its free memory, last number, fall-back, phase and places
+-- request 2026-05: "The card keeps the place of the first row not yet given": it stands for none, and is no place's number
+abbrev pub noPlace : ℕ
+noPlace = 255
+
+-- the same record with another phase, kept place and places, of which it forgets none
+abbrev pub recast : Card → Phase → ℕ → List Isdp → Card
+recast c phase kept places = cardWith (c .eid) (c .capacity) (c .volatile) (c .free) (c .last) (c .fallback) phase kept places
+
+-- a part of a listing was given: the card keeps this place, and nothing else is new
+abbrev pub keeping : Card → ℕ → Card
+keeping c place = recast c (c .phase) place (c .places)
+
+-- with other places, or in another phase, as two cards are held against each other
+abbrev pub over : Card → List Isdp → Card
+over c l = recast c (c .phase) (c .kept) l
+
+abbrev pub inPhase : Card → Phase → Card
+inPhase c p = recast c p (c .kept) (c .places)
+
+-- "any accepted command other than P2 03, any inner call that is accepted, any tick, any lost report .. forget it": what changes nothing forgets
+abbrev pub forgotten : Card → Card
+forgotten c = keeping c noPlace
+
+-- the same card in another state: its free memory, last number, fall-back, phase and places. Every write is made of this, and so forgets too
 abbrev pub inState : Card → ℕ → ℕ → ℕ → Phase → List Isdp → Card
-inState c free last fallback phase places = cardWith (c .eid) (c .capacity) (c .volatile) free last fallback phase places
+inState c free last fallback phase places =
+    cardWith (c .eid) (c .capacity) (c .volatile) free last fallback phase noPlace places
 
 -- with another last number, phase and places; the two below change one of them
 abbrev pub withChange : Card → ℕ → Phase → List Isdp → Card

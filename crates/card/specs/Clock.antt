@@ -5,7 +5,7 @@ use lib.Dec.{ltb, eqb}
 use Rattle.isdp.specs.Sizes.{wait, lastNumber}
 use Rattle.isdp.specs.Policy.{onceDisabled}
 use Rattle.places.specs.Places.{at, enableAt}
-use Rattle.card.specs.Cards.{isQuiet, enabledPlace, onFallback, withChange, withPhase, cleared}
+use Rattle.card.specs.Cards.{isQuiet, enabledPlace, onFallback, forgotten, withChange, withPhase, cleared}
 use Rattle.card.specs.declared.Card.{Card}
 use Rattle.card.specs.declared.Phase.{Phase}
 use Rattle.card.specs.declared.Phase.the-variants.{Quiet, Trial, Back, Fallen}
@@ -29,7 +29,7 @@ fallen c = moved c (c .fallback) (Fallen wait (nextOf (c .last)))
 -- "Tick: Quiet, nothing. Else ticks left falls by one; at zero: Trial enables the previous profile, Back; Back enables the
 -- fall-back, Fallen, or closes if the fall-back is already enabled; Fallen closes."
 abbrev pub tickIn : Phase → Card → Card
-tickIn Quiet c = c
+tickIn Quiet c = forgotten c
 tickIn (Trial previous left number) c =
     cond (ltb 1 left) (withPhase c (Trial previous (left - 1) number))
     (moved c previous (Back wait (nextOf (c .last))))
@@ -58,7 +58,7 @@ tickOf c = tickIn (c .phase) c
 
 -- "Lost: if Quiet and the enabled profile is not the fall-back, enable it, Fallen. Else nothing."
 unfoldable pub lostOf : Card → Card
-lostOf c = cond (isQuiet (c .phase)) (cond (onFallback c) c (fallen c)) c
+lostOf c = cond (isQuiet (c .phase)) (cond (onFallback c) (forgotten c) (fallen c)) (forgotten c)
 
 -- n is the outstanding number
 abbrev pub outstanding : Phase → ℕ → Bool

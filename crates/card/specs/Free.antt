@@ -7,14 +7,14 @@ use lib.ListN.{length}
 use Rattle.isdp.specs.Place.{vacant}
 use Rattle.isdp.specs.declared.Isdp.{Isdp}
 use Rattle.places.specs.Places.{at, quotas, freeOf}
-use Rattle.card.specs.Cards.{freeIn, withRoom, filled, cleared, rewritten, withFallback}
+use Rattle.card.specs.Cards.{freeIn, cardWith, filled, cleared, rewritten, withFallback}
 use Rattle.card.specs.Sound.{sound}
 use Rattle.card.specs.Clock.{opened, tickOf, lostOf, confirmOf}
 use Rattle.card.specs.declared.Card.{Card}
 
 -- the same card with another number for free; with the one that the quotas leave
 abbrev pub withFree : Card → ℕ → Card
-withFree c free = withRoom c free (c .places)
+withFree c free = cardWith (c .eid) (c .capacity) (c .volatile) free (c .last) (c .fallback) (c .phase) (c .kept) (c .places)
 
 abbrev pub summed : Card → Card
 summed c = withFree c (freeOf (c .capacity) (c .places))

@@ -12,15 +12,15 @@ use Rattle.isdp.specs.Aids.{aidOk, noAid}
 use Rattle.isdp.specs.LifeCycle.{enabled, withMark}
 use Rattle.isdp.specs.Place.{vacant, made}
 use Rattle.isdp.specs.declared.Isdp.{Isdp}
-use Rattle.card.specs.Cards.{cardWith}
+use Rattle.card.specs.Cards.{cardWith, noPlace}
 use Rattle.card.specs.Steps.{stepTo}
 use Rattle.card.specs.Answers.{Outcome, settle}
 use Rattle.card.specs.declared.Card.{Card}
 use Rattle.card.specs.declared.Phase.the-variants.{Quiet}
 
--- the record of zeros
+-- the record of zeros; it keeps no place
 abbrev pub zeroCard : Card
-zeroCard = cardWith (replicate eidSize 0) 0 0 0 0 0 Quiet (replicate mostPlaces vacant)
+zeroCard = cardWith (replicate eidSize 0) 0 0 0 0 0 Quiet noPlace (replicate mostPlaces vacant)
 
 -- the one profile of a fresh card
 abbrev pub freshProfile : List ℕ → ℕ → ℕ → Isdp
@@ -29,7 +29,7 @@ freshProfile aid quota used = withMark (made aid enabled quota used) 1
 -- free is what its quota leaves of the capacity
 abbrev pub freshCard : List ℕ → List ℕ → ℕ → ℕ → ℕ → ℕ → Card
 freshCard eid aid capacity quota used volatile =
-    cardWith eid capacity volatile (capacity - quota) 0 0 Quiet (freshProfile aid quota used ∷ replicate (mostPlaces - 1) vacant)
+    cardWith eid capacity volatile (capacity - quota) 0 0 Quiet noPlace (freshProfile aid quota used ∷ replicate (mostPlaces - 1) vacant)
 
 abbrev pub freshOk : List ℕ → List ℕ → ℕ → ℕ → ℕ → Bool
 freshOk eid aid capacity quota used =

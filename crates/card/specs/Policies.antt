@@ -5,7 +5,7 @@ use mathlib.Core.List.{List, [], _∷_}
 use Rattle.isdp.specs.LifeCycle.{withPolicy}
 use Rattle.isdp.specs.declared.Isdp.{Isdp}
 use Rattle.places.specs.Places.{at}
-use Rattle.card.specs.Cards.{withPlaces}
+use Rattle.card.specs.Cards.{over}
 use Rattle.card.specs.Clock.{tickOf, lostOf}
 use Rattle.card.specs.declared.Card.{Card}
 
@@ -17,7 +17,7 @@ repolicy (b ∷ bs) (p ∷ ps) = withPolicy p b ∷ repolicy bs ps
 
 -- the same card with other policies, place for place
 abbrev pub withPolicies : List ℕ → Card → Card
-withPolicies bs c = withPlaces c (repolicy bs (c .places))
+withPolicies bs c = over c (repolicy bs (c .places))
 
 -- a tick and a lost network do the same whatever the policies, and leave every place held that was
 pub record NoPolicyAsked : Type 0 where

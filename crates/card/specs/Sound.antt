@@ -1,15 +1,15 @@
 -- Document 01, 'The card': "A sound card keeps the sizes, codings and rules above, ..", clause by clause.
 use Prim.Native.Nat.{ℕ, _+_}
 use mathlib.Core.Path.{_≡_}
-use mathlib.Core.Bool.{Bool, true, _&&_}
+use mathlib.Core.Bool.{Bool, true, _&&_, _||_}
 use lib.ListN.{length}
 use lib.Dec.{leb, eqb}
 use Rattle.isdp.specs.Sizes.{mostPlaces, eidSize, mostCapacity, wait, lastNumber}
 use Rattle.isdp.specs.LifeCycle.{disabled, enabled, isEnabled}
 use Rattle.isdp.specs.Provisioning.{mayBeFallBack}
-use Rattle.isdp.specs.Place.{placeOk}
+use Rattle.isdp.specs.Place.{held, placeOk}
 use Rattle.places.specs.Places.{at, quotas, allOf, countOf, distinct}
-use Rattle.card.specs.Cards.{freeIn}
+use Rattle.card.specs.Cards.{noPlace, freeIn}
 use Rattle.card.specs.declared.Card.{Card}
 use Rattle.card.specs.declared.Phase.{Phase}
 use Rattle.card.specs.declared.Phase.the-variants.{Quiet, Trial, Back, Fallen}
@@ -32,10 +32,15 @@ placesOk c =
     allOf (placeOk (c .capacity)) (c .places)
     && (distinct (c .places) && freeOk c)
 
--- roles: one profile ENABLED, the fall-back DISABLED or ENABLED; request 2026-02: "a sound card's fall-back has it", the mark
+-- request 2026-05: "that kept place, a held one"
+abbrev pub keptOk : Card → Bool
+keptOk c = eqb (c .kept) noPlace || held (at (c .places) (c .kept))
+
+-- roles: one profile ENABLED, the fall-back DISABLED or ENABLED; request 2026-02: "a sound card's fall-back has it", the mark. And the place
+-- from which a listing goes on
 abbrev pub rolesOk : Card → Bool
 rolesOk c =
-    eqb (countOf isEnabled (c .places)) 1 && mayBeFallBack (at (c .places) (c .fallback))
+    eqb (countOf isEnabled (c .places)) 1 && (mayBeFallBack (at (c .places) (c .fallback)) && keptOk c)
 
 -- "ticks left 1 to 10 in an open phase", which "holds its one outstanding notification number, the last one issued"
 abbrev pub openOk : ℕ → ℕ → ℕ → Bool

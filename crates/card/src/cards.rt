@@ -7,7 +7,7 @@ use places::Found;
 ghost use mathlib.Core.Path.{_≡_};
 ghost use Prim.Native.Nat.{_-_};
 ghost use lib.ListN.{set};
-ghost use Rattle.card.specs.Cards.{isQuiet, placeOf, enabledPlace, freePlace, mayBeDeleted, mayBeMasterDeleted, cardWith, withPhase, withPlaces, givenBack, filled, cleared, rewritten, withFallback};
+ghost use Rattle.card.specs.Cards.{isQuiet, placeOf, enabledPlace, freePlace, mayBeDeleted, mayBeMasterDeleted, cardWith, keeping, forgotten, withPhase, withPlaces, givenBack, filled, cleared, rewritten, withFallback};
 ghost use Rattle.places.specs.Places.{at, foundOf};
 
 // Free, or a capacity, less a quota; 0 where that is more, as on no sound card.
@@ -116,9 +116,10 @@ impl Card {
         last: u16,
         fallback: u8,
         phase: Phase,
+        kept: u8,
         places: [Isdp; Card::PLACES],
     ) -> Card
-        ensures { λ r. ⌜ r ≡ cardWith eid capacity volatile free last fallback phase places ⌝ }
+        ensures { λ r. ⌜ r ≡ cardWith eid capacity volatile free last fallback phase kept places ⌝ }
     {
         Card {
             capacity,
@@ -128,8 +129,25 @@ impl Card {
             phase,
             last,
             fallback,
+            kept,
             eid,
         }
+    }
+
+    // A part of a listing was given: the card keeps the place of the first row that was not.
+    pub fn keeping(self, place: u8) -> Card
+        ensures { λ r. ⌜ r ≡ keeping self place ⌝ }
+    {
+        let mut after = self;
+        after.kept = place;
+        after
+    }
+
+    // What changes nothing else forgets the kept place.
+    pub fn forgotten(self) -> Card
+        ensures { λ r. ⌜ r ≡ forgotten self ⌝ }
+    {
+        self.keeping(Card::NO_PLACE)
     }
 
     pub(crate) fn with_phase(self, phase: Phase) -> Card
@@ -145,6 +163,7 @@ impl Card {
             self.last,
             self.fallback,
             phase,
+            Card::NO_PLACE,
             places,
         )
     }
@@ -156,6 +175,7 @@ impl Card {
         let places = places::put(before, i, p);
         let mut after = self;
         after.places = places;
+        after.kept = Card::NO_PLACE;
         after
     }
 
@@ -190,6 +210,7 @@ impl Card {
     {
         let mut after = self;
         after.fallback = i;
+        after.kept = Card::NO_PLACE;
         after
     }
 }

@@ -163,7 +163,7 @@ impl Card {
     {
         let phase = self.phase;
         match phase {
-            Phase::Quiet => self,
+            Phase::Quiet => self.with_phase(Phase::Quiet),
             Phase::Trial {
                 previous,
                 left: _,
@@ -180,11 +180,11 @@ impl Card {
     {
         let phase = self.phase;
         if !phase.is_quiet() {
-            return self;
+            return self.forgotten();
         }
         let p = self.profile(self.fallback);
         if p.life == Isdp::ENABLED {
-            return self;
+            return self.forgotten();
         }
         self.fallen()
     }

@@ -22,7 +22,7 @@ impl Card {
         let eid = [0u8; 16];
         let none = Isdp::none();
         let places = [none; Card::PLACES];
-        Card::with(eid, 0, 0, 0, 0, 0, Phase::Quiet, places)
+        Card::with(eid, 0, 0, 0, 0, 0, Phase::Quiet, Card::NO_PLACE, places)
     }
 
     // Are the inputs of a fresh card within the sizes?
@@ -46,7 +46,17 @@ impl Card {
         let mut places = [none; Card::PLACES];
         places[0] = Isdp::made(aid, Isdp::ENABLED, quota, used).with_mark(1);
         let free = less(capacity, quota);
-        Card::with(bytes, capacity, volatile, free, 0, 0, Phase::Quiet, places)
+        Card::with(
+            bytes,
+            capacity,
+            volatile,
+            free,
+            0,
+            0,
+            Phase::Quiet,
+            Card::NO_PLACE,
+            places,
+        )
     }
 
     pub fn fresh(

@@ -30,6 +30,8 @@ pub struct Card {
     pub phase: Phase,
     pub last: u16,
     pub fallback: u8,
+    // the place of the first row of a listing not yet given, or `Card::NO_PLACE`
+    pub kept: u8,
     pub eid: [u8; 16],
 }
 
@@ -66,6 +68,9 @@ pub struct Answer {
 
 impl Card {
     pub const PLACES: usize = PLACES;
+
+    // no place of a listing is kept; it is no place's number
+    pub const NO_PLACE: u8 = 255;
 
     pub const WAIT: u8 = 10;
 

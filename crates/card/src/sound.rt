@@ -4,7 +4,7 @@ use crate::Card;
 use crate::Phase;
 use isdp::Isdp;
 ghost use mathlib.Core.Path.{_≡_};
-ghost use Rattle.card.specs.Sound.{sizesOk, placesOk, rolesOk, openOk, phaseOk, sound};
+ghost use Rattle.card.specs.Sound.{sizesOk, placesOk, keptOk, rolesOk, openOk, phaseOk, sound};
 
 fn open_ok(left: u8, number: u16, last: u16) -> bool
     ensures { λ r. ⌜ r ≡ openOk left number last ⌝ }
@@ -28,12 +28,20 @@ impl Card {
             & (places::all_distinct(places) & places::leave(places, self.capacity, self.free))
     }
 
+    // Is no place kept, or a held one?
+    fn kept_ok(self) -> bool
+        ensures { λ r. ⌜ r ≡ keptOk self ⌝ }
+    {
+        let p = self.profile(self.kept);
+        (self.kept == Card::NO_PLACE) | (p.aid.len != 0)
+    }
+
     fn roles_ok(self) -> bool
         ensures { λ r. ⌜ r ≡ rolesOk self ⌝ }
     {
         let places = self.places;
         let p = self.profile(self.fallback);
-        (places::count_enabled(places) == 1) & p.may_be_fall_back()
+        (places::count_enabled(places) == 1) & (p.may_be_fall_back() & self.kept_ok())
     }
 
     fn phase_ok(self) -> bool

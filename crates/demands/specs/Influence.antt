@@ -7,7 +7,7 @@ use mathlib.Core.Bool.{Bool, true, false, not, _&&_}
 use lib.ListN.{set}
 use Rattle.byte_string.specs.Bytes.{sameBytes}
 use Rattle.isdp.specs.LifeCycle.{withUsed}
-use Rattle.card.specs.Cards.{placeOf, profileOf, withPlaces}
+use Rattle.card.specs.Cards.{placeOf, profileOf, over}
 use Rattle.card.specs.Sound.{sound}
 use Rattle.card.specs.declared.Card.{Card}
 use Rattle.manager.specs.Calls.{Call, Call.Command, Call.Keyed, Call.Stored, Call.Finished, Call.Tick, Call.Lost}
@@ -18,7 +18,7 @@ use Rattle.demands.specs.SampleRun.{changing, loaded}
 
 -- the card with u used bytes in the profile that bears this AID; where none does, the card itself
 abbrev pub reuse : List ℕ → ℕ → Card → Card
-reuse name u c = withPlaces c (set (c .places) (placeOf c name) (withUsed (profileOf c name) u))
+reuse name u c = over c (set (c .places) (placeOf c name) (withUsed (profileOf c name) u))
 
 -- two cards differ at most in the used bytes of the profile that bears this AID
 abbrev pub Differ : List ℕ → Card → Card → Type 0

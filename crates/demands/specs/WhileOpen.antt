@@ -13,7 +13,7 @@ use Rattle.manager.specs.Manager.{step}
 
 -- a call that asks this has, whether a change is open or not, the status that it has on the same card in Quiet
 abbrev pub Allowed : Asked → Type 0
-Allowed a = (c : Card) (call : Call) → sound c ≡ true → asked c call ≡ a → step c call .status ≡ step (withPhase c Quiet) call .status
+Allowed a = (c : Card) (call : Call) → sound c ≡ true → asked c call ≡ a → step c call .status ≡ step (inPhase c Quiet) call .status
 
 -- "69 85: a change is open, for create, enable, disable, delete, master delete, set fall-back"; for none of these
 pub record AllowedWhileOpen : Type 0 where

@@ -8,6 +8,9 @@ use Rattle.card.proofs.Card.run_out.Tie as tie
 enum-told : tie.Need-enum-told
 enum-told c = search needs
 
+with-phase-requires : tie.Need-with-phase-requires
+with-phase-requires c κs = search needs
+
 enum-known-phase : tie.Need-enum-known-phase
 enum-known-phase c = search needs
 
@@ -23,12 +26,12 @@ back-over-requires c κs = search needs
 enum-told-3 : tie.Need-enum-told-3
 enum-told-3 c = search needs
 
-with-phase-requires : tie.Need-with-phase-requires
-with-phase-requires c κs = search needs
+with-phase-requires-2 : tie.Need-with-phase-requires-2
+with-phase-requires-2 c κs = search needs
 
 returns : tie.Need-returns
 unfolding tickOf
-returns c = rw (c .enum-told .given .1)
+returns c = rw (c .before .enum-told .given .1) (c .with-phase .ensures)
 
 returns-2 : tie.Need-returns-2
 unfolding tickOf
@@ -46,19 +49,20 @@ returns-4 : tie.Need-returns-4
 unfolding tickOf
 returns-4 c = let e = c .before in
     let g = e .enum-told3 .given .1 in
-    rw (g, ap waits (sym g) ∙ e .before .before .pre) (c .with-phase .ensures)
+    rw (g, ap waits (sym g) ∙ e .before .before .pre) (c .with-phase2 .ensures)
 
 pub run-out-spec : {M : Type 1} → statement M
 run-out-spec =
     tie.close
     (tie.spec
     enum-told
+    with-phase-requires
     enum-known-phase
     trial-over-requires
     enum-told-2
     back-over-requires
     enum-told-3
-    with-phase-requires
+    with-phase-requires-2
     returns
     returns-2
     returns-3
