@@ -4,14 +4,15 @@ use Prim.Native.Nat.{ℕ}
 use mathlib.Core.List.{List}
 use Rattle.isdp.specs.Aids.{padded}
 use Rattle.places.specs.Places.{quotas, countOf}
-use Rattle.responses.specs.Responses.{statusBody, statusRow, rowOf, rowsFrom, statusResponse, oneStatus, dataResponse, deletedResponse}
+use Rattle.responses.specs.Responses.{statusBody, statusRow, rowOf, partFrom, leftFrom, partGiven, leftAfter, oneStatus, dataResponse, deletedResponse}
 use Rattle.responses.specs.Worked.{Worked}
 
 pub worked : (eid : List ℕ) (figure : ℕ) → Worked eid figure
-unfolding statusResponse oneStatus rowsFrom rowOf statusRow statusBody padded dataResponse countOf quotas deletedResponse
+unfolding partGiven leftAfter oneStatus partFrom leftFrom rowOf statusRow statusBody padded dataResponse countOf quotas deletedResponse
 worked eid figure =
     record {
       example-1 = refl;
+      none-left = refl;
       aid-only = refl;
       two-rows = refl;
       named-row = refl;

@@ -17,7 +17,7 @@ use Rattle.card.specs.Sound.{sound}
 use Rattle.card.specs.declared.Card.{Card}
 use Rattle.isdp.proofs.Bools.{and-l, and-r, both}
 use Rattle.card.proofs.Sounds.{parts}
-use Rattle.responses.specs.Responses.{mostRow, aidElement, attributeOf, statusRow, rowOf, rowsFrom, statusResponse, oneStatus, dataResponse, deletedResponse}
+use Rattle.responses.specs.Responses.{mostRow, aidElement, attributeOf, statusRow, rowOf, rowsFrom, listingFrom, listing, oneStatus, dataResponse, deletedResponse}
 use Rattle.responses.proofs.Rows.{body-length, listed-small}
 
 -- the AID's bytes are sixteen at the most, as they are in every record of the code
@@ -42,10 +42,10 @@ rows-length holder place life fallback (p ∷ ps) e =
     let k = rows-length holder (suc place) life fallback ps (and-r (aidFits p) (allOf aidFits ps) e) in
     omega (arith, length-append (rowOf p (attributeOf holder place) life fallback) (rowsFrom holder (suc place) life fallback ps))
 
--- GET STATUS of all, over any number of places
-pub status-length : (c : Card) (life fallback : Bool) → allOf aidFits (c .places) ≡ true → length (statusResponse c life fallback) ≤ mostRow * length (c .places)
-unfolding statusResponse
-status-length c life fallback e = rows-length (c .fallback) 0 life fallback (c .places) e
+-- the one long listing, over any number of places
+pub listing-length : (c : Card) (life fallback : Bool) → allOf aidFits (c .places) ≡ true → length (listing c life fallback) ≤ mostRow * length (c .places)
+unfolding listingFrom
+listing-length c life fallback e = rows-length (c .fallback) 0 life fallback (c .places) e
 
 -- a test that every place passes is passed by the place at any number, where a place that is not held passes it too
 pub all-at : (t : Isdp → Bool) (l : List Isdp) (i : ℕ) → allOf t l ≡ true → t vacant ≡ true → t (at l i) ≡ true
@@ -75,9 +75,9 @@ module _ (c : Card) (e : sound c ≡ true) where
   pub sound-fits : allOf aidFits (c .places) ≡ true
   sound-fits = all-more (placeOk (c .capacity)) aidFits (c .places) (ok-fits (c .capacity)) (parts c e .placed .each)
 
-  pub sound-status-length : (life fallback : Bool) → length (statusResponse c life fallback) ≤ mostRow * mostPlaces
-  sound-status-length life fallback =
-      let h = status-length c life fallback sound-fits in
+  pub sound-listing-length : (life fallback : Bool) → length (listing c life fallback) ≤ mostRow * mostPlaces
+  sound-listing-length life fallback =
+      let h = listing-length c life fallback sound-fits in
       let k = parts c e .sizes .full in
       omega arith
 

@@ -18,7 +18,7 @@ use Rattle.places.proofs.Records.{unread}
 use Rattle.card.specs.Cards.{freeIn}
 use Rattle.card.specs.declared.Card.{Card}
 use Rattle.byte_string.specs.Bytes.{fourBytes}
-use Rattle.responses.specs.Responses.{aidElement, lifeElement, attributeElement, attributeOf, listed, statusBody, statusRow, rowOf, rowsFrom, statusResponse, oneStatus, dataResponse, deletedResponse}
+use Rattle.responses.specs.Responses.{aidElement, lifeElement, attributeElement, attributeOf, listed, statusBody, statusRow, rowOf, rowSize, oneStatus, dataResponse, deletedResponse}
 
 -- as many bytes as the AID has, after their tag and their number
 pub aid-element : (a : Aid) (n : ℕ) → n ≡ length (bytesOf a) → 0x4F ∷ n ∷ take n (a .bytes) ≡ aidElement (bytesOf a)
@@ -65,19 +65,15 @@ pub one-row : (c : Card) (place : ℕ) (life fallback : Bool) (p : Isdp) (attrib
 unfolding oneStatus
 one-row c place life fallback p attribute e f = rw (e, f)
 
--- one turn of the loop over the places, and its end
-pub rows-step : (holder : ℕ) (life fallback : Bool) (l : List Isdp) (i attribute : ℕ) → i < length l → attribute ≡ attributeOf holder i
-    → rowsFrom holder i life fallback (drop i l) ≡ rowOf (getD l i unread) attribute life fallback ++ rowsFrom holder (i + 1) life fallback (drop (i + 1) l)
-unfolding rowsFrom
-rows-step holder life fallback l i attribute h e = rw (drop-cons l i unread, add-one, e)
+-- the bytes that a row takes are as many as it has
+size-case : (p : Isdp) (attribute : ℕ) (life fallback there : Bool) → length (cond there (statusRow p attribute life fallback) []) ≡ cond there (length (aidOf p) + 4 + (cond life 4 0 + cond fallback 3 0)) 0
+unfolding statusRow
+size-case p attribute life fallback true = omega (arith, body-length p attribute life fallback)
+size-case p attribute life fallback false = refl
 
-pub rows-end : (holder : ℕ) (life fallback : Bool) (l : List Isdp) (i : ℕ) → length l ≤ i → rowsFrom holder i life fallback (drop i l) ≡ []
-unfolding rowsFrom
-rows-end holder life fallback l i h = rw (drop-of-length-le l h)
-
-pub status-rows : (c : Card) (life fallback : Bool) → rowsFrom (c .fallback) 0 life fallback (c .places) ≡ statusResponse c life fallback
-unfolding statusResponse
-status-rows c life fallback = refl
+pub row-sized : (p : Isdp) (attribute : ℕ) (life fallback : Bool) → length (rowOf p attribute life fallback) ≡ rowSize p life fallback
+unfolding rowOf
+row-sized p attribute life fallback = size-case p attribute life fallback (held p)
 
 pub data-bytes : (c : Card) (n : ℕ) → n ≡ countOf held (c .places)
     → 0xFF ∷ 0x21 ∷ 0x0F ∷ 0x81 ∷ 1 ∷ n ∷ 0x82 ∷ 4 ∷ fourBytes (freeIn c) ++ (0x83 ∷ 4 ∷ fourBytes (c .volatile)) ≡ dataResponse c

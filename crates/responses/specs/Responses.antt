@@ -1,20 +1,20 @@
 -- Document 01, 'Responses' (000: Tables 28, 29, 63; ETSI TS 102 226 for GET DATA): the bytes of each response.
 -- All is said over a list of places of any length, so that no count of places is written here.
-use Prim.Native.Nat.{ℕ, suc}
+use Prim.Native.Nat.{ℕ, suc, _+_, _-_}
 use Rattle.byte_string.specs.Bytes.{fourBytes}
 use mathlib.Core.List.{List, [], _∷_, _++_}
 use mathlib.Core.Bool.{Bool, cond}
-use lib.ListN.{length}
-use lib.Dec.{eqb}
+use lib.ListN.{length, drop}
+use lib.Dec.{leb, eqb}
 use Rattle.isdp.specs.Aids.{bytesOf, aidOf}
 use Rattle.isdp.specs.Place.{held}
 use Rattle.isdp.specs.declared.Isdp.{Isdp}
 use Rattle.isdp.specs.declared.Aid.{Aid}
 use Rattle.places.specs.Places.{at, countOf}
-use Rattle.card.specs.Cards.{freeIn}
+use Rattle.card.specs.Cards.{noPlace, freeIn}
 use Rattle.card.specs.declared.Card.{Card}
 use Rattle.responses.specs.declared.Information.{Information}
-use Rattle.responses.specs.declared.Information.the-variants.{All, One, Data}
+use Rattle.responses.specs.declared.Information.the-variants.{One, Data}
 
 -- "4F": the AID, with its true length
 abbrev pub aidElement : List ℕ → List ℕ
@@ -52,15 +52,49 @@ mostRow = 27
 unfoldable pub rowOf : Isdp → ℕ → Bool → Bool → List ℕ
 rowOf p attribute life fallback = cond (held p) (statusRow p attribute life fallback) []
 
+-- the bytes that it takes: E3 and its length, 4F and its length, the AID, and the other elements where they are asked
+abbrev pub rowSize : Isdp → Bool → Bool → ℕ
+rowSize p life fallback = cond (held p) (length (aidOf p) + 4 + (cond life 4 0 + cond fallback 3 0)) 0
+
 -- the rows of these places, the first of which has the number `place`
 unfoldable pub rowsFrom : ℕ → ℕ → Bool → Bool → List Isdp → List ℕ
 rowsFrom holder place life fallback [] = []
 rowsFrom holder place life fallback (p ∷ ps) =
     rowOf p (attributeOf holder place) life fallback ++ rowsFrom holder (suc place) life fallback ps
 
--- GET STATUS of all: "for each place from the lowest"
-unfoldable pub statusResponse : Card → Bool → Bool → List ℕ
-statusResponse c life fallback = rowsFrom (c .fallback) 0 life fallback (c .places)
+-- the one long listing, GET STATUS of all without a limit: "for each place from the lowest", and from a place on
+unfoldable pub listingFrom : Card → ℕ → Bool → Bool → List ℕ
+listingFrom c from life fallback = rowsFrom (c .fallback) from life fallback (drop from (c .places))
+
+abbrev pub listing : Card → Bool → Bool → List ℕ
+listing c life fallback = listingFrom c 0 life fallback
+
+-- a response "has at most 255"
+abbrev pub mostResponse : ℕ
+mostResponse = 255
+
+-- request 2026-05: "as many whole rows as fit 255 bytes": of these places, the first of which has the number `place`, in so much room
+unfoldable pub partFrom : ℕ → ℕ → ℕ → Bool → Bool → List Isdp → List ℕ
+partFrom room holder place life fallback [] = []
+partFrom room holder place life fallback (p ∷ ps) =
+    cond (leb (rowSize p life fallback) room)
+    (rowOf p (attributeOf holder place) life fallback ++ partFrom (room - rowSize p life fallback) holder (suc place) life fallback ps)
+    []
+
+-- "the place of the first row not yet given"
+unfoldable pub leftFrom : ℕ → ℕ → ℕ → Bool → Bool → List Isdp → ℕ
+leftFrom room holder place life fallback [] = noPlace
+leftFrom room holder place life fallback (p ∷ ps) =
+    cond (leb (rowSize p life fallback) room)
+    (leftFrom (room - rowSize p life fallback) holder (suc place) life fallback ps)
+    place
+
+-- a part of the listing, from a place on, and the place from which the next one goes on
+unfoldable pub partGiven : Card → ℕ → Bool → Bool → List ℕ
+partGiven c from life fallback = partFrom mostResponse (c .fallback) from life fallback (drop from (c .places))
+
+unfoldable pub leftAfter : Card → ℕ → Bool → Bool → ℕ
+leftAfter c from life fallback = leftFrom mostResponse (c .fallback) from life fallback (drop from (c .places))
 
 -- GET STATUS of one AID, held at this place
 unfoldable pub oneStatus : Card → ℕ → Bool → Bool → List ℕ
@@ -74,9 +108,8 @@ dataResponse c =
     ∷ 0x82 ∷ 4 ∷ fourBytes (freeIn c)
     ++ (0x83 ∷ 4 ∷ fourBytes (c .volatile))
 
--- the response of a command that changes nothing
+-- the response of a command that asks for one row, or for figures
 abbrev pub informationOf : Card → Information → List ℕ
-informationOf c (All life fallback) = statusResponse c life fallback
 informationOf c (One place life fallback) = oneStatus c place life fallback
 informationOf c Data = dataResponse c
 

@@ -7,15 +7,17 @@ use isdp::Isdp;
 use places::PLACES;
 ghost use mathlib.Core.Path.{_≡_};
 ghost use mathlib.Core.Bool.{cond};
-ghost use Prim.Native.Nat.{_+_, _*_, _≤_};
+ghost use Prim.Native.Nat.{_+_, _≤_};
 ghost use lib.ListN.{length};
 ghost use Rattle.byte_string.specs.Bytes.{fourBytes};
 ghost use Rattle.byte_string.specs.Put.{Wrote};
-ghost use Rattle.isdp.specs.Sizes.{mostPlaces};
 ghost use Rattle.isdp.specs.Aids.{bytesOf};
 ghost use Rattle.isdp.specs.Place.{held};
 ghost use Rattle.places.specs.Places.{countOf};
-ghost use Rattle.responses.specs.Responses.{mostRow, aidElement, lifeElement, attributeElement, attributeOf, listed, statusRow, rowOf, statusResponse, oneStatus, dataResponse, informationOf, deletedResponse};
+ghost use Rattle.responses.specs.Responses.{mostRow, aidElement, lifeElement, attributeElement, attributeOf, listed, statusRow, rowOf, rowSize, partGiven, leftAfter, oneStatus, dataResponse, informationOf, deletedResponse};
+
+// A response has at most so many bytes.
+const RESPONSE: usize = 255;
 
 // The number of ISD-Ps, in the one byte that GET DATA has for it.
 pub fn count_held(places: [Isdp; PLACES]) -> u8
@@ -119,21 +121,58 @@ fn write_place(
     write_row(p, attribute, life, fallback, buf, at)
 }
 
-// GET STATUS of all.
-fn write_status(card: Card, life: bool, fallback: bool, buf: &mut [u8], at: usize) -> usize
-    ensures { λ r. ⌜ Wrote (now (buf .entry)) at (statusResponse card life fallback) r (now (buf .exit)) × (length (statusResponse card life fallback) ≤ mostRow * mostPlaces) ⌝ }
+// The bytes that a place's row takes.
+fn row_size(p: Isdp, life: bool, fallback: bool) -> usize
+    ensures { λ r. ⌜ r ≡ rowSize p life fallback ⌝ }
+{
+    let n = p.aid.size();
+    let listed = listed_size(life, fallback);
+    if p.aid.len != 0 {
+        return n + 4 + listed as usize;
+    }
+    0
+}
+
+// A part of a listing as it was written: where it ends, and the place from which the next one goes on.
+pub struct Given {
+    pub end: usize,
+    pub left: u8,
+}
+
+// GET STATUS of all, from a place on: as many whole rows as a response holds.
+pub fn write_part(
+    card: Card,
+    from: u8,
+    life: bool,
+    fallback: bool,
+    buf: &mut [u8],
+    at: usize,
+) -> Given
+    ensures { λ r. ⌜ Wrote (now (buf .entry)) at (partGiven card from life fallback) (r .end) (now (buf .exit)) × (r .left ≡ leftAfter card from life fallback) ⌝ }
 {
     let places = card.places;
     let holder = card.fallback;
-    let mut i = 0;
+    let mut room = RESPONSE;
+    let mut i = from as usize;
     let mut k = at;
     while i < PLACES {
         let p = places[i];
+        let size = row_size(p, life, fallback);
+        if room < size {
+            return Given {
+                end: k,
+                left: i as u8,
+            };
+        }
+        room -= size;
         let attribute = attribute_of(holder, i as u8);
         k = write_place(p, attribute, life, fallback, buf, k);
         i += 1;
     }
-    k
+    Given {
+        end: k,
+        left: Card::NO_PLACE,
+    }
 }
 
 // GET STATUS of the profile at a place.
@@ -178,12 +217,8 @@ fn write_data(card: Card, buf: &mut [u8], at: usize) -> usize
     write_four(card.volatile, buf, j)
 }
 
-// What a command asks that changes nothing.
+// What a command asks that has one response, whatever was given before.
 pub enum Information {
-    All {
-        life: bool,
-        fallback: bool,
-    },
     One {
         place: u8,
         life: bool,
@@ -194,10 +229,9 @@ pub enum Information {
 
 // The response of each, by one door, so that the card of the caller stays whole.
 pub fn write_information(card: Card, asked: Information, buf: &mut [u8], at: usize) -> usize
-    ensures { λ r. ⌜ Wrote (now (buf .entry)) at (informationOf card asked) r (now (buf .exit)) × (length (informationOf card asked) ≤ mostRow * mostPlaces) ⌝ }
+    ensures { λ r. ⌜ Wrote (now (buf .entry)) at (informationOf card asked) r (now (buf .exit)) × (length (informationOf card asked) ≤ mostRow) ⌝ }
 {
     match asked {
-        Information::All { life, fallback } => write_status(card, life, fallback, buf, at),
         Information::One {
             place,
             life,

@@ -1,4 +1,4 @@
--- `responses::write_information`: what is asked names the writer, and each response is as short as the rows of all places.
+-- `responses::write_information`: what is asked names the writer, and each response is as short as a row.
 use native.Mathlib.Omega.{arith}
 use Rattle.responses.proofs.Lengths.{data-length}
 use borrow.Author.Needs.{needs}
@@ -7,16 +7,10 @@ use Rattle.responses.proofs.write_information.Tie as tie
 
 returns : tie.Need-returns
 returns c = let w = c .before .before in
-    rw (w .before .before .before .asked .given .1) (w .write-status .ensures)
+    rw (w .before .before .before .asked .given .1) (w .write-one-status .ensures)
 
 returns-2 : tie.Need-returns-2
 returns-2 c = let w = c .before .before in
-    let e = w .write-one-status .ensures in
-    let k = e .1 in
-    rw (w .before .before .before .asked2 .given .1) (e .0, omega arith)
-
-returns-3 : tie.Need-returns-3
-returns-3 c = let w = c .before .before in
     let told = w .before .before in
     let k = data-length (told .before .before .before .args .card) in
     rw (told .enum-told .given .1) (w .write-data .ensures, omega arith)
@@ -30,10 +24,6 @@ write-information-spec =
     (λ c. search needs)
     (λ c κs. search needs)
     (λ c. search needs)
-    (λ c κs. search needs)
-    (λ c. search needs)
     returns
     (λ c. search needs)
-    returns-2
-    (λ c. search needs)
-    returns-3)
+    returns-2)

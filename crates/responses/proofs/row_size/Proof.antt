@@ -1,0 +1,39 @@
+-- `responses::row_size`: the AID's bytes and the elements asked for, where the place is held.
+use native.Mathlib.Omega.{arith}
+use borrow.Author.Tests.{eq-eqb, ne-eqb}
+use Rattle.responses.proofs.Rows.{listed-small}
+use borrow.Author.Needs.{needs}
+use Rattle.responses.proofs.row_size.Statement.{statement}
+use Rattle.responses.proofs.row_size.Tie as tie
+
+size-requires : tie.Need-size-requires
+size-requires c κs = search needs
+
+listed-size-requires : tie.Need-listed-size-requires
+listed-size-requires c κs = search needs
+
+add-result : tie.Need-add-result
+add-result c = search needs
+
+cast-result : tie.Need-cast-result
+cast-result c = search needs
+
+add-result-2 : tie.Need-add-result-2
+add-result-2 c = let l = c .before .before in
+    let s = l .before .before in
+    let h = listed-small (s .args .life) (s .args .fallback) in
+    omega (arith, l .listed-size .ensures, l .before .size .ensures .1)
+
+returns : tie.Need-returns
+returns c = let l = c .before .before in
+    let s = l .before .before in
+    rw (ne-eqb (s .args .p .aid .len) 0 (c .if1 .taken), l .listed-size .ensures, l .before .size .ensures .0)
+
+returns-2 : tie.Need-returns-2
+returns-2 c = let s = c .before .before .before .before in
+    rw (eq-eqb (s .args .p .aid .len) 0 (c .if1 .left))
+
+pub row-size-spec : {M : Type 1} → statement M
+row-size-spec =
+    tie.close
+    (tie.spec size-requires listed-size-requires add-result cast-result add-result-2 returns returns-2)
