@@ -4,7 +4,7 @@ use mathlib.Core.Path.{_≡_, refl, sym}
 use Prim.Native.Nat.{ℕ, _+_, _≤_}
 use native.Mathlib.Omega.{arith}
 use mathlib.Core.List.{List}
-use mathlib.Core.Bool.{true, false, not, _&&_, false≢true}
+use mathlib.Core.Bool.{Bool, true, false, not, _&&_, false≢true, or-true}
 use lib.Dec.{ltb, eqb}
 use borrow.Author.Tests.{eqb-true, leb-true, ltb-true, not-true, not-false}
 use Rattle.isdp.specs.Sizes.{mostPlaces}
@@ -14,18 +14,20 @@ use Rattle.isdp.specs.Provisioning.{markOk}
 use Rattle.isdp.specs.LifeCycle.{disabled, personalized, isEnabled}
 use Rattle.isdp.proofs.Bools.{and-l, and-r, or-l, or-r}
 use Rattle.places.specs.Places.{at}
-use Rattle.card.specs.Cards.{isQuiet, placeOf, profileOf, freePlace, freeIn, mayBeDeleted, cleared}
+use Rattle.card.specs.Cards.{noPlace, keeping, forgotten, isQuiet, placeOf, profileOf, freePlace, freeIn, mayBeDeleted, cleared}
 use Rattle.card.specs.Clock.{opened}
-use Rattle.card.specs.Sound.{sound}
+use Rattle.card.specs.Sound.{keptOk, sound}
 use Rattle.card.specs.Steps.{tickStep, lostStep, confirmStep}
 use Rattle.card.specs.declared.Card.{Card}
 use Rattle.card.specs.declared.Phase.{Phase}
 use Rattle.card.specs.declared.Phase.the-variants.{Quiet, Trial, Back, Fallen}
-use Rattle.card.proofs.Sounds.{parts, whole, tick-sound, lost-sound}
+use Rattle.card.proofs.Sounds.{parts, whole, keeps-place, forgets, tick-sound, lost-sound}
 use Rattle.card.proofs.Deletions.{by-delete-too}
 use Rattle.card.proofs.Rewrites.{deletes, refalls, confirm-sound}
 use Rattle.steps.specs.Asked.{Act, Act.enable, Act.disable, Act.delete, Act.masterDelete, Act.setFallBack, Act.status, Act.keyed, Act.stored, Act.finished, Asked, Asked.unread, Asked.create, Asked.on, Asked.confirm, Asked.statusOfAll, Asked.getData, Asked.tick, Asked.lost}
-use Rattle.steps.specs.Steps.{stepOf}
+use Rattle.responses.specs.Responses.{leftAfter}
+use Rattle.responses.proofs.Parts.{Given, Given.all, Given.some, given}
+use Rattle.steps.specs.Steps.{stepOf, beginsAt, goesOnAt}
 use Rattle.steps.proofs.Rows.{Passed}
 use Rattle.steps.proofs.Inner.{keyed-at, stored-at, finished-at}
 use Rattle.steps.proofs.Opens.{opens, fallback-life}
@@ -54,7 +56,7 @@ Legal c unread = Unit {0}
 Legal c (create aid quota) = Sizes c aid quota
 Legal c (on aid act) = LegalAct act
 Legal c (confirm number) = Unit {0}
-Legal c (statusOfAll life fallback) = Unit {0}
+Legal c (statusOfAll next life fallback) = Unit {0}
 Legal c getData = Unit {0}
 Legal c tick = Unit {0}
 Legal c lost = Unit {0}
@@ -65,6 +67,17 @@ quietly Quiet e = refl
 quietly (Trial q l n) e = absurd (false≢true (sym e))
 quietly (Back l n) e = absurd (false≢true (sym e))
 quietly (Fallen l n) e = absurd (false≢true (sym e))
+
+idle-kept : (c : Card) → sound c ≡ true → sound (forgotten c) ≡ true
+idle-kept c s = whole _ (forgets c (parts c s))
+
+-- the place that a part leaves is held, or none is
+left-case : (c : Card) (life fallback : Bool) (from : ℕ) (part : List ℕ) (left : ℕ) → Given c life fallback from part left → keptOk (keeping c left) ≡ true
+left-case c life fallback from part left (all e) = refl
+left-case c life fallback from part left (some w e) = rw (w .there) (or-true (eqb left noPlace))
+
+pub left-kept : (c : Card) (life fallback : Bool) (from : ℕ) → keptOk (keeping c (leftAfter c from life fallback)) ≡ true
+left-kept c life fallback from = left-case c life fallback from _ _ (given c life fallback from)
 
 module _ (c : Card) (aid : List ℕ) (s : sound c ≡ true) where
   opens-kept : (t : ℕ) → at (c .places) t .life ≡ disabled → sound (opened c t) ≡ true
@@ -81,7 +94,7 @@ module _ (c : Card) (aid : List ℕ) (s : sound c ≡ true) where
   act-kept delete h p = delete-kept (p .change) (not-false _ (p .state))
   act-kept (masterDelete verdict) h p = delete-kept (p .change) (by-delete-too c (placeOf c aid) (not-false _ (p .state)))
   act-kept setFallBack h p = whole _ (refalls c (placeOf c aid) (parts c s) (quietly (c .phase) (p .change)) (not-false _ (p .state)))
-  act-kept (status life fallback) h p = s
+  act-kept (status life fallback) h p = idle-kept c s
   act-kept keyed h p = whole _ (keyed-at c (placeOf c aid) (parts c s) (eqb-true _ _ (not-false _ (p .state))))
   act-kept (stored n) h p =
       whole _ (stored-at c (placeOf c aid) (profileOf c aid .used + n) (parts c s) (eqb-true _ _ (not-false _ (p .state))) (not-false _ (p .room)))
@@ -99,11 +112,11 @@ module _ (c : Card) (aid : List ℕ) (s : sound c ≡ true) where
 -- "keeps": the card after every accepted call is sound
 pub step-kept : (c : Card) (a : Asked) → Legal c a → sound c ≡ true → Passed c a → sound (stepOf c a .card) ≡ true
 unfolding tickStep lostStep confirmStep
-step-kept c unread h s p = s
+step-kept c unread h s p = idle-kept c s
 step-kept c (create aid quota) h s p = create-kept c aid s quota h p
 step-kept c (on aid act) h s p = act-kept c aid s act h p
 step-kept c (confirm number) h s p = confirm-sound c s
-step-kept c (statusOfAll life fallback) h s p = s
-step-kept c getData h s p = s
+step-kept c (statusOfAll next life fallback) h s p = whole _ (keeps-place c (goesOnAt c next life fallback) (parts c s) (left-kept c life fallback (beginsAt c next)))
+step-kept c getData h s p = idle-kept c s
 step-kept c tick h s p = tick-sound c s
 step-kept c lost h s p = lost-sound c s

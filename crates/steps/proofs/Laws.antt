@@ -6,7 +6,7 @@ use Rattle.steps.proofs.Laws.Change.{enable-law, disable-law}
 use Rattle.steps.proofs.Laws.Deletion.{delete-law, master-delete-law}
 use Rattle.steps.proofs.Laws.FallBack.{set-fall-back-law}
 use Rattle.steps.proofs.Laws.Confirmation.{confirmation-law}
-use Rattle.steps.proofs.Laws.Reports.{status-of-all-law, status-of-one-law, get-data-law}
+use Rattle.steps.proofs.Laws.Reports.{status-of-all-law, status-of-next-law, status-of-one-law, get-data-law}
 use Rattle.steps.proofs.Laws.Clock.{tick-law, lost-law}
 pub mod Places
 pub mod Answer
@@ -34,6 +34,7 @@ call-laws =
       set-fall-back = set-fall-back-law;
       confirmation = confirmation-law;
       status-of-all = status-of-all-law;
+      status-of-next = status-of-next-law;
       status-of-one = status-of-one-law;
       get-data = get-data-law;
       tick = tick-law;

@@ -27,7 +27,8 @@ pub data Asked : Type 0 where
   on : List ℕ → Act → Asked
   -- the number
   confirm : ℕ → Asked
-  statusOfAll : Bool → Bool → Asked
+  -- GET STATUS of all: does it go on from the kept place (P2 03), is 9F70 listed, is 53 listed
+  statusOfAll : Bool → Bool → Bool → Asked
   getData : Asked
   tick : Asked
   lost : Asked
@@ -53,7 +54,7 @@ onTarget other f unread = other
 onTarget other f (create aid quota) = other
 onTarget other f (on aid act) = f aid act
 onTarget other f (confirm number) = other
-onTarget other f (statusOfAll life fallback) = other
+onTarget other f (statusOfAll next life fallback) = other
 onTarget other f getData = other
 onTarget other f tick = other
 onTarget other f lost = other

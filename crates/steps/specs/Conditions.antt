@@ -13,7 +13,7 @@ use Rattle.isdp.specs.LifeCycle.{selectable, personalized, disabled, isEnabled}
 use Rattle.isdp.specs.Provisioning.{markOk, mayBeFallBack}
 use Rattle.isdp.specs.Place.{held}
 use Rattle.places.specs.Places.{at}
-use Rattle.card.specs.Cards.{isQuiet, placeOf, profileOf, enabledPlace, freePlace, freeIn, mayBeDeleted, mayBeMasterDeleted}
+use Rattle.card.specs.Cards.{noPlace, isQuiet, placeOf, profileOf, enabledPlace, freePlace, freeIn, mayBeDeleted, mayBeMasterDeleted}
 use Rattle.card.specs.Clock.{outstanding}
 use Rattle.card.specs.declared.Card.{Card}
 use Rattle.steps.specs.Asked.{Act, Act.enable, Act.disable, Act.delete, Act.masterDelete, Act.setFallBack, Act.status, Act.keyed, Act.stored, Act.finished, Asked, Asked.unread, Asked.create, Asked.on, Asked.confirm, Asked.statusOfAll, Asked.getData, Asked.tick, Asked.lost}
@@ -48,18 +48,19 @@ changeWrong c unread = false
 changeWrong c (create aid quota) = not (isQuiet (c .phase))
 changeWrong c (on aid act) = asksForQuiet act && not (isQuiet (c .phase))
 changeWrong c (confirm number) = isQuiet (c .phase)
-changeWrong c (statusOfAll life fallback) = false
+changeWrong c (statusOfAll next life fallback) = false
 changeWrong c getData = false
 changeWrong c tick = false
 changeWrong c lost = false
 
--- "6A 88: target AID not held (all but create); confirmation not of the outstanding number"
+-- "6A 88: target AID not held (all but create); confirmation not of the outstanding number"; request 2026-05: P2 03 "with no listing open 6A 88
+-- in the target's place"
 abbrev pub targetMissing : Card → Asked → Bool
 targetMissing c unread = false
 targetMissing c (create aid quota) = false
 targetMissing c (on aid act) = not (held (profileOf c aid))
 targetMissing c (confirm number) = not (outstanding (c .phase) number)
-targetMissing c (statusOfAll life fallback) = false
+targetMissing c (statusOfAll next life fallback) = next && eqb (c .kept) noPlace
 targetMissing c getData = false
 targetMissing c tick = false
 targetMissing c lost = false
@@ -70,7 +71,7 @@ alreadyHeld c unread = false
 alreadyHeld c (create aid quota) = held (profileOf c aid)
 alreadyHeld c (on aid act) = false
 alreadyHeld c (confirm number) = false
-alreadyHeld c (statusOfAll life fallback) = false
+alreadyHeld c (statusOfAll next life fallback) = false
 alreadyHeld c getData = false
 alreadyHeld c tick = false
 alreadyHeld c lost = false
@@ -94,7 +95,7 @@ stateWrong c unread = false
 stateWrong c (create aid quota) = false
 stateWrong c (on aid act) = actStateWrong c aid act
 stateWrong c (confirm number) = false
-stateWrong c (statusOfAll life fallback) = false
+stateWrong c (statusOfAll next life fallback) = false
 stateWrong c getData = false
 stateWrong c tick = false
 stateWrong c lost = false
@@ -116,7 +117,7 @@ policyForbids c unread = false
 policyForbids c (create aid quota) = false
 policyForbids c (on aid act) = actForbidden c aid act
 policyForbids c (confirm number) = false
-policyForbids c (statusOfAll life fallback) = false
+policyForbids c (statusOfAll next life fallback) = false
 policyForbids c getData = false
 policyForbids c tick = false
 policyForbids c lost = false
@@ -138,12 +139,12 @@ verdictWrong unread = false
 verdictWrong (create aid quota) = false
 verdictWrong (on aid act) = actVerdictWrong act
 verdictWrong (confirm number) = false
-verdictWrong (statusOfAll life fallback) = false
+verdictWrong (statusOfAll next life fallback) = false
 verdictWrong getData = false
 verdictWrong tick = false
 verdictWrong lost = false
 
--- "6A 84: create: 8 held, or quota over free; stored: used + n over quota"
+-- "6A 84: create: 8 held, or quota over free; stored: used + n over quota"; request 2026-05: 32 held
 abbrev pub actNoRoom : Card → List ℕ → Act → Bool
 actNoRoom c aid enable = false
 actNoRoom c aid disable = false
@@ -160,7 +161,7 @@ noRoom c unread = false
 noRoom c (create aid quota) = not (ltb (freePlace c) mostPlaces) || not (leb quota (freeIn c))
 noRoom c (on aid act) = actNoRoom c aid act
 noRoom c (confirm number) = false
-noRoom c (statusOfAll life fallback) = false
+noRoom c (statusOfAll next life fallback) = false
 noRoom c getData = false
 noRoom c tick = false
 noRoom c lost = false

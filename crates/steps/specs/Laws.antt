@@ -6,7 +6,7 @@ use Rattle.steps.specs.Laws.Deletion.{DeleteLaw, MasterDeleteLaw}
 use Rattle.steps.specs.Laws.FallBack.{SetFallBackLaw}
 use Rattle.steps.specs.Laws.Confirmation.{ConfirmationLaw}
 use Rattle.steps.specs.Laws.Clock.{TickLaw, LostLaw}
-use Rattle.steps.specs.Laws.Reports.{StatusOfAllLaw, StatusOfOneLaw, GetDataLaw}
+use Rattle.steps.specs.Laws.Reports.{StatusOfAllLaw, StatusOfNextLaw, StatusOfOneLaw, GetDataLaw}
 pub mod Answer
 pub mod Create
 pub mod Loading
@@ -30,6 +30,7 @@ pub record CallLaws : Type 0 where
   pub set-fall-back : SetFallBackLaw
   pub confirmation : ConfirmationLaw
   pub status-of-all : StatusOfAllLaw
+  pub status-of-next : StatusOfNextLaw
   pub status-of-one : StatusOfOneLaw
   pub get-data : GetDataLaw
   pub tick : TickLaw

@@ -2,27 +2,41 @@
 use Prim.Native.Nat.{ℕ, _+_}
 use mathlib.Core.List.{List, [], _∷_}
 use mathlib.Core.Path.{_≡_}
+use mathlib.Core.Bool.{Bool, cond}
+use lib.Dec.{eqb}
 use Rattle.status.specs.Rows.{row}
 use Rattle.status.specs.declared.Status.{Status}
-use Rattle.status.specs.declared.Status.the-variants.{DataWrong, Done}
+use Rattle.status.specs.declared.Status.the-variants.{DataWrong, More, Done}
 use Rattle.isdp.specs.Aids.{noAid}
 use Rattle.isdp.specs.LifeCycle.{selectable, personalized, withLife, withUsed, finish}
 use Rattle.isdp.specs.Place.{made}
-use Rattle.card.specs.Cards.{placeOf, profileOf, freePlace, filled, cleared, rewritten, withFallback}
+use Rattle.card.specs.Cards.{noPlace, keeping, forgotten, placeOf, profileOf, freePlace, filled, cleared, rewritten, withFallback}
 use Rattle.card.specs.Clock.{opened}
 use Rattle.card.specs.Steps.{stepTo, tickStep, lostStep, confirmStep}
 use Rattle.card.specs.Answers.{Outcome, Work, handed}
 use Rattle.card.specs.declared.Card.{Card}
 use Rattle.card.specs.declared.Step.{Step}
 use Rattle.card.specs.declared.Answer.{Answer}
-use Rattle.responses.specs.Responses.{statusResponse, oneStatus, dataResponse, deletedResponse}
+use Rattle.responses.specs.Responses.{partGiven, leftAfter, oneStatus, dataResponse, deletedResponse}
 use Rattle.byte_string.specs.Put.{put}
 use Rattle.steps.specs.Asked.{Act, Act.enable, Act.disable, Act.delete, Act.masterDelete, Act.setFallBack, Act.status, Act.keyed, Act.stored, Act.finished, Asked, Asked.unread, Asked.create, Asked.on, Asked.confirm, Asked.statusOfAll, Asked.getData, Asked.tick, Asked.lost}
 use Rattle.steps.specs.Conditions.{innerWrong, cardRows}
 
--- nothing changes
+-- nothing changes, but that a listing is forgotten
 abbrev pub still : Card → Step
-still c = stepTo c c noAid
+still c = stepTo c (forgotten c) noAid
+
+-- where a listing begins: at the lowest place, and with P2 03 at the kept one
+abbrev pub beginsAt : Card → Bool → ℕ
+beginsAt c next = cond next (c .kept) 0
+
+-- the place from which it then goes on
+abbrev pub goesOnAt : Card → Bool → Bool → Bool → ℕ
+goesOnAt c next life fallback = leftAfter c (beginsAt c next) life fallback
+
+-- "as many whole rows as fit 255 bytes with 63 10": 90 00 where none is left
+abbrev pub partWord : ℕ → Status
+partWord left = cond (eqb left noPlace) Done More
 
 abbrev pub actStep : Card → List ℕ → Act → Step
 -- "Enable: .. They trade states; Trial."
@@ -46,7 +60,8 @@ stepOf c unread = still c
 stepOf c (create aid quota) = stepTo c (filled c (freePlace c) (made aid selectable quota 0)) noAid
 stepOf c (on aid act) = actStep c aid act
 stepOf c (confirm number) = confirmStep c
-stepOf c (statusOfAll life fallback) = still c
+-- "The card keeps the place of the first row not yet given"
+stepOf c (statusOfAll next life fallback) = stepTo c (keeping c (goesOnAt c next life fallback)) noAid
 stepOf c getData = still c
 stepOf c tick = tickStep c
 stepOf c lost = lostStep c
@@ -68,14 +83,21 @@ responseOf c unread = []
 responseOf c (create aid quota) = 0x00 ∷ []
 responseOf c (on aid act) = actResponse c aid act
 responseOf c (confirm number) = deletedResponse (confirmStep c .deleted)
-responseOf c (statusOfAll life fallback) = statusResponse c life fallback
+responseOf c (statusOfAll next life fallback) = partGiven c (beginsAt c next) life fallback
 responseOf c getData = dataResponse c
 responseOf c tick = []
 responseOf c lost = []
 
--- "Otherwise 90 00": the word of success
+-- "Otherwise 90 00": the word of success; of a listing "63 10 is a success" too
 abbrev pub successOf : Card → Asked → Status
-successOf c a = Done
+successOf c unread = Done
+successOf c (create aid quota) = Done
+successOf c (on aid act) = Done
+successOf c (confirm number) = Done
+successOf c (statusOfAll next life fallback) = partWord (goesOnAt c next life fallback)
+successOf c getData = Done
+successOf c tick = Done
+successOf c lost = Done
 
 abbrev pub askedWork : Card → Asked → Work
 askedWork c a = record { rows = cardRows c a; success = successOf c a; step = stepOf c a; response = responseOf c a }

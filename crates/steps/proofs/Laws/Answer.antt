@@ -22,22 +22,22 @@ use Rattle.isdp.specs.declared.Isdp.{Isdp}
 use Rattle.places.specs.Places.{at, seek, enableAt}
 use Rattle.places.proofs.Lives.{enable-lives, lives-at, lives-length, enable-at, enable-one}
 use Rattle.places.proofs.Seeks.{enabled-at}
-use Rattle.card.specs.Cards.{placeOf, inState, withRoom, withPhase}
+use Rattle.card.specs.Cards.{noPlace, keeping, forgotten, placeOf, inState, withRoom, withPhase}
 use Rattle.card.specs.Clock.{nextOf, moved}
-use Rattle.card.specs.Sound.{sound}
+use Rattle.card.specs.Sound.{keptOk, sound}
 use Rattle.card.specs.Steps.{stepTo}
-use Rattle.card.specs.Ticks.{stepsIn, ticksToCome}
+use Rattle.card.specs.Ticks.{stepsIn, ticksToCome, ticksIn, ticksByPhase}
 use Rattle.card.specs.Notifications.{kindOf, silent, noticeSince}
 use Rattle.card.specs.Answers.{Outcome, Work, accepted, settle, soundRow, outcome}
 use Rattle.card.specs.declared.Card.{Card}
 use Rattle.card.specs.declared.Phase.{Phase}
-use Rattle.card.specs.declared.Phase.the-variants.{Quiet}
+use Rattle.card.specs.declared.Phase.the-variants.{Quiet, Trial, Back, Fallen}
 use Rattle.card.proofs.Counts.{counted}
 use Rattle.card.proofs.Outcomes.{took}
-use Rattle.card.proofs.Sounds.{Sound, parts}
+use Rattle.card.proofs.Sounds.{Sound, parts, whole, keeps-place}
 use Rattle.steps.specs.Asked.{Act, Asked, Asked.on}
 use Rattle.steps.specs.Conditions.{innerWrong, changeWrong, stateWrong, policyForbids, verdictWrong, noRoom, cardRows}
-use Rattle.steps.specs.Steps.{actStep, actResponse, stepOf, responseOf, askedWork, innerWork}
+use Rattle.steps.specs.Steps.{actStep, actResponse, stepOf, responseOf, successOf, askedWork, innerWork}
 use Rattle.steps.specs.Laws.Answer.{Result, profileAt, Holds, Enabled, Answers, Still, OnPlace, onlyAt, replaced, rephased, entered}
 use Rattle.steps.proofs.Rows.{Passed, named}
 use Rattle.steps.proofs.Opens.{only}
@@ -45,30 +45,34 @@ use Rattle.steps.proofs.Laws.Places.{place-is, holds, set-places, trade
 
 -- a call is taken exactly where its rows pass
 module _ (c : Card) (w : Work) where
-  work-passed : proper (w .rows) ≡ true → outcome c w .status ≡ Done → rows.Passed (w .rows)
+  work-passed : proper (w .rows) ≡ true → isDone (outcome c w .status) ≡ true → rows.Passed (w .rows)
   work-passed p e =
-      passed (w .success) (soundRow c ∷ w .rows) p (took c (wordOf (w .success) (soundRow c ∷ w .rows)) (w .step) (w .response) (ap isDone e) .0) .1
+      passed (w .success) (soundRow c ∷ w .rows) p (took c (wordOf (w .success) (soundRow c ∷ w .rows)) (w .step) (w .response) e .0) .1
 
-  step-taken : sound c ≡ true → w .success ≡ Done → rows.Passed (w .rows) → outcome c w ≡ accepted Done (w .step) (w .response)
-  step-taken s d p =
-      ap (λ (x : Status). settle c x (w .step) (w .response)) (no-row (w .success) (soundRow c ∷ w .rows) (ap not s, p) ∙ d)
+  step-taken : (word : Status) → isDone word ≡ true → sound c ≡ true → w .success ≡ word → rows.Passed (w .rows) → outcome c w ≡ accepted word (w .step) (w .response)
+  step-taken word q s d p =
+      ap (λ (x : Status). settle c x (w .step) (w .response)) (no-row (w .success) (soundRow c ∷ w .rows) (ap not s, p) ∙ d) ∙ rw q
 
 module _ (c : Card) (a : Asked) where
-  pub asked-passed : outcome c (askedWork c a) .status ≡ Done → Passed c a
+  pub asked-passed : isDone (outcome c (askedWork c a) .status) ≡ true → Passed c a
   asked-passed e = named c a (work-passed c (askedWork c a) refl e)
 
   unnamed : Passed c a → rows.Passed (cardRows c a)
   unnamed p = (p .change, (p .target, (p .already, (p .state, (p .policy, (p .verdict, (p .room, tt)))))))
 
-  pub asked-taken : sound c ≡ true → Passed c a → outcome c (askedWork c a) ≡ accepted Done (stepOf c a) (responseOf c a)
-  asked-taken s p = step-taken c (askedWork c a) s refl (unnamed p)
+  -- with its word of success
+  pub asked-taken-as : (word : Status) → isDone word ≡ true → successOf c a ≡ word → sound c ≡ true → Passed c a → outcome c (askedWork c a) ≡ accepted word (stepOf c a) (responseOf c a)
+  asked-taken-as word q d s p = step-taken c (askedWork c a) word q s d (unnamed p)
+
+  pub asked-taken : successOf c a ≡ Done → sound c ≡ true → Passed c a → outcome c (askedWork c a) ≡ accepted Done (stepOf c a) (responseOf c a)
+  asked-taken d s p = asked-taken-as Done refl d s p
 
 -- a call on one target: its rows ask that the AID is held, so its place is the one that the search finds
 module _ (c : Card) (aid : List ℕ) (act : Act) (May : ℕ → Type 0) (Answered : ℕ → Outcome → Type 0) (s : sound c ≡ true) where
   abbrev t : ℕ
   t = placeOf c aid
 
-  target : (o : Outcome) → (o .status ≡ Done → Passed c (on aid act) × May t) → (Holds c aid t → May t → Answered t o) → OnPlace (Holds c aid) May Answered o
+  target : (o : Outcome) → (isDone (o .status) ≡ true → Passed c (on aid act) × May t) → (Holds c aid t → May t → Answered t o) → OnPlace (Holds c aid) May Answered o
   target o f g =
       record {
         some-place = λ e. (t, holds c aid (not-false _ (f e .0 .target)));
@@ -85,14 +89,14 @@ module _ (c : Card) (aid : List ℕ) (act : Act) (May : ℕ → Type 0) (Answere
   pub command-law : (Passed c (on aid act) → May t) → (Holds c aid t → May t → Passed c (on aid act) × Answered t (accepted Done (actStep c aid act) (actResponse c aid act))) → OnPlace (Holds c aid) May Answered (outcome c (askedWork c (on aid act)))
   command-law f g =
       target (outcome c (askedWork c (on aid act))) (λ e. let p = asked-passed c (on aid act) e in (p, f p))
-      (λ h m. let r = g h m in subst (Answered t) (sym (asked-taken c (on aid act) s (r .0))) (r .1))
+      (λ h m. let r = g h m in subst (Answered t) (sym (asked-taken c (on aid act) refl s (r .0))) (r .1))
 
   -- of an inner call: the row of its values stands before them
   pub inner-law : (innerWrong aid act ≡ false → Passed c (on aid act) → May t) → (Holds c aid t → May t → (innerWrong aid act ≡ false) × Passed c (on aid act) × Answered t (accepted Done (actStep c aid act) (actResponse c aid act))) → OnPlace (Holds c aid) May Answered (outcome c (innerWork c aid act))
   inner-law f g =
       target (outcome c (innerWork c aid act))
       (λ e. let r = work-passed c (innerWork c aid act) refl e in let p = named c (on aid act) (r .1) in (p, f (r .0) p))
-      (λ h m. let r = g h m in subst (Answered t) (sym (step-taken c (innerWork c aid act) s refl (r .0, unnamed c (on aid act) (r .1)))) (r .2))
+      (λ h m. let r = g h m in subst (Answered t) (sym (step-taken c (innerWork c aid act) Done refl s refl (r .0, unnamed c (on aid act) (r .1)))) (r .2))
 
 -- the rows of a call whose target is held
 pub held-passes : (c : Card) (aid : List ℕ) (act : Act) → Holds c aid (placeOf c aid) → changeWrong c (on aid act) ≡ false → stateWrong c (on aid act) ≡ false → policyForbids c (on aid act) ≡ false → verdictWrong (on aid act) ≡ false → noRoom c (on aid act) ≡ false → Passed c (on aid act)
@@ -125,6 +129,7 @@ answers c r l gone m f n q =
       last = refl;
       fallback = refl;
       phase = refl;
+      forgets = refl;
       as-many = m;
       places = f;
       response = refl;
@@ -132,10 +137,23 @@ answers c r l gone m f n q =
       ticks = q;
     }
 
+-- the ticks to come ask nothing of the kept place
+ticks-unkept : (c : Card) (i : ℕ) (p : Phase) → ticksIn p (keeping c i) ≡ ticksIn p c
+ticks-unkept c i Quiet = refl
+ticks-unkept c i (Trial previous left number) = refl
+ticks-unkept c i (Back left number) = refl
+ticks-unkept c i (Fallen left number) = refl
+
 module _ (c : Card) where
-  pub still : (bytes : List ℕ) → sound c ≡ true → Still c bytes (accepted Done (stepTo c c noAid) bytes)
+  -- only the kept place is new: the ticks are those of the card as it was
+  pub same-ticks : (i : ℕ) → Sound c → keptOk (keeping c i) ≡ true → ticksToCome (keeping c i) ≡ ticksByPhase c
+  unfolding ticksByPhase
+  same-ticks i s k = counted (keeping c i) (whole _ (keeps-place c i s k)) ∙ ticks-unkept c i (c .phase)
+
+  pub still : (bytes : List ℕ) → sound c ≡ true → Still c bytes (accepted Done (stepTo c (forgotten c) noAid) bytes)
   unfolding accepted
-  still bytes s = record { status = refl; card = refl; response = refl; notification = no-notice c c refl; ticks = counted c s }
+  still bytes s =
+      record { status = refl; card = refl; response = refl; notification = no-notice c (forgotten c) refl; ticks = same-ticks noPlace (parts c s) refl }
 
   pub rewrites : (t : ℕ) (p : Isdp) (free : ℕ) (bytes : List ℕ) (ticks : ℕ) → t < length (c .places) → ticksToCome (withRoom c free (set (c .places) t p)) ≡ ticks → Answers c (replaced c free (onlyAt c t p) bytes ticks) (accepted Done (stepTo c (withRoom c free (set (c .places) t p)) noAid) bytes)
   rewrites t p free bytes ticks h q =

@@ -13,7 +13,7 @@ use Rattle.isdp.specs.Aids.{noAid}
 use Rattle.isdp.specs.LifeCycle.{disabled}
 use Rattle.places.specs.Places.{at}
 use Rattle.places.proofs.Lives.{within}
-use Rattle.card.specs.Cards.{isQuiet, onFallback, withPhase}
+use Rattle.card.specs.Cards.{isQuiet, onFallback, forgotten, withPhase}
 use Rattle.card.specs.Clock.{nextOf, moved, fallen, tickIn, tickOf, lostOf}
 use Rattle.card.specs.Sound.{sound}
 use Rattle.card.specs.Steps.{stepTo, tickStep, lostStep}
@@ -99,14 +99,14 @@ module _ (c : Card) (e : ℕ) (s : sound c ≡ true) (v : Enabled c e) where
 pub tick-law : TickLaw
 unfolding tickStep tickOf accepted
 tick-law c s =
-    let r = asked-taken c tick s (record { change = refl; target = refl; already = refl; state = refl; policy = refl; verdict = refl; room = refl }) in
+    let r = asked-taken c tick refl s (record { change = refl; target = refl; already = refl; state = refl; policy = refl; verdict = refl; room = refl }) in
     record {
       status = ap (λ (o : Outcome). o .status) r;
       ticked = λ e v. subst (TickedIn (c .phase) c e) (sym r) (ticked c e s v (c .phase) refl (parts c s .phased) (tick-sound c s));
     }
 
 -- lost, where the phase and the enabled profile are known
-lost-as : (c : Card) (quiet on : Bool) → isQuiet (c .phase) ≡ quiet → onFallback c ≡ on → lostOf c ≡ cond quiet (cond on c (fallen c)) c
+lost-as : (c : Card) (quiet on : Bool) → isQuiet (c .phase) ≡ quiet → onFallback c ≡ on → lostOf c ≡ cond quiet (cond on (forgotten c) (fallen c)) (forgotten c)
 unfolding lostOf
 lost-as c quiet on q f = rw (q, f)
 
@@ -116,7 +116,7 @@ open-is (Trial previous left number) n = refl
 open-is (Back left number) n = refl
 open-is (Fallen left number) n = refl
 
-either : (c : Card) (b : Bool) → isQuiet (c .phase) ≡ b → onFallback c ≡ true → lostOf c ≡ c
+either : (c : Card) (b : Bool) → isQuiet (c .phase) ≡ b → onFallback c ≡ true → lostOf c ≡ forgotten c
 either c true q f = lost-as c true true q f
 either c false q f = lost-as c false true q f
 
@@ -124,8 +124,8 @@ pub lost-law : LostLaw
 unfolding lostStep accepted
 lost-law c s =
     let w = parts c s in
-    let r = asked-taken c lost s (record { change = refl; target = refl; already = refl; state = refl; policy = refl; verdict = refl; room = refl }) in
-    let nothing : lostOf c ≡ c → Still c [] (outcome c (askedWork c lost)) = λ q. subst (Still c []) (sym r) (rw q (still c [] s)) in
+    let r = asked-taken c lost refl s (record { change = refl; target = refl; already = refl; state = refl; policy = refl; verdict = refl; room = refl }) in
+    let nothing : lostOf c ≡ forgotten c → Still c [] (outcome c (askedWork c lost)) = λ q. subst (Still c []) (sym r) (rw q (still c [] s)) in
     record {
       status = ap (λ (o : Outcome). o .status) r;
       away =

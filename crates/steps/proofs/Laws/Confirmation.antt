@@ -75,7 +75,7 @@ module _ (c : Card) (number : ℕ) (s : sound c ≡ true) where
         only-where = λ d. eqb-true _ _ (sym f ∙ not-false _ (asked-passed c (confirm number) d .target));
         where-may =
             λ m.
-            let r = asked-taken c (confirm number) s (record { change = ap isQuiet e ∙ o; target = ap not (f ∙ eq-eqb _ _ m); already = refl; state = refl; policy = refl; verdict = refl; room = refl }) in
+            let r = asked-taken c (confirm number) refl s (record { change = ap isQuiet e ∙ o; target = ap not (f ∙ eq-eqb _ _ m); already = refl; state = refl; policy = refl; verdict = refl; room = refl }) in
             subst Answered (sym (r ∙ by-phase p e)) a;
       }
 

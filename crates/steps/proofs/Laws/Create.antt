@@ -102,7 +102,7 @@ create-law c aid quota s =
             where-may =
                 λ m.
                 let new = made aid selectable quota 0 in
-                let r = asked-taken c (create aid quota) s (rows-pass c aid quota s (omega arith) m) in
+                let r = asked-taken c (create aid quota) refl s (rows-pass c aid quota s (omega arith) m) in
                 subst (Answers c (replaced c (c .free - quota) (onlyAt c t new) (0x00 ∷ []) 0)) (sym r)
                 (rw q (rewrites c t new (c .free - quota) (0x00 ∷ []) 0 k (none-to-come _ (m .none-open))));
           };

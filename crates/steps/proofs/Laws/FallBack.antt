@@ -47,6 +47,6 @@ set-fall-back-law c aid s =
           λ q h.
           let e = place-is c aid (c .fallback) (parts c s) h in
           let m = may-be c (c .fallback) q (parts c s .roles .resort) in
-          let r = asked-taken c (on aid setFallBack) s (passes c aid (subst (Holds c aid) (sym e) h) (subst (MayBeFallBack c) (sym e) m)) in
+          let r = asked-taken c (on aid setFallBack) refl s (passes c aid (subst (Holds c aid) (sym e) h) (subst (MayBeFallBack c) (sym e) m)) in
           subst (Still c []) (sym r) (rw e (still c [] s));
     }

@@ -1,53 +1,132 @@
 -- GET STATUS and GET DATA: no row refuses them but "target AID not held", and the rows of the response, one after the other, are those of
 -- the places from the lowest. By induction over the places. Assumes nothing.
 use mathlib.Core.Path.{_≡_, refl, sym, ap, subst, _∙_}
-use Prim.Native.Nat.{ℕ, suc, _+_}
+use Prim.Native.Nat.{ℕ, zero, suc, _+_, _-_, _≤_, _<_}
+use native.Mathlib.Numerals.{add-one}
 use native.Mathlib.Omega.{arith}
 use mathlib.Core.List.{List, [], _∷_, _++_, append-assoc, append-nil}
-use mathlib.Core.Bool.{Bool, true, cond}
-use lib.ListN.{length}
-use Rattle.isdp.specs.Place.{held}
-use Rattle.isdp.specs.declared.Isdp.{Isdp}
-use Rattle.places.specs.Places.{at}
-use Rattle.card.specs.Cards.{placeOf}
+use mathlib.Core.Bool.{Bool, true, false, cond, or-true}
+use lib.ListN.{length, length-append, drop-of-length-le}
+use lib.Seq.{drop-cons, take-append-seam}
+use lib.Dec.{leb, eqb}
+use borrow.Author.Tests.{leb-true, leb-false, ne-eqb, eqb-false}
+use Rattle.status.specs.StatusWords.{isDone}
+use Rattle.status.specs.declared.Status.{Status}
+use Rattle.status.specs.declared.Status.the-variants.{More, Done}
+use Rattle.isdp.specs.Aids.{noAid}
+use Rattle.isdp.specs.Place.{vacant, held}
+use Rattle.card.specs.Cards.{noPlace, keeping, placeOf}
+use Rattle.card.specs.Sound.{keptOk, sound}
+use Rattle.card.specs.Steps.{stepTo}
+use Rattle.card.specs.Answers.{accepted, outcome}
 use Rattle.card.specs.declared.Card.{Card}
 use Rattle.card.proofs.Free.{sound-card}
-use Rattle.responses.specs.Responses.{attributeOf, statusBody, statusRow, rowOf, rowsFrom, statusResponse, oneStatus, dataResponse}
+use Rattle.card.proofs.Sounds.{parts}
+use Rattle.responses.specs.Responses.{attributeOf, statusBody, statusRow, rowOf, rowSize, rowsFrom, listingFrom, partGiven, leftAfter, oneStatus, dataResponse}
+use Rattle.responses.proofs.Rows.{row-sized}
+use Rattle.responses.proofs.Parts.{Given, Given.all, Given.some, given, part-short}
 use Rattle.steps.specs.Asked.{Act.status, Asked.statusOfAll, Asked.getData}
 use Rattle.steps.specs.Laws.Answer.{profileAt, Still}
-use Rattle.steps.specs.Laws.Reports.{statusAt, statusBelow, StatusOfAllLaw, StatusOfOneLaw, GetDataLaw}
-use Rattle.steps.proofs.Laws.Answer.{asked-taken, command-law, held-passes, still}
+use Rattle.steps.specs.Steps.{beginsAt, goesOnAt, partWord, askedWork}
+use Rattle.steps.specs.Laws.Reports.{statusAt, statusFrom, Listed, PartAnswers, PartAnswers.to-the-last, PartAnswers.up-to, StatusOfAllLaw, StatusOfNextLaw, StatusOfOneLaw, GetDataLaw}
+use Rattle.steps.proofs.Rows.{Passed}
+use Rattle.steps.proofs.Laws.Answer.{asked-passed, asked-taken-as, asked-taken, command-law, held-passes, no-notice, same-ticks, still}
 
 -- the row of one place
 row-is : (c : Card) (life attribute : Bool) (k : ℕ) → rowOf (profileAt c k) (attributeOf (c .fallback) k) life attribute ≡ cond (held (profileAt c k)) (statusAt c life attribute k) []
 unfolding rowOf statusRow statusBody
 row-is c life attribute k = refl
 
--- the rows of the places from one on, after those below it
-from-lowest : (c : Card) (life attribute : Bool) (ps : List Isdp) (k : ℕ) → ((i : ℕ) → at ps i ≡ profileAt c (k + i)) → statusBelow c life attribute k ++ rowsFrom (c .fallback) k life attribute ps ≡ statusBelow c life attribute (k + length ps)
-unfolding rowsFrom statusBelow
-from-lowest c life attribute [] k f = let e : k + 0 ≡ k = omega arith in rw (e, append-nil)
-from-lowest c life attribute (p ∷ ps) k f =
-    let e : k + suc (length ps) ≡ suc k + length ps = omega arith in
-    let z : k + 0 ≡ k = omega arith in
-    let here : p ≡ profileAt c k = f 0 ∙ ap (profileAt c) z in
-    let rest = from-lowest c life attribute ps (suc k) (λ i. f (suc i) ∙ ap (profileAt c) (omega arith)) in
-    rw (e, ← rest, here, row-is c life attribute k, append-assoc)
+-- the rows of so many places from one on, and those that follow, are the listing from there
+rows-step : (c : Card) (life attribute : Bool) (k : ℕ) → k < length (c .places) → listingFrom c k life attribute ≡ cond (held (profileAt c k)) (statusAt c life attribute k) [] ++ listingFrom c (k + 1) life attribute
+unfolding listingFrom rowsFrom
+rows-step c life attribute k h = rw (drop-cons (c .places) k vacant, add-one, row-is c life attribute k)
 
-all-bytes : (c : Card) (life attribute : Bool) → statusResponse c life attribute ≡ statusBelow c life attribute (length (c .places))
-unfolding statusResponse statusBelow
-all-bytes c life attribute =
-    let e : 0 + length (c .places) ≡ length (c .places) = omega arith in
-    from-lowest c life attribute (c .places) 0 (λ i. ap (profileAt c) (omega arith)) ∙ ap (statusBelow c life attribute) e
+from-there : (c : Card) (life attribute : Bool) (from n : ℕ) → from + n ≤ length (c .places) → listingFrom c from life attribute ≡ statusFrom c life attribute from n ++ listingFrom c (from + n) life attribute
+unfolding statusFrom
+from-there c life attribute from zero h = let e : from + 0 ≡ from = omega arith in rw e
+from-there c life attribute from (suc n) h =
+    let e : from + suc n ≡ from + n + 1 = omega arith in
+    rw (from-there c life attribute from n (omega arith), rows-step c life attribute (from + n) (omega arith), e, append-assoc)
+
+none-there : (c : Card) (life attribute : Bool) (k : ℕ) → length (c .places) ≤ k → listingFrom c k life attribute ≡ []
+unfolding listingFrom rowsFrom
+none-there c life attribute k h = rw (drop-of-length-le (c .places) h)
+
+to-the-end : (c : Card) (life attribute : Bool) (from : ℕ) (b : Bool) → leb from (length (c .places)) ≡ b → listingFrom c from life attribute ≡ statusFrom c life attribute from (length (c .places) - from)
+unfolding statusFrom
+to-the-end c life attribute from true e =
+    let k = leb-true from (length (c .places)) e in
+    from-there c life attribute from (length (c .places) - from) (omega arith)
+    ∙ rw (none-there c life attribute (from + (length (c .places) - from)) (omega arith), append-nil)
+to-the-end c life attribute from false e =
+    let k = leb-false from (length (c .places)) e in
+    let z : length (c .places) - from ≡ 0 = omega arith in
+    rw (z, none-there c life attribute from (omega arith))
+
+-- what ends alike and is alike begins alike
+begins-alike : (xs ys zs : List ℕ) → xs ++ zs ≡ ys ++ zs → xs ≡ ys
+begins-alike xs ys zs e =
+    let n : length xs ≡ length ys = omega (arith, length-append xs zs, length-append ys zs, ap length e) in
+    sym (take-append-seam xs zs) ∙ rw (e, n) (take-append-seam ys zs)
+
+row-bytes : (c : Card) (t : ℕ) (life attribute : Bool) → held (profileAt c t) ≡ true → length (statusAt c life attribute t) ≡ rowSize (profileAt c t) life attribute
+row-bytes c t life attribute h =
+    let e : rowOf (profileAt c t) (attributeOf (c .fallback) t) life attribute ≡ statusAt c life attribute t = row-is c life attribute t ∙ rw h in
+    ap length (sym e) ∙ row-sized (profileAt c t) (attributeOf (c .fallback) t) life attribute
 
 one-bytes : (c : Card) (t : ℕ) (life attribute : Bool) → held (profileAt c t) ≡ true → oneStatus c t life attribute ≡ statusAt c life attribute t
 unfolding oneStatus
 one-bytes c t life attribute h = row-is c life attribute t ∙ rw h
 
+-- a part, begun at this place, taken with its word
+module _ (c : Card) (life attribute : Bool) (from : ℕ) (s : sound c ≡ true) where
+  listed : (word : Status) (kept : ℕ) (part : List ℕ) → keptOk (keeping c kept) ≡ true → length part ≤ 255 → Listed c word kept part (accepted word (stepTo c (keeping c kept) noAid) part)
+  unfolding accepted
+  listed word kept part k h =
+      record { status = refl; card = refl; response = refl; short = h; notification = no-notice c (keeping c kept) refl; ticks = same-ticks c kept (parts c s) k }
+
+  part-case : (part : List ℕ) (left : ℕ) → Given c life attribute from part left → length part ≤ 255 → PartAnswers c life attribute from (accepted (partWord left) (stepTo c (keeping c left) noAid) part)
+  part-case part left (all e) h =
+      let q : part ≡ statusFrom c life attribute from (length (c .places) - from) = sym e ∙ to-the-end c life attribute from (leb from (length (c .places))) refl in
+      to-the-last (rw q (listed Done noPlace _ refl (rw (← q) h)))
+  part-case part left (some w e) h =
+      let d : from + (left - from) ≡ left = let low = w .low in omega arith in
+      let high = w .high in
+      let q : part ≡ statusFrom c life attribute from (left - from) =
+          begins-alike part _ (listingFrom c left life attribute) (sym e ∙ from-there c life attribute from (left - from) (omega arith) ∙ rw d) in
+      let o : eqb left noPlace ≡ false = ne-eqb left noPlace (λ z. let f = parts c s .sizes .full in omega arith) in
+      rw (o, q)
+      (up-to (left - from) (omega arith) (rw d (w .there)) (rw (d, ← q, row-bytes c left life attribute (w .there)) (w .full))
+      (rw d (listed More left (statusFrom c life attribute from (left - from)) (rw (w .there) (or-true (eqb left noPlace))) (rw (← q) h))))
+
+  part-given : PartAnswers c life attribute from (accepted (partWord (leftAfter c from life attribute)) (stepTo c (keeping c (leftAfter c from life attribute)) noAid) (partGiven c from life attribute))
+  part-given = part-case (partGiven c from life attribute) (leftAfter c from life attribute) (given c life attribute from) (part-short c life attribute from)
+
+-- 90 00 and 63 10 are both a success
+part-done : (b : Bool) → isDone (cond b Done More) ≡ true
+part-done true = refl
+part-done false = refl
+
+part-taken : (c : Card) (life attribute : Bool) → sound c ≡ true → (next : Bool) → Passed c (statusOfAll next life attribute) → outcome c (askedWork c (statusOfAll next life attribute)) ≡ accepted (partWord (goesOnAt c next life attribute)) (stepTo c (keeping c (goesOnAt c next life attribute)) noAid) (partGiven c (beginsAt c next) life attribute)
+part-taken c life attribute s next p =
+    let left = goesOnAt c next life attribute in
+    asked-taken-as c (statusOfAll next life attribute) (partWord left) (part-done (eqb left noPlace)) refl s p
+
 pub status-of-all-law : StatusOfAllLaw
 status-of-all-law c life attribute s =
-    let bytes = statusBelow c life attribute (length (c .places)) in
-    subst (Still c bytes) (sym (asked-taken c (statusOfAll life attribute) s (record { change = refl; target = refl; already = refl; state = refl; policy = refl; verdict = refl; room = refl }))) (rw (all-bytes c life attribute) (still c bytes s))
+    subst (PartAnswers c life attribute 0) (sym (part-taken c life attribute s false (record { change = refl; target = refl; already = refl; state = refl; policy = refl; verdict = refl; room = refl }))) (part-given c life attribute 0 s)
+
+pub status-of-next-law : StatusOfNextLaw
+status-of-next-law c life attribute s =
+    record {
+      only-where = λ e. eqb-false (c .kept) noPlace (asked-passed c (statusOfAll true life attribute) e .target);
+      where-may =
+          λ n.
+          subst (PartAnswers c life attribute (c .kept))
+          (sym (part-taken c life attribute s true (record { change = refl; target = ne-eqb (c .kept) noPlace n; already = refl; state = refl; policy = refl; verdict = refl; room = refl })))
+          (part-given c life attribute (c .kept) s);
+    }
 
 pub status-of-one-law : StatusOfOneLaw
 status-of-one-law c aid life attribute s =
@@ -60,4 +139,4 @@ pub get-data-law : GetDataLaw
 unfolding dataResponse
 get-data-law c s =
     rw (← (sound-card c s .as-summed))
-    (subst (Still c _) (sym (asked-taken c getData s (record { change = refl; target = refl; already = refl; state = refl; policy = refl; verdict = refl; room = refl }))) (still c (dataResponse c) s))
+    (subst (Still c _) (sym (asked-taken c getData refl s (record { change = refl; target = refl; already = refl; state = refl; policy = refl; verdict = refl; room = refl }))) (still c (dataResponse c) s))

@@ -6,12 +6,14 @@ use mathlib.Core.List.{List, [], _∷_}
 use mathlib.Core.Bool.{true, cond}
 use lib.ListN.{length}
 use lib.Dec.{eqb}
+use Rattle.status.specs.StatusWords.{isDone}
 use Rattle.status.specs.declared.Status.the-variants.{Done}
 use Rattle.isdp.specs.Aids.{aidOf}
 use Rattle.isdp.specs.LifeCycle.{disabled, enabled, withLife}
 use Rattle.isdp.specs.Place.{held}
 use Rattle.isdp.specs.declared.Isdp.{Isdp}
 use Rattle.places.specs.Places.{at}
+use Rattle.card.specs.Cards.{noPlace, keeping}
 use Rattle.card.specs.Clock.{nextOf}
 use Rattle.card.specs.Ticks.{ticksByPhase}
 use Rattle.card.specs.Notifications.{silent}
@@ -49,7 +51,7 @@ pub record Result : Type 0 where
   pub notification : Notification
   pub ticks : ℕ
 
--- 90 00 with this result; EID, capacity, volatile figure and the number of places are never touched
+-- 90 00 with this result; EID, capacity, volatile figure and the number of places are never touched, and no place of a listing is kept
 pub record Answers (c : Card) (r : Result) (o : Outcome) : Type 0 where
   pub status : o .status ≡ Done
   pub eid : o .card .eid ≡ c .eid
@@ -59,28 +61,29 @@ pub record Answers (c : Card) (r : Result) (o : Outcome) : Type 0 where
   pub last : o .card .last ≡ r .last
   pub fallback : o .card .fallback ≡ r .fallback
   pub phase : o .card .phase ≡ r .phase
+  pub forgets : o .card .kept ≡ noPlace
   pub as-many : length (o .card .places) ≡ length (c .places)
   pub places : (i : ℕ) → profileAt (o .card) i ≡ r .place i
   pub response : o .response ≡ r .response
   pub notification : o .notification ≡ r .notification
   pub ticks : o .ticks ≡ r .ticks
 
--- 90 00, and nothing changes
+-- 90 00, and nothing changes but that no place of a listing is kept
 pub record Still (c : Card) (bytes : List ℕ) (o : Outcome) : Type 0 where
   pub status : o .status ≡ Done
-  pub card : o .card ≡ c
+  pub card : o .card ≡ keeping c noPlace
   pub response : o .response ≡ bytes
   pub notification : o .notification ≡ silent
   pub ticks : o .ticks ≡ ticksByPhase c
 
 -- accepted exactly where it may be, and then answered so
 pub record Exactly (May : Type 0) (Answered : Outcome → Type 0) (o : Outcome) : Type 0 where
-  pub only-where : o .status ≡ Done → May
+  pub only-where : isDone (o .status) ≡ true → May
   pub where-may : May → Answered o
 
 -- the same of a call on one place: accepted only where there is one
 pub record OnPlace (There May : ℕ → Type 0) (Answered : ℕ → Outcome → Type 0) (o : Outcome) : Type 0 where
-  pub some-place : o .status ≡ Done → (t : ℕ) × There t
+  pub some-place : isDone (o .status) ≡ true → (t : ℕ) × There t
   pub exactly : (t : ℕ) → There t → Exactly (May t) (Answered t) o
 
 -- the places with place t so, and every other as it was

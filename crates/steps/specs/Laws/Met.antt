@@ -8,7 +8,7 @@ use Rattle.status.specs.declared.Status.the-variants.{Done}
 use Rattle.isdp.specs.Sizes.{mostPlaces, eidSize}
 use Rattle.isdp.specs.LifeCycle.{selectable, personalized, disabled, enabled, withMark}
 use Rattle.isdp.specs.Place.{vacant, made}
-use Rattle.card.specs.Cards.{cardWith}
+use Rattle.card.specs.Cards.{noPlace, cardWith}
 use Rattle.card.specs.Sound.{sound}
 use Rattle.card.specs.Answers.{outcome}
 use Rattle.card.specs.declared.Card.{Card}
@@ -23,7 +23,7 @@ aidEnding n = 0xA0 ∷ 0x00 ∷ 0x00 ∷ 0x00 ∷ n ∷ []
 -- 01, the fall-back, and 02 in these states and marked, 03 SELECTABLE, 04 PERSONALIZED with 10 bytes used
 abbrev pub sample : ℕ → ℕ → ℕ → Phase → Card
 sample first second last phase =
-    cardWith (replicate eidSize 0) 1000 0 600 last 0 phase
+    cardWith (replicate eidSize 0) 1000 0 600 last 0 phase noPlace
     (withMark (made (aidEnding 1) first 100 10) 1
     ∷ withMark (made (aidEnding 2) second 100 10) 1
     ∷ made (aidEnding 3) selectable 100 0

@@ -1,22 +1,27 @@
 -- Document 01, 'Responses': "GET STATUS: for each place from the lowest, E3 holding 4F, 9F70 and 53 (..; 53 is 01 for the fall-back, else 00).
 -- With 5C, 4F is always there and the others if listed. GET DATA: FF21 holding 81 (number of ISD-Ps, 1 byte), 82 (free, 4 bytes), 83
--- (volatile figure, 4 bytes)". They change nothing, and an open change does not refuse them.
-use Prim.Native.Nat.{ℕ, zero, suc, _-_}
+-- (volatile figure, 4 bytes)". They change nothing but the kept place, and an open change does not refuse them.
+use Prim.Native.Nat.{ℕ, zero, suc, _+_, _-_, _≤_, _<_}
 use mathlib.Core.Path.{_≡_}
 use mathlib.Core.List.{List, [], _∷_, _++_}
-use mathlib.Core.Bool.{Bool, true, cond}
+use mathlib.Core.Bool.{Bool, true, false, cond}
 use lib.ListN.{length}
 use lib.Dec.{eqb}
+use Rattle.status.specs.declared.Status.{Status}
+use Rattle.status.specs.declared.Status.the-variants.{More, Done}
 use Rattle.isdp.specs.Aids.{aidOf}
 use Rattle.isdp.specs.Place.{held}
 use Rattle.places.specs.Places.{countOf, quotas}
+use Rattle.card.specs.Cards.{noPlace, keeping}
 use Rattle.card.specs.Sound.{sound}
+use Rattle.card.specs.Ticks.{ticksByPhase}
+use Rattle.card.specs.Notifications.{silent}
 use Rattle.card.specs.Answers.{Outcome, outcome}
 use Rattle.card.specs.declared.Card.{Card}
 use Rattle.byte_string.specs.Bytes.{fourBytes}
 use Rattle.steps.specs.Asked.{Act.status, Asked.on, Asked.statusOfAll, Asked.getData}
 use Rattle.steps.specs.Steps.{askedWork}
-use Rattle.steps.specs.Laws.Answer.{profileAt, Holds, element, Still, OnPlace}
+use Rattle.steps.specs.Laws.Answer.{profileAt, Holds, element, Still, Exactly, OnPlace}
 
 -- "53 is 01 for the fall-back, else 00"
 abbrev pub attributeAt : Card → ℕ → ℕ
@@ -30,14 +35,33 @@ statusAt c life attribute i =
     ++ (cond life (0x9F ∷ 0x70 ∷ 0x01 ∷ profileAt c i .life ∷ []) []
     ++ cond attribute (0x53 ∷ 0x01 ∷ attributeAt c i ∷ []) []))
 
--- the places below this one, from the lowest; a place that is not held says nothing
-unfoldable pub statusBelow : Card → Bool → Bool → ℕ → List ℕ
-statusBelow c life attribute zero = []
-statusBelow c life attribute (suc i) =
-    statusBelow c life attribute i ++ cond (held (profileAt c i)) (statusAt c life attribute i) []
+-- the rows of so many places, from this one on, the lowest first; a place that is not held says nothing
+unfoldable pub statusFrom : Card → Bool → Bool → ℕ → ℕ → List ℕ
+statusFrom c life attribute from zero = []
+statusFrom c life attribute from (suc n) =
+    statusFrom c life attribute from n ++ cond (held (profileAt c (from + n))) (statusAt c life attribute (from + n)) []
 
+-- what a part of a listing, begun at a place, leaves beside its word, its response and the kept place: nothing else is new
+pub record Listed (c : Card) (word : Status) (kept : ℕ) (bytes : List ℕ) (o : Outcome) : Type 0 where
+  pub status : o .status ≡ word
+  pub card : o .card ≡ keeping c kept
+  pub response : o .response ≡ bytes
+  pub short : length bytes ≤ 255
+  pub notification : o .notification ≡ silent
+  pub ticks : o .ticks ≡ ticksByPhase c
+
+-- request 2026-05: "as many whole rows as fit 255 bytes with 63 10": the rows from here to the last, 90 00 and none kept; or those before a held
+-- place whose row would not have fit, 63 10 and that place kept
+pub data PartAnswers (c : Card) (life attribute : Bool) (from : ℕ) (o : Outcome) : Type 0 where
+  to-the-last : Listed c Done noPlace (statusFrom c life attribute from (length (c .places) - from)) o → PartAnswers c life attribute from o
+  up-to : (n : ℕ) → from + n < length (c .places) → held (profileAt c (from + n)) ≡ true → 255 < length (statusFrom c life attribute from n) + length (statusAt c life attribute (from + n)) → Listed c More (from + n) (statusFrom c life attribute from n) o → PartAnswers c life attribute from o
+
+-- P2 02 "always begins anew", whatever is kept; P2 03 is accepted exactly where a place is kept, and goes on there
 abbrev pub StatusOfAllAnswers : Card → Bool → Bool → Outcome → Type 0
-StatusOfAllAnswers c life attribute = Still c (statusBelow c life attribute (length (c .places)))
+StatusOfAllAnswers c life attribute = PartAnswers c life attribute 0
+
+abbrev pub StatusOfNextAnswers : Card → Bool → Bool → Outcome → Type 0
+StatusOfNextAnswers c life attribute = Exactly (c .kept ≡ noPlace → ⊥) (PartAnswers c life attribute (c .kept))
 
 -- accepted exactly where the AID is held
 abbrev pub StatusOfOneAnswers : Card → List ℕ → Bool → Bool → Outcome → Type 0
@@ -55,7 +79,13 @@ abbrev pub StatusOfAllLaw : Type 0
 StatusOfAllLaw =
     (c : Card) (life attribute : Bool)
     → sound c ≡ true
-    → StatusOfAllAnswers c life attribute (outcome c (askedWork c (statusOfAll life attribute)))
+    → StatusOfAllAnswers c life attribute (outcome c (askedWork c (statusOfAll false life attribute)))
+
+abbrev pub StatusOfNextLaw : Type 0
+StatusOfNextLaw =
+    (c : Card) (life attribute : Bool)
+    → sound c ≡ true
+    → StatusOfNextAnswers c life attribute (outcome c (askedWork c (statusOfAll true life attribute)))
 
 abbrev pub StatusOfOneLaw : Type 0
 StatusOfOneLaw =
