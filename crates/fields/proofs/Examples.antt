@@ -47,26 +47,43 @@ unfolding deletionAt listWrong listAt listWithin listOf elementOf restOf closed 
 no-token = refl
 
 -- example 1's data field
-all-rows : listingAt (0x4F ∷ 0x00 ∷ []) 0 2 ≡ field.Found (request.GetStatusOfAll true true)
+all-rows : listingAt false (0x4F ∷ 0x00 ∷ []) 0 2 ≡ field.Found (request.GetStatusOfAll false true true)
 unfolding listingAt listWrong listAt listWithin listOf elementOf restOf closed tagsAt listedAt listedWithin noted aloneAt expectAt expectOf headAt afterTag afterLength tagAt lengthAt pick atMost isBelow isSame
 all-rows = refl
 
-empty-list : listingAt (0x4F ∷ 0x00 ∷ 0x5C ∷ 0x00 ∷ []) 0 4 ≡ field.Found (request.GetStatusOfAll false false)
+empty-list : listingAt false (0x4F ∷ 0x00 ∷ 0x5C ∷ 0x00 ∷ []) 0 4 ≡ field.Found (request.GetStatusOfAll false false false)
 unfolding listingAt listWrong listAt listWithin listOf elementOf restOf closed tagsAt listedAt listedWithin noted aloneAt expectAt expectOf headAt afterTag afterLength tagAt lengthAt pick atMost isBelow isSame
 empty-list = refl
 
-repeats-count-once : listingAt (0x4F ∷ 0x00 ∷ 0x5C ∷ 0x05 ∷ 0x53 ∷ 0x9F ∷ 0x70 ∷ 0x4F ∷ 0x53 ∷ []) 0 9 ≡ field.Found (request.GetStatusOfAll true true)
+repeats-count-once : listingAt false (0x4F ∷ 0x00 ∷ 0x5C ∷ 0x05 ∷ 0x53 ∷ 0x9F ∷ 0x70 ∷ 0x4F ∷ 0x53 ∷ []) 0 9 ≡ field.Found (request.GetStatusOfAll false true true)
 unfolding listingAt listWrong listAt listWithin listOf elementOf restOf closed tagsAt listedAt listedWithin noted aloneAt expectAt expectOf headAt afterTag afterLength tagAt lengthAt pick atMost isBelow isSame
 repeats-count-once = refl
 
-unknown-tag : listingAt (0x4F ∷ 0x00 ∷ 0x5C ∷ 0x02 ∷ 0x9F ∷ 0x71 ∷ []) 0 6 ≡ field.Wrong
+unknown-tag : listingAt false (0x4F ∷ 0x00 ∷ 0x5C ∷ 0x02 ∷ 0x9F ∷ 0x71 ∷ []) 0 6 ≡ field.Wrong
 unfolding listingAt listWrong listAt listWithin listOf elementOf restOf closed tagsAt listedAt listedWithin noted aloneAt expectAt expectOf headAt afterTag afterLength tagAt lengthAt pick atMost isBelow isSame
 unknown-tag = refl
 
-half-a-tag : listingAt (0x4F ∷ 0x00 ∷ 0x5C ∷ 0x01 ∷ 0x9F ∷ []) 0 5 ≡ field.Wrong
+half-a-tag : listingAt false (0x4F ∷ 0x00 ∷ 0x5C ∷ 0x01 ∷ 0x9F ∷ []) 0 5 ≡ field.Wrong
 unfolding listingAt listWrong listAt listWithin listOf elementOf restOf closed tagsAt listedAt listedWithin noted aloneAt expectAt expectOf headAt afterTag afterLength tagAt lengthAt pick atMost isBelow isSame
 half-a-tag = refl
 
-aid-of-one : listingAt (0x4F ∷ 0x01 ∷ 0xA0 ∷ []) 0 3 ≡ field.Wrong
+aid-of-one : listingAt false (0x4F ∷ 0x01 ∷ 0xA0 ∷ []) 0 3 ≡ field.Wrong
 unfolding listingAt listWrong listAt listWithin listOf elementOf restOf closed tagsAt listedAt listedWithin noted aloneAt expectAt expectOf headAt afterTag afterLength tagAt lengthAt pick atMost isBelow isSame
 aid-of-one = refl
+
+one-row : listingAt false (0x4F ∷ 0x05 ∷ 0xA0 ∷ 0 ∷ 0 ∷ 0 ∷ 2 ∷ []) 0 7 ≡ field.Found (request.GetStatusOfOne (between 2 7) true true)
+unfolding listingAt listWrong listAt listWithin listOf elementOf restOf closed tagsAt listedAt listedWithin noted aloneAt expectAt expectOf headAt afterTag afterLength tagAt lengthAt pick atMost isBelow isSame
+one-row = refl
+
+-- P2 03, with its own tags, and with an AID named
+next-rows : listingAt true (0x4F ∷ 0x00 ∷ []) 0 2 ≡ field.Found (request.GetStatusOfAll true true true)
+unfolding listingAt listWrong listAt listWithin listOf elementOf restOf closed tagsAt listedAt listedWithin noted aloneAt expectAt expectOf headAt afterTag afterLength tagAt lengthAt pick atMost isBelow isSame
+next-rows = refl
+
+next-tags : listingAt true (0x4F ∷ 0x00 ∷ 0x5C ∷ 0x01 ∷ 0x53 ∷ []) 0 5 ≡ field.Found (request.GetStatusOfAll true false true)
+unfolding listingAt listWrong listAt listWithin listOf elementOf restOf closed tagsAt listedAt listedWithin noted aloneAt expectAt expectOf headAt afterTag afterLength tagAt lengthAt pick atMost isBelow isSame
+next-tags = refl
+
+next-of-one : listingAt true (0x4F ∷ 0x05 ∷ 0xA0 ∷ 0 ∷ 0 ∷ 0 ∷ 2 ∷ []) 0 7 ≡ field.Wrong
+unfolding listingAt listWrong listAt listWithin listOf elementOf restOf closed tagsAt listedAt listedWithin noted aloneAt expectAt expectOf headAt afterTag afterLength tagAt lengthAt pick atMost isBelow isSame
+next-of-one = refl

@@ -1,9 +1,10 @@
--- GET STATUS, both directions: 4F stands first, empty or an AID, and after it nothing or 5C alone with its list of tags.
+-- GET STATUS, both directions: 4F stands first, empty or an AID, which only a listing that begins anew may name, and after it nothing or 5C
+-- alone with its list of tags. The tags are read before it is asked whether the listing goes on, so they are the same either way.
 use Prim.Native.Nat.{ℕ, _+_, _-_, _≤_}
 use mathlib.Core.Path.{_≡_, refl, sym, ap, subst, _∙_}
 use mathlib.Core.List.{List, [], _++_}
 use mathlib.Core.Option.{Option, none, some}
-use mathlib.Core.Bool.{Bool}
+use mathlib.Core.Bool.{Bool, false}
 use native.Mathlib.Omega.{arith}
 use lib.ListN.{length}
 use Rattle.byte_string.specs.Bytes.{between, partOf}
@@ -25,7 +26,7 @@ use Rattle.fields.specs.declared.request.Field.{Field}
 use Rattle.fields.specs.declared.request.Field.the-variants as field
 use Rattle.reader.specs.Reader.{aloneAt}
 use Rattle.fields.specs.GetStatus.{rowsOf, tagsAt, listingAt}
-use Rattle.fields.specs.Grammar.{Named, ListedTag, asked, Wanted, getStatus, foundAs, Written, Sought, all, one, Short, encodeTags, encodeList, showsLife, showsFallBack, EncodesListed, ListingBack, ListingWritten, ListingFilled}
+use Rattle.fields.specs.Grammar.{Named, ListedTag, asked, Wanted, getStatus, foundAs, Written, Sought, all, one, Short, encodeTags, encodeList, showsLife, showsFallBack, EncodesListed, EncodesNext, SameTags, ListingBack, ListingWritten, ListingFilled}
 use Rattle.reader.proofs.Alone.{alone-expected, alone-written, alone-back}
 use Rattle.fields.proofs.Parts.{part-named}
 use Rattle.fields.proofs.ListedTags.{listed-back, listed-written}
@@ -49,31 +50,32 @@ tags-back s at end o h (some ts) short q =
     let i = alone-expected s at end 0x5C 0 255 (a .start) end (a .found) .inside in
     (ne! _ (omega arith) (rw (← a .found) (listed-back ts s (a .start) end (i .ordered) h (a .value))), primitive first-level (a .head) (ended first-level h))
 
-sought-most : {who : List ℕ} → Sought who → length who ≤ 16
+sought-most : {next : Bool} {who : List ℕ} → Sought next who → length who ≤ 16
 sought-most all = omega arith
 sought-most (one named) = named .most
 
 module _ (s : List ℕ) (life shown : Bool) where
   -- the rows for a value of 4F that is `who`
-  who-back : (who : List ℕ) → Sought who → (start stop : ℕ) → stop ≡ start + length who → window s start stop ≡ who
-      → foundAs s (rowsOf start stop life shown) ≡ some (getStatus (asked who life shown))
-  who-back who all start stop l q =
-      let r : field.Found (request.GetStatusOfAll life shown) ≡ rowsOf start stop life shown = eq! _ (omega arith) refl in
+  who-back : (next : Bool) (who : List ℕ) → Sought next who → (start stop : ℕ) → stop ≡ start + length who → window s start stop ≡ who
+      → foundAs s (rowsOf next start stop life shown) ≡ some (getStatus (asked next who life shown))
+  who-back next who all start stop l q =
+      let r : field.Found (request.GetStatusOfAll next life shown) ≡ rowsOf next start stop life shown = eq! _ (omega arith) refl in
       rw (← r) refl
-  who-back who (one named) start stop l q =
+  who-back next who (one named) start stop l q =
       let k = named .least in
-      let r : field.Found (request.GetStatusOfOne (between start stop) life shown) ≡ rowsOf start stop life shown = ne! _ (omega arith) (nlt! _ (omega arith) refl) in
-      rw (← r) (ap (λ (a : List ℕ). some (getStatus (asked a life shown))) (window-part s start stop (omega arith) ∙ q))
+      let r : field.Found (request.GetStatusOfOne (between start stop) life shown) ≡ rowsOf false start stop life shown =
+      ne! _ (omega arith) (no! _ refl (nlt! _ (omega arith) refl)) in
+      rw (← r) (ap (λ (a : List ℕ). some (getStatus (asked false a life shown))) (window-part s start stop (omega arith) ∙ q))
 
 pub listing-back : ListingBack
 unfolding listingAt
 listing-back s at end v o h e =
     let a = element-back s at end o h 0x4F 0 16 (v .who) (encodeList (e .tags)) (legal.one (omega arith) (omega arith)) (omega arith) (sought-most (e .sought)) (e .written) in
     let t = tags-back s (a .stop) end (a .within) h (e .tags) (e .short) (a .after) in
-    let r : rowsOf (a .start) (a .stop) (showsLife (e .tags)) (showsFallBack (e .tags)) ≡ listingAt s at end =
+    let r : rowsOf (v .next) (a .start) (a .stop) (showsLife (e .tags)) (showsFallBack (e .tags)) ≡ listingAt (v .next) s at end =
     no! _ (filled-right (primitive first-level (a .head) (t .1))) (rw (← a .found) (rw (← t .0) refl)) in
     rw (← r) (rw (← e .lifeAsked) (rw (← e .fallBackAsked)
-    (who-back s (v .life) (v .fallBackShown) (v .who) (e .sought) (a .start) (a .stop) (a .long) (a .value))))
+    (who-back s (v .life) (v .fallBackShown) (v .next) (v .who) (e .sought) (a .start) (a .stop) (a .long) (a .value))))
 
 -- ---- what is accepted is so encoded
 
@@ -105,37 +107,40 @@ tags-written s at end life shown b =
       bytes = alone-written s at end 0x5C 0 255 start stop b g ∙ ap (encodeElement 0x5C) (w .bytes);
     })
 
-module _ (s : List ℕ) (at end : ℕ) (w : Wanted) (b : Bytes s) where
+module _ (next : Bool) (s : List ℕ) (at end : ℕ) (w : Wanted) (b : Bytes s) where
   abbrev Encoded : Wanted → Type 0
-  Encoded z = Written getStatus EncodesListed s at end z
+  Encoded z = Written getStatus (EncodesNext next) s at end z
 
   abbrev Accepted : Field → Type 0
   Accepted z = foundAs s z ≡ some w → Encoded w
 
   module _ (start stop : ℕ) (q : element.Found start stop ≡ expectAt s at end 0x4F 0 16) where
-    who-written : (who : List ℕ) (life shown : Bool) → Sought who → window s start stop ≡ who → tags.Shown life shown ≡ tagsAt s stop end
-        → Encoded (getStatus (asked who life shown))
+    who-written : (who : List ℕ) (life shown : Bool) → Sought next who → window s start stop ≡ who → tags.Shown life shown ≡ tagsAt s stop end
+        → Encoded (getStatus (asked next who life shown))
     who-written who life shown sought e t =
         let i = expect-inside s at end 0x4F 0 16 start stop q in
         let l = tags-written s stop end life shown b t in
         record {
           ordered = omega arith;
           held = omega arith;
-          value = asked who life shown;
+          value = asked next who life shown;
           meant = refl;
-          encoded = record {
-            tags = l .tags;
-            sought = sought;
-            short = l .short;
-            lifeAsked = l .lists;
-            fallBackAsked = l .listsToo;
-            written = elements-written s at end 0x4F 0 16 start stop b q
-                ∙ ap (λ (a : List ℕ). encodeElement 0x4F a ++ window s stop end) e
-                ∙ ap (λ (a : List ℕ). encodeElement 0x4F who ++ a) (l .bytes);
-          };
+          encoded = (
+            refl,
+            record {
+              tags = l .tags;
+              sought = sought;
+              short = l .short;
+              lifeAsked = l .lists;
+              fallBackAsked = l .listsToo;
+              written = elements-written s at end 0x4F 0 16 start stop b q
+                  ∙ ap (λ (a : List ℕ). encodeElement 0x4F a ++ window s stop end) e
+                  ∙ ap (λ (a : List ℕ). encodeElement 0x4F who ++ a) (l .bytes);
+            },
+          );
         }
 
-  accepted : Accepted (listingAt s at end)
+  accepted : Accepted (listingAt next s at end)
   unfolding listingAt
   accepted = each Accepted (listWrong s at end) (λ _. no-value (Encoded w) w) λ _.
       each-found Accepted (expectAt s at end 0x4F 0 16) (no-value (Encoded w) w) λ start stop q.
@@ -146,17 +151,38 @@ module _ (s : List ℕ) (at end : ℕ) (w : Wanted) (b : Bytes s) where
       each-eq Accepted
       (λ h.
       let m : start ≡ stop = omega arith in
-      same-value Encoded (getStatus (asked [] life shown)) w
+      same-value Encoded (getStatus (asked next [] life shown)) w
       (who-written start stop q [] life shown all (ap (λ (n : ℕ). window s n stop) m ∙ window-none s stop) g))
-      (λ _. each-lt Accepted (λ _. no-value (Encoded w) w) (λ k.
+      (λ _. each Accepted _ (λ _. no-value (Encoded w) w) λ anew. each-lt Accepted (λ _. no-value (Encoded w) w) (λ (k : 5 ≤ stop - start).
       let named : Named (partOf s (between start stop)) = subst Named (sym p) (part-named s start stop (i .ordered) (omega arith) (omega arith) (x .most)) in
-      same-value Encoded (getStatus (asked (partOf s (between start stop)) life shown)) w
-      (who-written start stop q (partOf s (between start stop)) life shown (one named) (sym p) g)))
+      same-value Encoded (getStatus (asked false (partOf s (between start stop)) life shown)) w
+      (subst (λ (n : Bool). Encoded (getStatus (asked n (partOf s (between start stop)) life shown))) anew
+      (who-written start stop q (partOf s (between start stop)) life shown (subst (λ (n : Bool). Sought n (partOf s (between start stop))) (sym anew) (one named)) (sym p) g))))
 
 pub listing-written : ListingWritten
-listing-written s at end w b q = accepted s at end w b q
+listing-written next s at end w b q = accepted next s at end w b q
 
 pub listing-filled : ListingFilled
 unfolding listingAt
-listing-filled s at end r = each (λ (z : Field). field.Found r ≡ z → Filled s 1 at end) (listWrong s at end)
+listing-filled next s at end r = each (λ (z : Field). field.Found r ≡ z → Filled s 1 at end) (listWrong s at end)
     (λ _ q. let z : _≡_ {A = ℕ} 0 1 = cc in absurd (omega arith)) (λ e _. right-filled s at end e)
+
+-- ---- the same tags
+
+-- only an empty 4F asks for all, and it is asked for before `next` is
+rows-alike : (next other : Bool) (start stop : ℕ) (life shown l m : Bool) → field.Found (request.GetStatusOfAll next life shown) ≡ rowsOf next start stop l m
+    → field.Found (request.GetStatusOfAll other life shown) ≡ rowsOf other start stop l m
+rows-alike next other start stop life shown l m =
+    let P : Field → Type 0 = λ z. field.Found (request.GetStatusOfAll next life shown) ≡ z → field.Found (request.GetStatusOfAll other life shown) ≡ rowsOf other start stop l m in
+    let none′ : P field.Wrong = λ q. let z : _≡_ {A = ℕ} 0 1 = cc in absurd (omega arith) in
+    each-eq P (λ h q. eq! _ h cc) (λ _. each P _ (λ _. none′) λ _. each-lt P (λ _. none′) (λ _ q. let z : _≡_ {A = ℕ} 0 1 = cc in absurd (omega arith)))
+
+pub same-tags : SameTags
+unfolding listingAt
+same-tags next other s at end life shown =
+    let P : Field → Type 0 = λ z. field.Found (request.GetStatusOfAll next life shown) ≡ z → field.Found (request.GetStatusOfAll other life shown) ≡ listingAt other s at end in
+    let none′ : P field.Wrong = λ q. let z : _≡_ {A = ℕ} 0 1 = cc in absurd (omega arith) in
+    each P (listWrong s at end) (λ _. none′) λ e.
+    each-found P (expectAt s at end 0x4F 0 16) none′ λ start stop f.
+    each-shown P (tagsAt s stop end) none′ λ l m g q.
+    no! _ e (rw (← f) (rw (← g) (rows-alike next other start stop life shown l m q)))

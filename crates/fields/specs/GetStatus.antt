@@ -51,16 +51,18 @@ tagsAt s at end =
     (onFound (aloneAt s at end 0x5C 0 255) tags.Wrong λ start stop.
     listedAt s start stop)
 
--- all rows where 4F is empty, else the row of its AID
-abbrev pub rowsOf : ℕ → ℕ → Bool → Bool → Field
-rowsOf start stop life fallBack =
-    pick (isSame (stop - start) 0) (field.Found (request.GetStatusOfAll life fallBack))
+-- all rows where 4F is empty, else the row of its AID; 02, request 2026-05: "P2 03 leaves the 6A 86 row; with an AID named it is 6A 80"
+abbrev pub rowsOf : Bool → ℕ → ℕ → Bool → Bool → Field
+rowsOf next start stop life fallBack =
+    pick (isSame (stop - start) 0) (field.Found (request.GetStatusOfAll next life fallBack))
+    (pick next field.Wrong
     (pick (isBelow (stop - start) 5) field.Wrong
-    (field.Found (request.GetStatusOfOne (between start stop) life fallBack)))
+    (field.Found (request.GetStatusOfOne (between start stop) life fallBack))))
 
-unfoldable pub listingAt : List ℕ → ℕ → ℕ → Field
-listingAt s at end =
+-- `next`: does the listing go on from the kept place (P2 03), or begin anew (P2 02)?
+unfoldable pub listingAt : Bool → List ℕ → ℕ → ℕ → Field
+listingAt next s at end =
     pick (listWrong s at end) field.Wrong
     (onFound (expectAt s at end 0x4F 0 16) field.Wrong λ start stop.
     onShown (tagsAt s stop end) field.Wrong λ life fallBack.
-    rowsOf start stop life fallBack)
+    rowsOf next start stop life fallBack)

@@ -34,14 +34,15 @@ pub data Deleted : Type 0 where
   delete : List ℕ → Deleted
   masterDelete : List ℕ → Deleted
 
--- whom a GET STATUS asks for, and which optional tags
+-- whether a GET STATUS goes on from the kept place, whom it asks for, and which optional tags
 pub record Asked : Type 0 where
+  pub next : Bool
   pub who : List ℕ
   pub life : Bool
   pub fallBackShown : Bool
 
-abbrev pub asked : List ℕ → Bool → Bool → Asked
-asked who life shown = record { who = who; life = life; fallBackShown = shown }
+abbrev pub asked : Bool → List ℕ → Bool → Bool → Asked
+asked next who life shown = record { next = next; who = who; life = life; fallBackShown = shown }
 
 pub data Wanted : Type 0 where
   create : Created → Wanted
@@ -58,8 +59,8 @@ wantedOf s (request.SetFallBack part) = storeData (setFallBack (partOf s part))
 wantedOf s (request.Confirm number) = storeData (confirmation number)
 wantedOf s (request.Delete part) = deletion (delete (partOf s part))
 wantedOf s (request.MasterDelete part) = deletion (masterDelete (partOf s part))
-wantedOf s (request.GetStatusOfAll life fallBack) = getStatus (asked [] life fallBack)
-wantedOf s (request.GetStatusOfOne part life fallBack) = getStatus (asked (partOf s part) life fallBack)
+wantedOf s (request.GetStatusOfAll next life fallBack) = getStatus (asked next [] life fallBack)
+wantedOf s (request.GetStatusOfOne part life fallBack) = getStatus (asked false (partOf s part) life fallBack)
 wantedOf s request.GetData = getData
 
 abbrev pub foundAs : List ℕ → Field → Option Wanted
@@ -200,27 +201,36 @@ abbrev pub Short : Option (List ListedTag) → Type 0
 Short none = Unit
 Short (some ts) = length (encodeTags ts) ≤ 255
 
--- 4F is empty, for all, or an AID
-pub data Sought : List ℕ → Type 0 where
-  all : Sought []
-  one : {who : List ℕ} → Named who → Sought who
+-- 4F is empty, for all, or an AID; a listing that goes on names none
+pub data Sought : Bool → List ℕ → Type 0 where
+  all : {next : Bool} → Sought next []
+  one : {who : List ℕ} → Named who → Sought false who
 
 -- a GET STATUS is encoded in as many ways as there are lists that show the same tags
 pub record EncodesListed (v : Asked) (bytes : List ℕ) : Type 0 where
   pub tags : Option (List ListedTag)
-  pub sought : Sought (v .who)
+  pub sought : Sought (v .next) (v .who)
   pub short : Short tags
   pub lifeAsked : v .life ≡ showsLife tags
   pub fallBackAsked : v .fallBackShown ≡ showsFallBack tags
   pub written : bytes ≡ encodeElement 0x4F (v .who) ++ encodeList tags
 
+-- the data field of a P2 that says whether the listing goes on
+abbrev pub EncodesNext : Bool → Asked → List ℕ → Type 0
+EncodesNext next v bytes = (v .next ≡ next) × EncodesListed v bytes
+
 abbrev pub ListingBack : Type 0
 ListingBack = (s : List ℕ) (at end : ℕ) (v : Asked) → at ≤ end → end ≤ length s → EncodesListed v (window s at end)
-    → foundAs s (listingAt s at end) ≡ some (getStatus v)
+    → foundAs s (listingAt (v .next) s at end) ≡ some (getStatus v)
 
 abbrev pub ListingWritten : Type 0
-ListingWritten = (s : List ℕ) (at end : ℕ) (w : Wanted) → Bytes s → foundAs s (listingAt s at end) ≡ some w
-    → Written getStatus EncodesListed s at end w
+ListingWritten = (next : Bool) (s : List ℕ) (at end : ℕ) (w : Wanted) → Bytes s → foundAs s (listingAt next s at end) ≡ some w
+    → Written getStatus (EncodesNext next) s at end w
 
 abbrev pub ListingFilled : Type 0
-ListingFilled = (s : List ℕ) (at end : ℕ) (r : Request) → field.Found r ≡ listingAt s at end → Filled s 1 at end
+ListingFilled = (next : Bool) (s : List ℕ) (at end : ℕ) (r : Request) → field.Found r ≡ listingAt next s at end → Filled s 1 at end
+
+-- a data field that asks for all asks for the same tags whether the listing goes on or begins anew
+abbrev pub SameTags : Type 0
+SameTags = (next other : Bool) (s : List ℕ) (at end : ℕ) (life shown : Bool) → field.Found (request.GetStatusOfAll next life shown) ≡ listingAt next s at end
+    → field.Found (request.GetStatusOfAll other life shown) ≡ listingAt other s at end

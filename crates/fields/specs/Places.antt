@@ -26,7 +26,7 @@ RequestIn s capacity (request.SetFallBack aid) = Placed s aid
 RequestIn s capacity (request.Delete aid) = Placed s aid
 RequestIn s capacity (request.MasterDelete aid) = Placed s aid
 RequestIn s capacity (request.Confirm number) = Unit
-RequestIn s capacity (request.GetStatusOfAll life fallBack) = Unit
+RequestIn s capacity (request.GetStatusOfAll next life fallBack) = Unit
 RequestIn s capacity (request.GetStatusOfOne aid life fallBack) = Placed s aid
 RequestIn s capacity request.GetData = Unit
 

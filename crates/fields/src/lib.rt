@@ -243,8 +243,9 @@ fn read_tags(s: &[u8], at: usize, end: usize) -> Tags
     read_listed(s, start, stop)
 }
 
-pub fn read_listing(s: &[u8], at: usize, end: usize) -> Field
-    ensures { λ r. ⌜ r ≡ listingAt (now (s .entry)) at end ⌝ }
+// `next`: a listing that goes on from the kept place, which names no AID.
+pub fn read_listing(next: bool, s: &[u8], at: usize, end: usize) -> Field
+    ensures { λ r. ⌜ r ≡ listingAt next (now (s .entry)) at end ⌝ }
 {
     if list_wrong(s, at, end) {
         return Field::Wrong;
@@ -257,7 +258,14 @@ pub fn read_listing(s: &[u8], at: usize, end: usize) -> Field
     };
     let len = stop - start;
     if len == 0 {
-        return Field::Found(Request::GetStatusOfAll { life, fall_back });
+        return Field::Found(Request::GetStatusOfAll {
+            next,
+            life,
+            fall_back,
+        });
+    }
+    if next {
+        return Field::Wrong;
     }
     if len < 5 {
         return Field::Wrong;

@@ -12,8 +12,10 @@ pub enum Request {
     Delete(Part),
     MasterDelete(Part),
     Confirm(u16),
-    // The rows of all profiles, and of the one named: with which of the two optional tags.
+    // The rows of all profiles, and of the one named: with which of the two optional tags. Only a listing of all comes in parts, so only it can go
+    // on from the kept place.
     GetStatusOfAll {
+        next: bool,
         life: bool,
         fall_back: bool,
     },

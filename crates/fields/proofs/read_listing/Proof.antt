@@ -1,4 +1,4 @@
--- `read_listing` meets its contract: a list, 4F, the tags after it, and the AID's length.
+-- `read_listing` meets its contract: a list, 4F, the tags after it, then whether an AID may be named, and its length.
 use Rattle.tlv.proofs.Inside.{expect-inside}
 use Rattle.fields.specs.GetStatus.{listingAt}
 use Rattle.choice.proofs.Branches.{yes!, no!, lt!, nlt!, eq!, ne! }
@@ -53,11 +53,15 @@ returns-4 c = no! _ (sym (c .before .before .before .before .before .before .bef
 
 returns-5 : tie.Need-returns-5
 unfolding listingAt
-returns-5 c = no! _ (sym (c .before .before .before .before .before .before .before .before .before .before .before .list-wrong .ensures) ∙ c .before .before .before .before .before .before .before .before .before .before .if1 .left) (rw (← c .before .before .before .before .before .before .before .before .before .next-element .ensures) (rw (c .before .before .before .before .before .before .before .start .given .1) (rw (← c .before .before .before .before .before .read-tags .ensures) (rw (c .before .before .before .life .given .1) (ne! _ (omega arith) (lt! _ (omega arith) refl))))))
+returns-5 c = no! _ (sym (c .before .before .before .before .before .before .before .before .before .before .before .list-wrong .ensures) ∙ c .before .before .before .before .before .before .before .before .before .before .if1 .left) (rw (← c .before .before .before .before .before .before .before .before .before .next-element .ensures) (rw (c .before .before .before .before .before .before .before .start .given .1) (rw (← c .before .before .before .before .before .read-tags .ensures) (rw (c .before .before .before .life .given .1) (ne! _ (omega arith) (yes! _ (c .if3 .taken) refl))))))
 
 returns-6 : tie.Need-returns-6
 unfolding listingAt
-returns-6 c = no! _ (sym (c .before .before .before .before .before .before .before .before .before .before .before .list-wrong .ensures) ∙ c .before .before .before .before .before .before .before .before .before .before .if1 .left) (rw (← c .before .before .before .before .before .before .before .before .before .next-element .ensures) (rw (c .before .before .before .before .before .before .before .start .given .1) (rw (← c .before .before .before .before .before .read-tags .ensures) (rw (c .before .before .before .life .given .1) (ne! _ (omega arith) (nlt! _ (omega arith) refl))))))
+returns-6 c = no! _ (sym (c .before .before .before .before .before .before .before .before .before .before .before .before .list-wrong .ensures) ∙ c .before .before .before .before .before .before .before .before .before .before .before .if1 .left) (rw (← c .before .before .before .before .before .before .before .before .before .before .next-element .ensures) (rw (c .before .before .before .before .before .before .before .before .start .given .1) (rw (← c .before .before .before .before .before .before .read-tags .ensures) (rw (c .before .before .before .before .life .given .1) (ne! _ (omega arith) (no! _ (c .before .if3 .left) (lt! _ (omega arith) refl)))))))
+
+returns-7 : tie.Need-returns-7
+unfolding listingAt
+returns-7 c = no! _ (sym (c .before .before .before .before .before .before .before .before .before .before .before .before .list-wrong .ensures) ∙ c .before .before .before .before .before .before .before .before .before .before .before .if1 .left) (rw (← c .before .before .before .before .before .before .before .before .before .before .next-element .ensures) (rw (c .before .before .before .before .before .before .before .before .start .given .1) (rw (← c .before .before .before .before .before .before .read-tags .ensures) (rw (c .before .before .before .before .life .given .1) (ne! _ (omega arith) (no! _ (c .before .if3 .left) (nlt! _ (omega arith) refl)))))))
 
 pub read-listing-spec : {M : Type 1} → statement M
 read-listing-spec =
@@ -76,4 +80,5 @@ read-listing-spec =
     sub-len
     returns-4
     returns-5
-    returns-6)
+    returns-6
+    returns-7)
