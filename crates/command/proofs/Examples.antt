@@ -2,7 +2,7 @@
 use Prim.Native.Nat.{ℕ}
 use mathlib.Core.Path.{_≡_, refl}
 use mathlib.Core.List.{List, [], _∷_, _++_, map}
-use mathlib.Core.Bool.{true}
+use mathlib.Core.Bool.{true, false}
 use Rattle.status.specs.Rows.{wordOf}
 use Rattle.status.specs.declared.Status.the-variants as status
 use Rattle.choice.specs.Choice.{pick, atMost, isBelow, isSame}
@@ -30,7 +30,14 @@ aid = 0xA0 ∷ 0 ∷ 0 ∷ 0 ∷ 2 ∷ []
 
 abbrev examples : List Example
 examples =
-    record { bytes = 0x80 ∷ 0xF2 ∷ 0x40 ∷ 0x02 ∷ 0x02 ∷ 0x4F ∷ 0x00 ∷ 0x00 ∷ []; answer = reading.Read (request.GetStatusOfAll true true) }
+    record { bytes = 0x80 ∷ 0xF2 ∷ 0x40 ∷ 0x02 ∷ 0x02 ∷ 0x4F ∷ 0x00 ∷ 0x00 ∷ []; answer = reading.Read (request.GetStatusOfAll false true true) }
+    -- P2 03 goes on, and with an AID named it is 6A 80; 01 and 04 are 6A 86
+    ∷ record { bytes = 0x80 ∷ 0xF2 ∷ 0x40 ∷ 0x03 ∷ 0x02 ∷ 0x4F ∷ 0x00 ∷ 0x00 ∷ []; answer = reading.Read (request.GetStatusOfAll true true true) }
+    ∷ record { bytes = 0x80 ∷ 0xF2 ∷ 0x40 ∷ 0x03 ∷ 0x05 ∷ 0x4F ∷ 0x00 ∷ 0x5C ∷ 0x01 ∷ 0x53 ∷ []; answer = reading.Read (request.GetStatusOfAll true false true) }
+    ∷ record { bytes = 0x80 ∷ 0xF2 ∷ 0x40 ∷ 0x03 ∷ 0x07 ∷ 0x4F ∷ 0x05 ∷ aid; answer = reading.Refused status.DataWrong }
+    ∷ record { bytes = 0x80 ∷ 0xF2 ∷ 0x40 ∷ 0x02 ∷ 0x07 ∷ 0x4F ∷ 0x05 ∷ aid; answer = reading.Read (request.GetStatusOfOne (record { start = 7; len = 5 }) true true) }
+    ∷ record { bytes = 0x80 ∷ 0xF2 ∷ 0x40 ∷ 0x01 ∷ 0x02 ∷ 0x4F ∷ 0x00 ∷ 0x00 ∷ []; answer = reading.Refused status.ParametersWrong }
+    ∷ record { bytes = 0x80 ∷ 0xF2 ∷ 0x40 ∷ 0x04 ∷ 0x02 ∷ 0x4F ∷ 0x00 ∷ 0x00 ∷ []; answer = reading.Refused status.ParametersWrong }
     ∷ record { bytes = 0x80 ∷ 0xE2 ∷ 0x88 ∷ 0x00 ∷ 0x0A ∷ 0x3A ∷ 0x05 ∷ 0x07 ∷ 0x4F ∷ 0x05 ∷ aid; answer = reading.Read (request.SetFallBack (record { start = 10; len = 5 })) }
     ∷ record { bytes = 0x80 ∷ 0xE2 ∷ 0x87 ∷ 0x00 ∷ 0x0A ∷ 0x3A ∷ 0x05 ∷ 0x07 ∷ 0x4F ∷ 0x05 ∷ aid; answer = reading.Refused status.ParametersWrong }
     ∷ record { bytes = 0x80 ∷ 0xE2 ∷ 0x88 ∷ 0x00 ∷ 0x09 ∷ 0x3A ∷ 0x05 ∷ 0x07 ∷ 0x4F ∷ 0x05 ∷ aid; answer = reading.Refused status.LengthWrong }

@@ -16,7 +16,7 @@ use Rattle.fields.specs.declared.request.Request.the-variants as request
 use Rattle.fields.specs.declared.request.Field.{Field}
 use Rattle.fields.specs.declared.request.Field.the-variants as field
 use Rattle.command.specs.Framing.{dataEnd}
-use Rattle.command.specs.Requests.{fieldOf, isWrong}
+use Rattle.command.specs.Requests.{goesOn, fieldOf, isWrong}
 use Rattle.command.specs.Reading.{accepted}
 use Rattle.command.specs.Grammar.{readAs}
 
@@ -43,7 +43,7 @@ module _ (s : List ℕ) where
     unfolding fieldOf
     field-store-data h = ne! _ (omega arith) (ne! _ (omega arith) (eq! _ h refl))
 
-    pub field-listing : byte s 1 ≡ 0xF2 → listingAt s 5 (dataEnd s) ≡ fieldOf s capacity
+    pub field-listing : byte s 1 ≡ 0xF2 → listingAt (goesOn s) s 5 (dataEnd s) ≡ fieldOf s capacity
     unfolding fieldOf
     field-listing h = ne! _ (omega arith) (ne! _ (omega arith) (ne! _ (omega arith) (eq! _ h refl)))
 

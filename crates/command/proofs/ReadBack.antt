@@ -8,9 +8,11 @@ use mathlib.Core.Bool.{Bool, true, false}
 use native.Mathlib.Omega.{arith}
 use lib.ListN.{length}
 use lib.Seq.{take-append-seam}
+use lib.Dec.{eqb}
 use borrow.Author.Tests.{le-ltb}
 use Rattle.byte_string.specs.Bytes.{byte}
 use Rattle.tlv.specs.Encoding.{window}
+use Rattle.fields.specs.GetStatus.{listingAt}
 use Rattle.fields.specs.Grammar.{EncodesStored, EncodesDeleted, EncodesListed, Wanted, create, storeData, deletion, getStatus, getData, foundAs}
 use Rattle.fields.proofs.StoreDataGrammar.{store-data-back}
 use Rattle.fields.proofs.DeletionGrammar.{deletion-back}
@@ -21,7 +23,7 @@ use Rattle.command.specs.Framing.{lengthWrong, classRight, classWrong, i
 use Rattle.command.specs.Frame.{leOf, framed}
 use Rattle.command.specs.Requests.{fieldOf, dataWrong}
 use Rattle.command.specs.Reading.{readOf}
-use Rattle.command.specs.Grammar.{readAs, Framed, Bare, CommandBack}
+use Rattle.command.specs.Grammar.{readAs, Framed, Bare, secondOf, CommandBack}
 use Rattle.command.proofs.Frames.{five, framed-length, framed-shape}
 use Rattle.command.proofs.Answers.{Passes, passes-done}
 use Rattle.command.proofs.Fields.{accepted-as, right-as, field-create, field-deletion, field-store-data, field-listing, field-get-data}
@@ -62,13 +64,14 @@ module _ (class instruction p1 p2 : ℕ) (field : List ℕ) (b : Bool) where
 -- a command with a data field, where the field's own theorem reads it back
 framed-back : (s : List ℕ) (capacity : ℕ) (v : Wanted) (instruction : ℕ) (Encoded : List ℕ → Type 0) → (instruction ≡ 0xCA → ⊥)
     → ((t : List ℕ) → byte t 1 ≡ instruction → instructionWrong t ≡ false)
-    → ((t : List ℕ) → byte t 1 ≡ instruction → 5 ≤ dataEnd t → dataEnd t ≤ length t → Encoded (window t 5 (dataEnd t)) → foundAs t (fieldOf t capacity) ≡ some v)
-    → Framed instruction Encoded s → readAs s (readOf s capacity) ≡ some v
-framed-back s capacity v instruction Encoded n known reads f =
+    → (f : Framed instruction Encoded s)
+    → ((t : List ℕ) → byte t 1 ≡ instruction → byte t 3 ≡ f .p2 → 5 ≤ dataEnd t → dataEnd t ≤ length t → Encoded (window t 5 (dataEnd t)) → foundAs t (fieldOf t capacity) ≡ some v)
+    → readAs s (readOf s capacity) ≡ some v
+framed-back s capacity v instruction Encoded n known f reads =
     let t : List ℕ = framed (f .class) instruction (f .p1) (f .p2) (f .field) (f .withLe) in
     let h = framed-held (f .class) instruction (f .p1) (f .p2) (f .field) (f .withLe) (f .least) (f .most) in
     let w = field-window (f .class) instruction (f .p1) (f .p2) (f .field) (f .withLe) in
-    let q = reads t refl (omega arith) h (subst Encoded (sym w) (f .encoded)) in
+    let q = reads t refl refl (omega arith) h (subst Encoded (sym w) (f .encoded)) in
     subst (λ (z : List ℕ). readAs z (readOf z capacity) ≡ some v) (sym (f .written))
     (framed-passes (f .class) instruction (f .p1) (f .p2) (f .field) (f .withLe) (f .least) (f .most) capacity v (f .rightClass) (f .rightParameters) n (known t refl) q)
 
@@ -87,14 +90,20 @@ bare-back s capacity f =
       dataRight = right-as t (fieldOf t capacity) getData q;
     } q)
 
+-- P2 tells whether the listing goes on
+second-next : (next : Bool) (p2 : ℕ) → p2 ≡ secondOf next → eqb p2 0x03 ≡ next
+second-next false p2 e = rw e refl
+second-next true p2 e = rw e refl
+
 pub command-back : CommandBack
 unfolding instructionWrong
-command-back s capacity (create u) = framed-back s capacity (create u) 0xE6 (EncodesCreated capacity u) (omega arith) (λ t i. rw i refl) (λ t i o l e.
+command-back s capacity (create u) f = framed-back s capacity (create u) 0xE6 (EncodesCreated capacity u) (omega arith) (λ t i. rw i refl) f (λ t i _ o l e.
     ap (foundAs t) (sym (field-create t capacity i)) ∙ install-back t 5 (dataEnd t) capacity u o l e)
-command-back s capacity (storeData u) = framed-back s capacity (storeData u) 0xE2 (EncodesStored u) (omega arith) (λ t i. rw i refl) (λ t i o l e.
+command-back s capacity (storeData u) f = framed-back s capacity (storeData u) 0xE2 (EncodesStored u) (omega arith) (λ t i. rw i refl) f (λ t i _ o l e.
     ap (foundAs t) (sym (field-store-data t capacity i)) ∙ store-data-back t 5 (dataEnd t) u o l e)
-command-back s capacity (deletion u) = framed-back s capacity (deletion u) 0xE4 (EncodesDeleted u) (omega arith) (λ t i. rw i refl) (λ t i o l e.
+command-back s capacity (deletion u) f = framed-back s capacity (deletion u) 0xE4 (EncodesDeleted u) (omega arith) (λ t i. rw i refl) f (λ t i _ o l e.
     ap (foundAs t) (sym (field-deletion t capacity i)) ∙ deletion-back t 5 (dataEnd t) u o l e)
-command-back s capacity (getStatus u) = framed-back s capacity (getStatus u) 0xF2 (EncodesListed u) (omega arith) (λ t i. rw i refl) (λ t i o l e.
-    ap (foundAs t) (sym (field-listing t capacity i)) ∙ listing-back t 5 (dataEnd t) u o l e)
-command-back s capacity getData = bare-back s capacity
+command-back s capacity (getStatus u) f = framed-back s capacity (getStatus u) 0xF2 (EncodesListed u) (omega arith) (λ t i. rw i refl) (f .command) (λ t i j o l e.
+    ap (foundAs t) (sym (field-listing t capacity i) ∙ ap (λ (n : Bool). listingAt n t 5 (dataEnd t)) (second-next (u .next) (byte t 3) (j ∙ f .second)))
+    ∙ listing-back t 5 (dataEnd t) u o l e)
+command-back s capacity getData f = bare-back s capacity f

@@ -3,6 +3,7 @@
 use Prim.Native.Nat.{ℕ, _-_, _≤_}
 use mathlib.Core.Path.{sym, subst}
 use mathlib.Core.List.{List}
+use mathlib.Core.Bool.{Bool}
 use native.Mathlib.Omega.{arith}
 use Rattle.byte_string.specs.Bytes.{between}
 use Rattle.tlv.specs.Tlv.{expectAt}
@@ -19,7 +20,7 @@ use Rattle.fields.proofs.Cases.{each-dgi, each-filled, each-shown}
 use Rattle.tlv.proofs.Branches.{each-found}
 use Rattle.install.proofs.Inside.{install-inside}
 use Rattle.command.specs.Framing.{dataEnd}
-use Rattle.command.specs.Requests.{fieldOf}
+use Rattle.command.specs.Requests.{goesOn, fieldOf}
 use Rattle.command.specs.Grammar.{ReadInside}
 use Rattle.fields.specs.Places.{Placed, FieldIn}
 use Rattle.command.proofs.Answers.{read-done}
@@ -48,12 +49,12 @@ module _ (s : List ℕ) (capacity end : ℕ) where
       each-filled (FieldIn s capacity) (verificationAt s f t) tt
       (λ _. each-found (FieldIn s capacity) (aloneAt s t end 0x9E 1 255) tt (λ _ _ _. p))))
 
-  listing-in : FieldIn s capacity (listingAt s 5 end)
+  listing-in : (next : Bool) → FieldIn s capacity (listingAt next s 5 end)
   unfolding listingAt
-  listing-in = each (FieldIn s capacity) (listWrong s 5 end) (λ _. tt) λ _. each-found (FieldIn s capacity) (expectAt s 5 end 0x4F 0 16) tt λ k e q.
+  listing-in next = each (FieldIn s capacity) (listWrong s 5 end) (λ _. tt) λ _. each-found (FieldIn s capacity) (expectAt s 5 end 0x4F 0 16) tt λ k e q.
       let x = expect-parts s 5 end 0x4F 0 16 k e q in
       each-shown (FieldIn s capacity) (tagsAt s e end) tt λ l m _.
-      each-eq (FieldIn s capacity) (λ _. tt) (λ _. each-lt (FieldIn s capacity) (λ _. tt) (λ h.
+      each-eq (FieldIn s capacity) (λ _. tt) (λ _. each (FieldIn s capacity) _ (λ _. tt) λ _. each-lt (FieldIn s capacity) (λ _. tt) (λ h.
       placed s capacity 5 end 0x4F 0 k e h x))
 
 module _ (s : List ℕ) (capacity : ℕ) where
@@ -63,7 +64,7 @@ module _ (s : List ℕ) (capacity : ℕ) where
       each-eq (FieldIn s capacity) (λ _. install-inside s 5 (dataEnd s) capacity)
       (λ _. each-eq (FieldIn s capacity) (λ _. deletion-in s capacity (dataEnd s))
       (λ _. each-eq (FieldIn s capacity) (λ _. store-data-in s capacity (dataEnd s))
-      (λ _. each-eq (FieldIn s capacity) (λ _. listing-in s capacity (dataEnd s)) (λ _. tt))))
+      (λ _. each-eq (FieldIn s capacity) (λ _. listing-in s capacity (dataEnd s) (goesOn s)) (λ _. tt))))
 
 pub read-inside : ReadInside
 read-inside s capacity r q = subst (FieldIn s capacity) (sym (read-done s capacity r q .1)) (field-in s capacity)

@@ -12,7 +12,7 @@ use borrow.Author.Tests.{eqb-true, ne-eqb, eq-eqb, not-false}
 use Rattle.byte_string.specs.Bytes.{byte}
 use Rattle.tlv.specs.Encoding.{window, Bytes}
 use Rattle.choice.proofs.Branches.{each-eq}
-use Rattle.fields.specs.Grammar.{Wanted, getData, wantedOf, foundAs}
+use Rattle.fields.specs.Grammar.{Asked, Wanted, getData, wantedOf, foundAs, EncodesListed, EncodesNext}
 use Rattle.fields.proofs.StoreDataGrammar.{store-data-written}
 use Rattle.fields.proofs.DeletionGrammar.{deletion-written}
 use Rattle.fields.proofs.ListingGrammar.{listing-written}
@@ -25,9 +25,9 @@ use Rattle.command.specs.declared.Reading.{Reading}
 use Rattle.command.specs.declared.Reading.the-variants as reading
 use Rattle.command.specs.Framing.{classRight, classWrong, instructionWrong, parametersRight, parametersWrong, shapeRight, shapeWrong, isBare, dataEnd}
 use Rattle.command.specs.Frame.{framed, dataField, hasLe}
-use Rattle.command.specs.Requests.{fieldOf}
+use Rattle.command.specs.Requests.{goesOn, fieldOf}
 use Rattle.command.specs.Reading.{readOf}
-use Rattle.command.specs.Grammar.{readAs, Framed, Bare, Encodes, CommandWritten}
+use Rattle.command.specs.Grammar.{readAs, Framed, Bare, secondOf, Listing, Encodes, CommandWritten}
 use Rattle.command.proofs.Frames.{and-l, and-r, five, framed-whole, field-length}
 use Rattle.command.proofs.Answers.{Passes, read-passes, read-done}
 
@@ -59,7 +59,7 @@ module _ (s : List ℕ) (capacity : ℕ) (p : Passes s capacity) where
   shape-right = not-false _ (p .shapeRight)
 
   framed-written : (instruction : ℕ) (Encoded : List ℕ → Type 0) → Bytes s → byte s 1 ≡ instruction → (instruction ≡ 0xCA → ⊥)
-      → Encoded (window s 5 (dataEnd s)) → Framed instruction Encoded s
+      → Encoded (window s 5 (dataEnd s)) → (f : Framed instruction Encoded s) × (f .p2 ≡ byte s 3)
   framed-written instruction Encoded b i n e =
       let other : byte s 1 ≡ 0xCA → ⊥ = λ h. n (sym i ∙ h) in
       let l = field-length s other shape-right in let m = b 4 in
@@ -76,7 +76,7 @@ module _ (s : List ℕ) (capacity : ℕ) (p : Passes s capacity) where
         encoded = subst Encoded (window-field s) e;
         written = framed-whole s other shape-right;
       } in
-      subst (λ (k : ℕ). Framed k Encoded s) i f
+      subst (λ (k : ℕ). (g : Framed k Encoded s) × (g .p2 ≡ byte s 3)) i (f, refl)
 
   -- an instruction that is none of the other four is GET DATA's
   instruction-last : (byte s 1 ≡ 0xE6 → ⊥) → (byte s 1 ≡ 0xE4 → ⊥) → (byte s 1 ≡ 0xE2 → ⊥) → (byte s 1 ≡ 0xF2 → ⊥) → byte s 1 ≡ 0xCA
@@ -118,6 +118,18 @@ bare-written s capacity p i =
     let e = five-bytes s l in
     record { class = byte s 0; rightClass = class-right s capacity p; written = cc }
 
+second-of : (i p1 p2 : ℕ) (next : Bool) → i ≡ 0xF2 → parametersRight i p1 p2 ≡ true → next ≡ eqb p2 0x03 → p2 ≡ secondOf next
+unfolding parametersRight
+second-of i p1 p2 true e h q = eqb-true p2 0x03 (sym q)
+second-of i p1 p2 false e h q =
+    let m : (eqb p1 0x40 && (eqb p2 0x02 || eqb p2 0x03)) ≡ true = or-none _ (rw e at h) in
+    eqb-true p2 0x02 (or-none (eqb p2 0x02) (rw (← q) at (and-r (eqb p1 0x40) _ m)))
+
+listing-framed : (s : List ℕ) (capacity : ℕ) → Passes s capacity → Bytes s → byte s 1 ≡ 0xF2 → (v : Asked) → EncodesNext (goesOn s) v (window s 5 (dataEnd s)) → Listing v s
+listing-framed s capacity p b i v e =
+    let f = framed-written s capacity p 0xF2 (EncodesListed v) b i (omega arith) (e .1) in
+    record { command = f .0; second = f .1 ∙ second-of (byte s 1) (byte s 2) (byte s 3) (v .next) i (parameters-right s capacity p) (e .0) }
+
 pub command-written : CommandWritten
 unfolding fieldOf
 command-written s capacity v b q =
@@ -127,15 +139,15 @@ command-written s capacity v b q =
     let P : Field → Type 0 = λ z. foundAs s z ≡ some v → Encodes capacity v s in
     each-eq P
     (λ i h. let u = install-written s 5 (dataEnd s) capacity v b h in
-    subst (λ (w : Wanted). Encodes capacity w s) (u .meant) (framed-written s capacity p 0xE6 _ b i (omega arith) (u .encoded)))
+    subst (λ (w : Wanted). Encodes capacity w s) (u .meant) (framed-written s capacity p 0xE6 _ b i (omega arith) (u .encoded) .0))
     (λ x. each-eq P
     (λ i h. let u = deletion-written s 5 (dataEnd s) v b h in
-    subst (λ (w : Wanted). Encodes capacity w s) (u .meant) (framed-written s capacity p 0xE4 _ b i (omega arith) (u .encoded)))
+    subst (λ (w : Wanted). Encodes capacity w s) (u .meant) (framed-written s capacity p 0xE4 _ b i (omega arith) (u .encoded) .0))
     (λ y. each-eq P
     (λ i h. let u = store-data-written s 5 (dataEnd s) v b h in
-    subst (λ (w : Wanted). Encodes capacity w s) (u .meant) (framed-written s capacity p 0xE2 _ b i (omega arith) (u .encoded)))
+    subst (λ (w : Wanted). Encodes capacity w s) (u .meant) (framed-written s capacity p 0xE2 _ b i (omega arith) (u .encoded) .0))
     (λ z. each-eq P
-    (λ i h. let u = listing-written s 5 (dataEnd s) v b h in
-    subst (λ (w : Wanted). Encodes capacity w s) (u .meant) (framed-written s capacity p 0xF2 _ b i (omega arith) (u .encoded)))
+    (λ i h. let u = listing-written (goesOn s) s 5 (dataEnd s) v b h in
+    subst (λ (w : Wanted). Encodes capacity w s) (u .meant) (listing-framed s capacity p b i (u .value) (u .encoded)))
     (λ w h. let g : getData ≡ v = cc in
     subst (λ (w : Wanted). Encodes capacity w s) g (bare-written s capacity p (instruction-last s capacity p x y z w)))))) f

@@ -28,13 +28,13 @@ instructionWrong s =
     (eqb (byte s 1) 0xE6
     || (eqb (byte s 1) 0xE4 || (eqb (byte s 1) 0xE2 || (eqb (byte s 1) 0xF2 || eqb (byte s 1) 0xCA))))
 
--- create 0C/00; E4 00/40; E2 P1 88 to 8F, P2 00; F2 40/02; CA FF/21
+-- create 0C/00; E4 00/40; E2 P1 88 to 8F, P2 00; F2 40/02, and 40/03: request 2026-05; CA FF/21
 unfoldable pub parametersRight : ℕ → ℕ → ℕ → Bool
 parametersRight instruction p1 p2 =
     (eqb instruction 0xE6 && (eqb p1 0x0C && eqb p2 0x00))
     || ((eqb instruction 0xE4 && (eqb p1 0x00 && eqb p2 0x40))
     || ((eqb instruction 0xE2 && ((leb 0x88 p1 && leb p1 0x8F) && eqb p2 0x00))
-    || ((eqb instruction 0xF2 && (eqb p1 0x40 && eqb p2 0x02)) || (eqb instruction 0xCA && (eqb p1 0xFF && eqb p2 0x21)))))
+    || ((eqb instruction 0xF2 && (eqb p1 0x40 && (eqb p2 0x02 || eqb p2 0x03))) || (eqb instruction 0xCA && (eqb p1 0xFF && eqb p2 0x21)))))
 
 -- 6A 86: P1 or P2 not as below
 unfoldable pub parametersWrong : List ℕ → Bool

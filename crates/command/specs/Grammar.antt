@@ -4,11 +4,11 @@ use Prim.Native.Nat.{ℕ, _≤_}
 use mathlib.Core.Path.{_≡_}
 use mathlib.Core.List.{List, [], _∷_}
 use mathlib.Core.Option.{Option, none, some}
-use mathlib.Core.Bool.{Bool, true}
+use mathlib.Core.Bool.{Bool, true, false}
 use lib.ListN.{length}
 use Rattle.tlv.specs.Encoding.{Bytes}
 use Rattle.fields.specs.Places.{RequestIn}
-use Rattle.fields.specs.Grammar.{EncodesStored, EncodesDeleted, EncodesListed, Wanted, create, storeData, deletion, getStatus, getData, wantedOf}
+use Rattle.fields.specs.Grammar.{EncodesStored, EncodesDeleted, EncodesListed, Asked, Wanted, create, storeData, deletion, getStatus, getData, wantedOf}
 use Rattle.install.specs.Grammar.{EncodesCreated}
 use Rattle.fields.specs.declared.request.Request.{Request}
 use Rattle.command.specs.declared.Reading.{Reading}
@@ -40,11 +40,21 @@ pub record Bare (s : List ℕ) : Type 0 where
   pub rightClass : classRight class ≡ true
   pub written : s ≡ class ∷ 0xCA ∷ 0xFF ∷ 0x21 ∷ 0x00 ∷ []
 
+-- P2 of a GET STATUS
+abbrev pub secondOf : Bool → ℕ
+secondOf false = 0x02
+secondOf true = 0x03
+
+-- a GET STATUS says by its P2 whether it goes on from the kept place: request 2026-05
+pub record Listing (v : Asked) (s : List ℕ) : Type 0 where
+  pub command : Framed 0xF2 (EncodesListed v) s
+  pub second : command .p2 ≡ secondOf (v .next)
+
 abbrev pub Encodes : ℕ → Wanted → List ℕ → Type 0
 Encodes capacity (create v) s = Framed 0xE6 (EncodesCreated capacity v) s
 Encodes capacity (storeData v) s = Framed 0xE2 (EncodesStored v) s
 Encodes capacity (deletion v) s = Framed 0xE4 (EncodesDeleted v) s
-Encodes capacity (getStatus v) s = Framed 0xF2 (EncodesListed v) s
+Encodes capacity (getStatus v) s = Listing v s
 Encodes capacity getData s = Bare s
 
 -- reading an encoded command gives it back

@@ -3,6 +3,7 @@
 use Prim.Native.Nat.{ℕ}
 use mathlib.Core.List.{List}
 use mathlib.Core.Bool.{Bool, true, false}
+use lib.Dec.{eqb}
 use Rattle.choice.specs.Choice.{pick, isSame}
 use Rattle.fields.specs.StoreData.{storeDataAt}
 use Rattle.fields.specs.Delete.{deletionAt}
@@ -14,13 +15,17 @@ use Rattle.install.specs.Install.{installOf}
 use Rattle.byte_string.specs.Bytes.{byte}
 use Rattle.command.specs.Framing.{dataEnd}
 
+-- P2 03 of a GET STATUS: the listing goes on from the kept place (request 2026-05; 000, Table 26: "Get next occurrence(s)")
+abbrev pub goesOn : List ℕ → Bool
+goesOn s = eqb (byte s 3) 0x03
+
 -- GET DATA has no data field
 unfoldable pub fieldOf : List ℕ → ℕ → Field
 fieldOf s capacity =
     pick (isSame (byte s 1) 0xE6) (installOf s 5 (dataEnd s) capacity)
     (pick (isSame (byte s 1) 0xE4) (deletionAt s 5 (dataEnd s))
     (pick (isSame (byte s 1) 0xE2) (storeDataAt s 5 (dataEnd s))
-    (pick (isSame (byte s 1) 0xF2) (listingAt s 5 (dataEnd s))
+    (pick (isSame (byte s 1) 0xF2) (listingAt (goesOn s) s 5 (dataEnd s))
     (field.Found request.GetData))))
 
 abbrev pub isWrong : Field → Bool

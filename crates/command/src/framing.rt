@@ -14,6 +14,11 @@ pub const GET_STATUS: u8 = 0xF2;
 
 pub const GET_DATA: u8 = 0xCA;
 
+// P2 of a GET STATUS: a listing that begins anew, and one that goes on from the kept place.
+const FIRST_ROWS: u8 = 0x02;
+
+pub const NEXT_ROWS: u8 = 0x03;
+
 pub fn length_wrong(bytes: &[u8]) -> bool
     ensures { λ r. ⌜ r ≡ lengthWrong (now (bytes .entry)) ⌝ }
 {
@@ -54,7 +59,8 @@ fn parameters_right(instruction: u8, first: u8, second: u8) -> bool
     let delete = (instruction == DELETE) & ((first == 0x00) & (second == 0x40));
     let in_range = (0x88 <= first) & (first <= 0x8F);
     let store_data = (instruction == STORE_DATA) & (in_range & (second == 0x00));
-    let get_status = (instruction == GET_STATUS) & ((first == 0x40) & (second == 0x02));
+    let listing = (second == FIRST_ROWS) | (second == NEXT_ROWS);
+    let get_status = (instruction == GET_STATUS) & ((first == 0x40) & listing);
     let get_data = (instruction == GET_DATA) & ((first == 0xFF) & (second == 0x21));
     install | (delete | (store_data | (get_status | get_data)))
 }

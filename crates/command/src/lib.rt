@@ -10,6 +10,7 @@ use fields::read_store_data;
 use framing::DELETE;
 use framing::GET_STATUS;
 use framing::INSTALL;
+use framing::NEXT_ROWS;
 use framing::STORE_DATA;
 use framing::class_wrong;
 use framing::data_end;
@@ -58,7 +59,8 @@ fn read_field(bytes: &[u8], capacity: u32) -> Field
         return read_store_data(bytes, FIELD, end);
     }
     if instruction == GET_STATUS {
-        return read_listing(bytes, FIELD, end);
+        let next = byte_at(bytes, 3) == NEXT_ROWS;
+        return read_listing(next, bytes, FIELD, end);
     }
     Field::Found(Request::GetData)
 }

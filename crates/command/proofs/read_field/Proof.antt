@@ -1,4 +1,4 @@
--- `read_field` meets its contract: by the instruction.
+-- `read_field` meets its contract: by the instruction, and for GET STATUS by P2.
 use Rattle.command.specs.Requests.{fieldOf}
 use Rattle.choice.proofs.Branches.{eq!, ne! }
 use native.Mathlib.Omega.{arith}
@@ -34,12 +34,15 @@ returns-3 : tie.Need-returns-3
 unfolding fieldOf
 returns-3 c = ne! _ (omega arith) (ne! _ (omega arith) (eq! _ (omega arith) (rw (c .read-store-data .ensures) (rw (c .before .before .before .before .data-end .ensures) refl))))
 
+byte-at-requires-2 : tie.Need-byte-at-requires-2
+byte-at-requires-2 c κs = search needs
+
 read-listing-requires : tie.Need-read-listing-requires
 read-listing-requires c κs = search needs
 
 returns-4 : tie.Need-returns-4
 unfolding fieldOf
-returns-4 c = ne! _ (omega arith) (ne! _ (omega arith) (ne! _ (omega arith) (eq! _ (omega arith) (rw (c .read-listing .ensures) (rw (c .before .before .before .before .before .data-end .ensures) refl)))))
+returns-4 c = ne! _ (omega arith) (ne! _ (omega arith) (ne! _ (omega arith) (eq! _ (omega arith) (rw (c .read-listing .ensures) (rw (c .before .byte-at2 .ensures) (rw (c .before .before .before .before .before .before .data-end .ensures) refl))))))
 
 returns-5 : tie.Need-returns-5
 unfolding fieldOf
@@ -57,6 +60,7 @@ read-field-spec =
     returns-2
     read-store-data-requires
     returns-3
+    byte-at-requires-2
     read-listing-requires
     returns-4
     returns-5)
