@@ -35,6 +35,13 @@ fn put_tags(out: &mut [u8], at: usize, life: bool, fall_back: bool) -> usize {
     put_bytes(out, at, b" 4F")
 }
 
+fn put_listing(out: &mut [u8], next: bool) -> usize {
+    if next {
+        return put_bytes(out, 0, b"get-status next");
+    }
+    put_bytes(out, 0, b"get-status all")
+}
+
 fn put_request(out: &mut [u8], bytes: &[u8], request: Request) -> usize {
     match request {
         Request::Create { aid, quota } => {
@@ -51,8 +58,12 @@ fn put_request(out: &mut [u8], bytes: &[u8], request: Request) -> usize {
             let at = put_bytes(out, 0, b"confirm ");
             put_decimal(out, at, number as u64)
         }
-        Request::GetStatusOfAll { life, fall_back } => {
-            let at = put_bytes(out, 0, b"get-status all");
+        Request::GetStatusOfAll {
+            next,
+            life,
+            fall_back,
+        } => {
+            let at = put_listing(out, next);
             put_tags(out, at, life, fall_back)
         }
         Request::GetStatusOfOne {
