@@ -6,3 +6,4 @@ pub mod Examples
 pub mod Fields
 pub mod ReadBack
 pub mod Written
+pub mod SameTags

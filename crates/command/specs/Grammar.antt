@@ -8,7 +8,7 @@ use mathlib.Core.Bool.{Bool, true, false}
 use lib.ListN.{length}
 use Rattle.tlv.specs.Encoding.{Bytes}
 use Rattle.fields.specs.Places.{RequestIn}
-use Rattle.fields.specs.Grammar.{EncodesStored, EncodesDeleted, EncodesListed, Asked, Wanted, create, storeData, deletion, getStatus, getData, wantedOf}
+use Rattle.fields.specs.Grammar.{EncodesStored, EncodesDeleted, EncodesListed, Asked, asked, Wanted, create, storeData, deletion, getStatus, getData, wantedOf}
 use Rattle.install.specs.Grammar.{EncodesCreated}
 use Rattle.fields.specs.declared.request.Request.{Request}
 use Rattle.command.specs.declared.Reading.{Reading}
@@ -45,6 +45,9 @@ abbrev pub secondOf : Bool → ℕ
 secondOf false = 0x02
 secondOf true = 0x03
 
+abbrev pub listingOf : ℕ → Bool → List ℕ → Bool → List ℕ
+listingOf class next field withLe = framed class 0xF2 0x40 (secondOf next) field withLe
+
 -- a GET STATUS says by its P2 whether it goes on from the kept place: request 2026-05
 pub record Listing (v : Asked) (s : List ℕ) : Type 0 where
   pub command : Framed 0xF2 (EncodesListed v) s
@@ -64,6 +67,14 @@ CommandBack = (s : List ℕ) (capacity : ℕ) (v : Wanted) → Encodes capacity 
 -- whatever is accepted is the encoding of what was read
 abbrev pub CommandWritten : Type 0
 CommandWritten = (s : List ℕ) (capacity : ℕ) (v : Wanted) → Bytes s → readAs s (readOf s capacity) ≡ some v → Encodes capacity v s
+
+-- the same data field asks for the same tags with P2 02 and with P2 03, whatever class and Le: request 2026-05, "With the same data field throughout"
+abbrev pub SameTags : Type 0
+SameTags = (next next′ : Bool) (class class′ : ℕ) (withLe withLe′ : Bool) (field : List ℕ) (capacity : ℕ) (life shown : Bool)
+    → Bytes (listingOf class next field withLe)
+    → readAs (listingOf class next field withLe) (readOf (listingOf class next field withLe) capacity) ≡ some (getStatus (asked next [] life shown))
+    → classRight class′ ≡ true
+    → readAs (listingOf class′ next′ field withLe′) (readOf (listingOf class′ next′ field withLe′) capacity) ≡ some (getStatus (asked next′ [] life shown))
 
 -- what an accepted command names stands in it
 abbrev pub ReadInside : Type 0

@@ -14,7 +14,7 @@ pub const GET_STATUS: u8 = 0xF2;
 
 pub const GET_DATA: u8 = 0xCA;
 
-// P2 of a GET STATUS: a listing that begins anew, and one that goes on from the kept place.
+// F2 40/02, and 40/03: request 2026-05. A listing begins anew, or goes on from the kept place.
 const FIRST_ROWS: u8 = 0x02;
 
 pub const NEXT_ROWS: u8 = 0x03;

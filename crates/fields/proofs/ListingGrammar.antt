@@ -1,5 +1,5 @@
 -- GET STATUS, both directions: 4F stands first, empty or an AID, which only a listing that begins anew may name, and after it nothing or 5C
--- alone with its list of tags. The tags are read before it is asked whether the listing goes on, so they are the same either way.
+-- alone with its list of tags.
 use Prim.Native.Nat.{ℕ, _+_, _-_, _≤_}
 use mathlib.Core.Path.{_≡_, refl, sym, ap, subst, _∙_}
 use mathlib.Core.List.{List, [], _++_}
@@ -26,7 +26,7 @@ use Rattle.fields.specs.declared.request.Field.{Field}
 use Rattle.fields.specs.declared.request.Field.the-variants as field
 use Rattle.reader.specs.Reader.{aloneAt}
 use Rattle.fields.specs.GetStatus.{rowsOf, tagsAt, listingAt}
-use Rattle.fields.specs.Grammar.{Named, ListedTag, asked, Wanted, getStatus, foundAs, Written, Sought, all, one, Short, encodeTags, encodeList, showsLife, showsFallBack, EncodesListed, EncodesNext, SameTags, ListingBack, ListingWritten, ListingFilled}
+use Rattle.fields.specs.Grammar.{Named, ListedTag, asked, Wanted, getStatus, foundAs, Written, Sought, all, one, Short, encodeTags, encodeList, showsLife, showsFallBack, EncodesNext, ListingBack, ListingWritten, ListingFilled}
 use Rattle.reader.proofs.Alone.{alone-expected, alone-written, alone-back}
 use Rattle.fields.proofs.Parts.{part-named}
 use Rattle.fields.proofs.ListedTags.{listed-back, listed-written}
@@ -166,23 +166,3 @@ pub listing-filled : ListingFilled
 unfolding listingAt
 listing-filled next s at end r = each (λ (z : Field). field.Found r ≡ z → Filled s 1 at end) (listWrong s at end)
     (λ _ q. let z : _≡_ {A = ℕ} 0 1 = cc in absurd (omega arith)) (λ e _. right-filled s at end e)
-
--- ---- the same tags
-
--- only an empty 4F asks for all, and it is asked for before `next` is
-rows-alike : (next other : Bool) (start stop : ℕ) (life shown l m : Bool) → field.Found (request.GetStatusOfAll next life shown) ≡ rowsOf next start stop l m
-    → field.Found (request.GetStatusOfAll other life shown) ≡ rowsOf other start stop l m
-rows-alike next other start stop life shown l m =
-    let P : Field → Type 0 = λ z. field.Found (request.GetStatusOfAll next life shown) ≡ z → field.Found (request.GetStatusOfAll other life shown) ≡ rowsOf other start stop l m in
-    let none′ : P field.Wrong = λ q. let z : _≡_ {A = ℕ} 0 1 = cc in absurd (omega arith) in
-    each-eq P (λ h q. eq! _ h cc) (λ _. each P _ (λ _. none′) λ _. each-lt P (λ _. none′) (λ _ q. let z : _≡_ {A = ℕ} 0 1 = cc in absurd (omega arith)))
-
-pub same-tags : SameTags
-unfolding listingAt
-same-tags next other s at end life shown =
-    let P : Field → Type 0 = λ z. field.Found (request.GetStatusOfAll next life shown) ≡ z → field.Found (request.GetStatusOfAll other life shown) ≡ listingAt other s at end in
-    let none′ : P field.Wrong = λ q. let z : _≡_ {A = ℕ} 0 1 = cc in absurd (omega arith) in
-    each P (listWrong s at end) (λ _. none′) λ e.
-    each-found P (expectAt s at end 0x4F 0 16) none′ λ start stop f.
-    each-shown P (tagsAt s stop end) none′ λ l m g q.
-    no! _ e (rw (← f) (rw (← g) (rows-alike next other start stop life shown l m q)))

@@ -229,8 +229,3 @@ ListingWritten = (next : Bool) (s : List ℕ) (at end : ℕ) (w : Wanted) → By
 
 abbrev pub ListingFilled : Type 0
 ListingFilled = (next : Bool) (s : List ℕ) (at end : ℕ) (r : Request) → field.Found r ≡ listingAt next s at end → Filled s 1 at end
-
--- a data field that asks for all asks for the same tags whether the listing goes on or begins anew
-abbrev pub SameTags : Type 0
-SameTags = (next other : Bool) (s : List ℕ) (at end : ℕ) (life shown : Bool) → field.Found (request.GetStatusOfAll next life shown) ≡ listingAt next s at end
-    → field.Found (request.GetStatusOfAll other life shown) ≡ listingAt other s at end
