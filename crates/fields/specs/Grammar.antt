@@ -215,7 +215,7 @@ pub record EncodesListed (v : Asked) (bytes : List ℕ) : Type 0 where
   pub fallBackAsked : v .fallBackShown ≡ showsFallBack tags
   pub written : bytes ≡ encodeElement 0x4F (v .who) ++ encodeList tags
 
--- the data field of a P2 that says whether the listing goes on
+-- P2 says whether the listing goes on, the data field says the rest
 abbrev pub EncodesNext : Bool → Asked → List ℕ → Type 0
 EncodesNext next v bytes = (v .next ≡ next) × EncodesListed v bytes
 
