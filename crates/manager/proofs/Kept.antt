@@ -55,7 +55,7 @@ request-legal c verdict s (request.SetFallBack aid) h = tt
 request-legal c verdict s (request.Delete aid) h = tt
 request-legal c verdict s (request.MasterDelete aid) h = tt
 request-legal c verdict s (request.Confirm number) h = tt
-request-legal c verdict s (request.GetStatusOfAll life fallback) h = tt
+request-legal c verdict s (request.GetStatusOfAll next life fallback) h = tt
 request-legal c verdict s (request.GetStatusOfOne aid life fallback) h = tt
 request-legal c verdict s request.GetData h = tt
 

@@ -3,4 +3,5 @@ pub mod Buffers
 pub mod Readings
 pub mod Kept
 pub mod Runs
+pub mod Listed
 pub mod Short

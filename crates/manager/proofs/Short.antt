@@ -22,10 +22,11 @@ use Rattle.card.specs.declared.Card.{Card}
 use Rattle.card.specs.declared.Step.{Step}
 use Rattle.card.specs.declared.Phase.{Phase}
 use Rattle.card.specs.declared.Phase.the-variants.{Quiet, Trial, Back, Fallen}
-use Rattle.responses.proofs.Lengths.{aidFits, all-at, sound-fits, sound-status-length, one-length, data-length, deleted-length}
+use Rattle.responses.proofs.Lengths.{aidFits, all-at, sound-fits, one-length, data-length, deleted-length}
+use Rattle.responses.proofs.Parts.{part-short}
 use Rattle.steps.specs.Asked.{Act, Act.enable, Act.disable, Act.delete, Act.masterDelete, Act.setFallBack, Act.status, Act.keyed, Act.stored, Act.finished, Asked, Asked.unread, Asked.create, Asked.on, Asked.confirm, Asked.statusOfAll, Asked.getData, Asked.tick, Asked.lost}
 use Rattle.card.specs.Cards.{placeOf}
-use Rattle.steps.specs.Steps.{stepOf, actResponse, responseOf}
+use Rattle.steps.specs.Steps.{stepOf, beginsAt, actResponse, responseOf}
 use Rattle.manager.specs.Calls.{asked}
 use Rattle.manager.specs.Table.{table}
 use Rattle.manager.specs.Manager.{work, step}
@@ -63,7 +64,7 @@ asked-most c unread s = omega arith
 asked-most c (create aid quota) s = omega arith
 asked-most c (on aid act) s = act-most c aid act s
 asked-most c (confirm number) s = omega (arith, deleted-length (goneIn (c .phase) c) (gone-fits c (c .phase) (sound-fits c s)))
-asked-most c (statusOfAll life fallback) s = omega (arith, sound-status-length c s life fallback)
+asked-most c (statusOfAll next life fallback) s = part-short c life fallback (beginsAt c next)
 asked-most c getData s = omega (arith, data-length c)
 asked-most c tick s = omega arith
 asked-most c lost s = omega arith

@@ -39,7 +39,7 @@ requestAsks verdict s (request.SetFallBack aid) = on (partOf s aid) setFallBack
 requestAsks verdict s (request.Delete aid) = on (partOf s aid) delete
 requestAsks verdict s (request.MasterDelete aid) = on (partOf s aid) (masterDelete verdict)
 requestAsks verdict s (request.Confirm number) = confirm number
-requestAsks verdict s (request.GetStatusOfAll life fallback) = statusOfAll life fallback
+requestAsks verdict s (request.GetStatusOfAll next life fallback) = statusOfAll next life fallback
 requestAsks verdict s (request.GetStatusOfOne aid life fallback) = on (partOf s aid) (status life fallback)
 requestAsks verdict s request.GetData = getData
 

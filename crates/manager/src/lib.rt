@@ -13,6 +13,7 @@ use places::Found;
 use responses::Information;
 use responses::write_deleted;
 use responses::write_information;
+use responses::write_part;
 use status::Status;
 ghost use mathlib.Core.Path.{_≡_};
 ghost use mathlib.Core.List.{_∷_, []};
@@ -24,7 +25,7 @@ ghost use Rattle.byte_string.specs.Put.{put};
 ghost use Rattle.card.specs.Answers.{handed, known};
 ghost use Rattle.card.specs.Fresh.{freshOutcome};
 ghost use Rattle.steps.specs.Asked.{Act.status, Asked.on, Asked.confirm, Asked.statusOfAll, Asked.getData};
-ghost use Rattle.steps.specs.Steps.{askedWork};
+ghost use Rattle.steps.specs.Steps.{partWord, askedWork};
 ghost use Rattle.manager.specs.Calls.{Call.Command, callOf, requestAsks};
 ghost use Rattle.manager.specs.Table.{leastBuffer};
 ghost use Rattle.manager.specs.Manager.{step, onSound, Served};
@@ -71,13 +72,37 @@ fn confirm(card: Card, number: u16, buf: &mut [u8]) -> Answer
     step.answer(Status::Done, n)
 }
 
-fn status_of_all(card: Card, life: bool, fallback: bool, buf: &mut [u8]) -> Answer
-    requires { ⌜ leastBuffer ≤ length (now buf) ⌝ }
-    ensures { λ r. ⌜ Served (now (buf .entry)) (known card (askedWork card (statusOfAll life fallback))) r (now (buf .exit)) ⌝ }
+// Where a listing begins: at the lowest place, or where it goes on.
+fn begins_at(kept: u8, next: bool) -> u8
+    ensures { λ r. ⌜ r ≡ cond next kept 0 ⌝ }
 {
-    let n = write_information(card, Information::All { life, fallback }, buf, 0);
-    card.step_since(card.last, Aid::none())
-        .answer(Status::Done, n)
+    if next {
+        return kept;
+    }
+    0
+}
+
+// The word of a part of a listing: are rows left?
+fn part_word(left: u8) -> Status
+    ensures { λ r. ⌜ r ≡ partWord left ⌝ }
+{
+    if left == Card::NO_PLACE {
+        return Status::Done;
+    }
+    Status::More
+}
+
+fn status_of_all(card: Card, next: bool, life: bool, fallback: bool, buf: &mut [u8]) -> Answer
+    requires { ⌜ leastBuffer ≤ length (now buf) ⌝ }
+    ensures { λ r. ⌜ Served (now (buf .entry)) (known card (askedWork card (statusOfAll next life fallback))) r (now (buf .exit)) ⌝ }
+{
+    if next & (card.kept == Card::NO_PLACE) {
+        return card.refused(Status::NotHeld);
+    }
+    let part = write_part(card, begins_at(card.kept, next), life, fallback, buf, 0);
+    card.keeping(part.left)
+        .step_since(card.last, Aid::none())
+        .answer(part_word(part.left), part.end)
 }
 
 fn status_of_one(card: Card, aid: &[u8], life: bool, fallback: bool, buf: &mut [u8]) -> Answer
@@ -97,7 +122,8 @@ fn status_of_one(card: Card, aid: &[u8], life: bool, fallback: bool, buf: &mut [
         buf,
         0,
     );
-    card.step_since(card.last, Aid::none())
+    card.forgotten()
+        .step_since(card.last, Aid::none())
         .answer(Status::Done, n)
 }
 
@@ -106,7 +132,8 @@ fn get_data(card: Card, buf: &mut [u8]) -> Answer
     ensures { λ r. ⌜ Served (now (buf .entry)) (known card (askedWork card getData)) r (now (buf .exit)) ⌝ }
 {
     let n = write_information(card, Information::Data, buf, 0);
-    card.step_since(card.last, Aid::none())
+    card.forgotten()
+        .step_since(card.last, Aid::none())
         .answer(Status::Done, n)
 }
 
@@ -130,7 +157,11 @@ fn serve(card: Card, verdict: u8, request: Request, bytes: &[u8], buf: &mut [u8]
             )
         }
         Request::Confirm(number) => confirm(card, number, buf),
-        Request::GetStatusOfAll { life, fall_back } => status_of_all(card, life, fall_back, buf),
+        Request::GetStatusOfAll {
+            next,
+            life,
+            fall_back,
+        } => status_of_all(card, next, life, fall_back, buf),
         Request::GetStatusOfOne {
             aid,
             life,

@@ -9,15 +9,16 @@ use Rattle.manager.proofs.get_data.Tie as tie
 returns : tie.Need-returns
 unfolding wordOf
 returns c =
-    let w = c .before .before .before .before .before .write-information .ensures in
+    let w = c .before .before .before .before .before .before .write-information .ensures in
     let k = w .1 in
     let n = whole (w .0) (omega arith) in
-    (record { answer = rw (c .answer .ensures, c .before .step-since .ensures, n); content = w .0 .content }, rw (c .answer .ensures, n) (omega arith))
+    (record { answer = rw (c .answer .ensures, c .before .step-since .ensures, c .before .before .before .forgotten .ensures, n); content = w .0 .content }, rw (c .answer .ensures, n) (omega arith))
 
 pub get-data-spec : {M : Type 1} → statement M
 get-data-spec =
     tie.close
     (tie.spec
+    (λ c κs. search needs)
     (λ c κs. search needs)
     (λ c κs. search needs)
     (λ c κs. search needs)

@@ -29,12 +29,12 @@ target c = found _ _ (start (asking c) .good .0) (asking c .place-of .ensures) (
 returns-2 : tie.Need-returns-2
 unfolding wordOf
 returns-2 c =
-    let e = c .before .before .before .before .before in
+    let e = c .before .before .before .before .before .before in
     let h = target (e .before .before) in
     let w = e .write-information .ensures in
     let u = w .1 in
     let n = whole (w .0) (omega arith) in
-    (record { answer = rw (h .there, c .answer .ensures, c .before .step-since .ensures, n, h .place); content = rw (h .there, h .place) (w .0 .content) }, rw (c .answer .ensures, n) (omega arith))
+    (record { answer = rw (h .there, c .answer .ensures, c .before .step-since .ensures, c .before .before .before .forgotten .ensures, n, h .place); content = rw (h .there, h .place) (w .0 .content) }, rw (c .answer .ensures, n) (omega arith))
 
 pub status-of-one-spec : {M : Type 1} → statement M
 status-of-one-spec =
@@ -45,6 +45,7 @@ status-of-one-spec =
     (λ c. search needs)
     (λ c κs. search needs)
     returns
+    (λ c κs. search needs)
     (λ c κs. search needs)
     (λ c κs. search needs)
     (λ c κs. search needs)
