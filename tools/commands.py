@@ -17,7 +17,7 @@ def apdu(header, data, le=""):
     return header.replace(" ", "") + f"{n:02X}" + data + le
 
 
-PLACES = 8
+PLACES = 32
 EID = "89001012012341234012345678901224"
 F, B = "A000000001", "A000000002"
 AID16 = "A0000005591010FFFFFFFF8900001000"
@@ -47,8 +47,12 @@ def delete(data, le=""):
     return apdu("80E40040", data, le)
 
 
-def status(data, le=""):
-    return apdu("80F24002", data, le)
+def status(data, le="", p2="02"):
+    return apdu(f"80F240{p2}", data, le)
+
+
+def next_rows(data="4F00", le=""):
+    return status(data, le, p2="03")
 
 
 def four_f(aid=B):
@@ -73,8 +77,8 @@ def free_left(places, capacity):
     return max(0, capacity - sum(quotas))
 
 
-def card_line(places, capacity=1000, volatile=7, last=0, fall_back=0, phase="Q", eid=EID, free=None):
-    """A card line. Its FREE is the right one, where there is one, unless it is given."""
+def card_line(places, capacity=1000, volatile=7, last=0, fall_back=0, phase="Q", eid=EID, free=None, kept="-"):
+    """A card line. Its FREE is the right one, where there is one, unless it is given; no listing is open unless a kept place is given."""
     words = [*places, *["-"] * (PLACES - len(places))]
     free = free_left(places, capacity) if free is None else free
-    return f"card {eid} {capacity} {volatile} {free} {last} {fall_back} {phase} " + " ".join(words)
+    return f"card {eid} {capacity} {volatile} {free} {last} {fall_back} {phase} {kept} " + " ".join(words)

@@ -45,6 +45,9 @@ pub fn put_explained(out: &mut String, card: &Card, answer: &Answer, response: &
     }
     put_table(out, card);
     put_phase(out, card.phase);
+    if let Some(index) = card.kept_place {
+        let _ = writeln!(out, "listing open: next row at place {index}");
+    }
     let _ = writeln!(out, "ticks to come {}\n", answer.ticks);
 }
 
@@ -57,6 +60,7 @@ pub fn digits(bytes: &[u8]) -> String {
 fn meaning(status: u16) -> &'static str {
     match status {
         DONE => "done",
+        MORE_ROWS => "done, more rows to come",
         NOT_SOUND => "the card is not sound",
         BUFFER_SHORT => "response buffer under 256 bytes",
         WRONG_LENGTH => "command length or length shape wrong",
@@ -65,7 +69,7 @@ fn meaning(status: u16) -> &'static str {
         WRONG_PARAMETERS => "P1 or P2 wrong",
         WRONG_DATA => "data field or values wrong, or AID already held",
         NOT_NOW => "a change is open, or none is, or the target's state is wrong",
-        NOT_HELD => "target not held, or not the outstanding number",
+        NOT_HELD => "target not held, or not the outstanding number, or no listing open",
         POLICY_FORBIDS => "the policy forbids it",
         TOKEN_REFUSED => "token verdict not 1",
         NO_ROOM => "no free place, or no room in the memory or the quota",

@@ -1,7 +1,7 @@
 //! The card of document 01: its places, its phase, what makes it sound, and the clock.
 //! Knows no command. The methods that change a card expect a sound one; `manager` asks first.
 
-pub const PLACES: usize = 8;
+pub const PLACES: usize = 32;
 pub const WAIT: u8 = 10;
 pub const CAPACITY_MOST: u32 = 1_048_576;
 pub const AID_LEAST: usize = 5;
@@ -124,6 +124,8 @@ pub struct Card {
     pub last: u16,
     pub fall_back: u8,
     pub phase: Phase,
+    /// The place of the first row that GET STATUS has not yet given, where a listing is open.
+    pub kept_place: Option<u8>,
     pub places: [Place; PLACES],
 }
 
@@ -136,6 +138,7 @@ impl Card {
         last: 0,
         fall_back: 0,
         phase: Phase::Quiet,
+        kept_place: None,
         places: [Place::ZERO; PLACES],
     };
 
@@ -159,7 +162,7 @@ impl Card {
             return false;
         }
         let mut enabled = 0;
-        // An unsound record may hold eight quotas of 2^32-1, and a free of as much.
+        // An unsound record may hold a quota of 2^32-1 in every place, and a free of as much.
         let mut together = u64::from(self.free);
         for (index, place) in self.places.iter().enumerate() {
             if *place == Place::ZERO {
@@ -178,6 +181,7 @@ impl Card {
             && together == u64::from(self.capacity)
             && self.held_at(self.fall_back).is_some_and(Place::may_be_fall_back)
             && self.phase_is_sound()
+            && self.kept_place.is_none_or(|index| self.held_at(index).is_some())
     }
 
     fn phase_is_sound(&self) -> bool {

@@ -241,23 +241,23 @@ fn a_broken_download_leaves_the_card_as_it_was() {
 fn a_freed_place_is_filled_anew() {
     for at in 1..PLACES {
         let mut kept = fresh();
-        for last in 2..=8 {
-            assert_eq!(status(&mut kept, &create(last, 100)), 0x9000);
+        for last in 2..=32 {
+            assert_eq!(status(&mut kept, &create(last, 20)), 0x9000);
             assert_eq!(manager::keyed(&mut kept, &name(last)).status, 0x9000);
         }
         let gone = at as u8 + 1;
         let full = kept;
-        assert_eq!(status(&mut kept, &create(9, 1)), 0x6A84);
-        assert_eq!(manager::stored(&mut kept, &name(gone), 100).status, 0x9000);
+        assert_eq!(status(&mut kept, &create(33, 1)), 0x6A84);
+        assert_eq!(manager::stored(&mut kept, &name(gone), 20).status, 0x9000);
         assert_eq!(status(&mut kept, &delete(gone)), 0x9000);
-        // 1000 less eight quotas of 100 left 200 free; the one deleted makes them 300.
+        // 1000 less a quota of 100 and 31 of 20 left 280 free; the one deleted makes them 300.
         assert_eq!(status(&mut kept, &create(gone, 301)), 0x6A84);
-        assert_eq!(status(&mut kept, &create(gone, 100)), 0x9000);
+        assert_eq!(status(&mut kept, &create(gone, 20)), 0x9000);
         assert_eq!(manager::keyed(&mut kept, &name(gone)).status, 0x9000);
         assert_eq!(kept, full);
         assert_eq!(status(&mut kept, &delete(gone)), 0x9000);
-        assert_eq!(status(&mut kept, &create(9, 300)), 0x9000);
-        let other = Place { aid: Aid::of(&name(9)), life_cycle: SELECTABLE, quota: 300, ..Place::ZERO };
+        assert_eq!(status(&mut kept, &create(33, 300)), 0x9000);
+        let other = Place { aid: Aid::of(&name(33)), life_cycle: SELECTABLE, quota: 300, ..Place::ZERO };
         assert_eq!((kept.card().places[at], kept.card().free), (other, 0));
     }
 }

@@ -53,7 +53,8 @@ fn free_and_the_quotas_are_the_capacity() {
 
 #[test]
 fn a_record_is_not_sound_by_a_sum_that_wraps() {
-    for quotas in [&[501, 500][..], &[1000; 8], &[u32::MAX; 8], &[1 << 29; 8], &[u32::MAX, 101], &[1 << 31, 1 << 31]] {
+    for quotas in [&[501, 500][..], &[1000; 32], &[u32::MAX; 32], &[1 << 27; 32], &[u32::MAX, 101], &[1 << 31, 1 << 31]]
+    {
         let wrapped = quotas.iter().fold(CAPACITY, |free, quota| free.wrapping_sub(*quota));
         for free in [0, 1, CAPACITY, wrapped, u32::MAX] {
             assert!(!card_of(quotas, free).is_sound(), "{quotas:?} and {free}");
@@ -173,7 +174,7 @@ fn a_card_line_hands_it_in() {
     let answered = |words: &str| {
         let mut out = String::new();
         let mut script = Script::new(Options::default());
-        script.line(line(&format!("{words} Q {places}")).as_bytes(), &mut out)?;
+        script.line(line(&format!("{words} Q - {places}")).as_bytes(), &mut out)?;
         let card = *script.card();
         Ok::<_, Bad>((out, card.volatile, card.free, card.last, card.fall_back))
     };

@@ -9,6 +9,8 @@ mod deletion_tests;
 mod events;
 #[cfg(test)]
 mod free_tests;
+#[cfg(test)]
+mod listing_tests;
 mod manager;
 mod minutes;
 #[cfg(test)]

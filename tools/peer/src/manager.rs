@@ -3,10 +3,12 @@
 //! Soundness is asked where a card is handed in, and kept: no step from a sound card makes an unsound one.
 
 use crate::card::*;
-use crate::read::{read, Request};
+use crate::read::{read, Request, Rows, Tags};
 use crate::status::*;
 
 pub const BUFFER_LEAST: usize = 256;
+/// No response is longer, so a long listing comes in parts.
+const RESPONSE_MOST: usize = 255;
 
 #[derive(Clone, Copy, PartialEq, Eq, Debug)]
 pub struct Answer {
@@ -21,15 +23,17 @@ pub struct Answer {
 struct Done {
     written: usize,
     notification: Option<Notification>,
+    /// The place of the first row not given, where some are left.
+    row_left: Option<u8>,
 }
 
 impl Done {
     fn notified(notification: Notification) -> Done {
-        Done { written: 0, notification: Some(notification) }
+        Done { notification: Some(notification), ..Done::default() }
     }
 
     fn wrote(written: usize) -> Done {
-        Done { written, notification: None }
+        Done { written, ..Done::default() }
     }
 }
 
@@ -62,8 +66,11 @@ fn on_sound(kept: &mut Kept, step: impl FnOnce(&mut Card) -> Result<Done, u16>) 
     }
     let card = &mut kept.card;
     match step(card) {
-        Ok(Done { written, notification }) => {
-            Answer { status: DONE, written, notification, ticks: card.ticks_to_come() }
+        Ok(Done { written, notification, row_left }) => {
+            // Every accepted call forgets the place kept before it; only the rows that its own part leaves are kept.
+            card.kept_place = row_left;
+            let status = if row_left.is_some() { MORE_ROWS } else { DONE };
+            Answer { status, written, notification, ticks: card.ticks_to_come() }
         }
         Err(status) => refused(status, card.ticks_to_come()),
     }
@@ -78,17 +85,19 @@ pub fn fresh(eid: &[u8], aid: &[u8], capacity: u32, quota: u32, used: u32, volat
 }
 
 pub fn hand_in(card: Card) -> (Kept, Answer) {
-    let mut kept = Kept::of(card);
-    let answer = on_sound(&mut kept, |_| Ok(Done::default()));
-    (kept, answer)
+    let kept = Kept::of(card);
+    // No call is made of the card: it keeps the place it came with.
+    let status = if kept.sound { DONE } else { NOT_SOUND };
+    let ticks = if kept.sound { card.ticks_to_come() } else { 0 };
+    (kept, Answer { status, written: 0, notification: None, ticks })
 }
 
 pub fn tick(kept: &mut Kept) -> Answer {
-    on_sound(kept, |card| Ok(Done { written: 0, notification: card.tick() }))
+    on_sound(kept, |card| Ok(Done { notification: card.tick(), ..Done::default() }))
 }
 
 pub fn lost(kept: &mut Kept) -> Answer {
-    on_sound(kept, |card| Ok(Done { written: 0, notification: card.lost() }))
+    on_sound(kept, |card| Ok(Done { notification: card.lost(), ..Done::default() }))
 }
 
 pub fn keyed(kept: &mut Kept, aid: &[u8]) -> Answer {
@@ -137,9 +146,7 @@ pub fn command(kept: &mut Kept, verdict: u8, bytes: &[u8], buffer: &mut [u8]) ->
             Request::Delete(aid) => delete(card, aid, buffer),
             Request::MasterDelete(aid) => master_delete(card, aid, verdict, buffer),
             Request::Confirm(number) => confirm(card, number, buffer),
-            Request::GetStatus { which, life_cycle, attributes } => {
-                get_status(card, which, life_cycle, attributes, buffer)
-            }
+            Request::GetStatus { rows, tags } => get_status(card, rows, tags, buffer),
             Request::GetData => Ok(get_data(card, buffer)),
         }
     })
@@ -233,30 +240,31 @@ fn confirm(card: &mut Card, number: u16, buffer: &mut [u8]) -> Result<Done, u16>
     Ok(Done::wrote(response.length))
 }
 
-fn get_status(
-    card: &Card,
-    which: Option<&[u8]>,
-    life_cycle: bool,
-    attributes: bool,
-    buffer: &mut [u8],
-) -> Result<Done, u16> {
-    let only = which.map(|aid| held(card, aid)).transpose()?;
+fn get_status(card: &Card, rows: Rows, tags: Tags, buffer: &mut [u8]) -> Result<Done, u16> {
     let mut response = Response::into(buffer);
-    for (index, place) in card.places.iter().enumerate() {
-        if !place.is_held() || only.is_some_and(|only| only != index) {
-            continue;
+    let from = match rows {
+        Rows::All => 0,
+        Rows::Next => card.kept_place.ok_or(NOT_HELD)?.into(),
+        Rows::Of(aid) => {
+            response.row(card, held(card, aid)?, tags);
+            return Ok(Done::wrote(response.length));
         }
-        response.list(&[0xE3], |response| {
-            response.element(&[0x4F], place.aid.bytes());
-            if life_cycle {
-                response.element(&[0x9F, 0x70], &[place.life_cycle]);
-            }
-            if attributes {
-                response.element(&[0x53], &[u8::from(card.is_fall_back(index))]);
-            }
-        });
+    };
+    for index in (from..PLACES).filter(|index| card.places[*index].is_held()) {
+        // A later, shorter row is not given before this one.
+        if response.length + row_length(&card.places[index], tags) > RESPONSE_MOST {
+            return Ok(Done { row_left: Some(index as u8), ..Done::wrote(response.length) });
+        }
+        response.row(card, index, tags);
     }
     Ok(Done::wrote(response.length))
+}
+
+/// How long the row is that `Response::row` writes.
+fn row_length(place: &Place, tags: Tags) -> usize {
+    let life_cycle = if tags.life_cycle { 4 } else { 0 };
+    let attributes = if tags.attributes { 3 } else { 0 };
+    4 + place.aid.bytes().len() + life_cycle + attributes
 }
 
 fn get_data(card: &Card, buffer: &mut [u8]) -> Done {
@@ -275,7 +283,7 @@ fn write_zero(buffer: &mut [u8]) -> Done {
     Done::wrote(1)
 }
 
-/// Writes from the buffer's first byte on. No response reaches a length that needs the 81 form.
+/// Writes from the buffer's first byte on. No element of a response reaches a length that needs the 81 form.
 struct Response<'a> {
     buffer: &'a mut [u8],
     length: usize,
@@ -295,6 +303,19 @@ impl<'a> Response<'a> {
         self.put(tag);
         self.put(&[value.len() as u8]);
         self.put(value);
+    }
+
+    fn row(&mut self, card: &Card, index: usize, tags: Tags) {
+        let place = &card.places[index];
+        self.list(&[0xE3], |response| {
+            response.element(&[0x4F], place.aid.bytes());
+            if tags.life_cycle {
+                response.element(&[0x9F, 0x70], &[place.life_cycle]);
+            }
+            if tags.attributes {
+                response.element(&[0x53], &[u8::from(card.is_fall_back(index))]);
+            }
+        });
     }
 
     fn list(&mut self, tag: &[u8], elements: impl FnOnce(&mut Self)) {

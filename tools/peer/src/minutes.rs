@@ -5,7 +5,7 @@ use crate::answers::digits;
 use crate::card::Aid;
 use crate::events::{Event, Month, Refusal};
 use crate::manager::{self, BUFFER_LEAST};
-use crate::status::DONE;
+use crate::status::is_done;
 use std::fmt::Write;
 
 const LINES_MOST: usize = 64;
@@ -39,7 +39,7 @@ impl Report {
                 }
                 Event::Lost => manager::lost(&mut kept),
             };
-            report.refused += u32::from(answer.status != DONE);
+            report.refused += u32::from(!is_done(answer.status));
             // Whatever enables a profile issues a notification, which bears its AID; a test holds the two together.
             if let Some(notification) = answer.notification {
                 line = report.enable(notification.aid);

@@ -7,23 +7,30 @@ use crate::status::*;
 
 #[derive(Clone, Copy, PartialEq, Eq, Debug)]
 pub enum Request<'a> {
-    Create {
-        aid: &'a [u8],
-        quota: u32,
-    },
+    Create { aid: &'a [u8], quota: u32 },
     Enable(&'a [u8]),
     Disable(&'a [u8]),
     SetFallBack(&'a [u8]),
     Delete(&'a [u8]),
     MasterDelete(&'a [u8]),
     Confirm(u16),
-    /// `which` is none where all are asked for.
-    GetStatus {
-        which: Option<&'a [u8]>,
-        life_cycle: bool,
-        attributes: bool,
-    },
+    GetStatus { rows: Rows<'a>, tags: Tags },
     GetData,
+}
+
+/// Whose rows GET STATUS asks for: from the first one on, from the first one not yet given on, or one profile's.
+#[derive(Clone, Copy, PartialEq, Eq, Debug)]
+pub enum Rows<'a> {
+    All,
+    Next,
+    Of(&'a [u8]),
+}
+
+/// What a row has beside its AID.
+#[derive(Clone, Copy, PartialEq, Eq, Debug)]
+pub struct Tags {
+    pub life_cycle: bool,
+    pub attributes: bool,
 }
 
 const COMMAND_MOST: usize = 261;
@@ -33,6 +40,10 @@ const DELETE: u8 = 0xE4;
 const STORE_DATA: u8 = 0xE2;
 const GET_STATUS: u8 = 0xF2;
 const GET_DATA: u8 = 0xCA;
+
+/// The P2 of GET STATUS (000, Table 26): b1 tells the next occurrences from the first ones.
+const FIRST_ROWS: u8 = 0x02;
+const NEXT_ROWS: u8 = 0x03;
 
 pub fn read(bytes: &[u8], capacity: u32) -> Result<Request<'_>, u16> {
     let [class, instruction, p1, p2, body @ ..] = bytes else { return Err(WRONG_LENGTH) };
@@ -46,7 +57,7 @@ pub fn read(bytes: &[u8], capacity: u32) -> Result<Request<'_>, u16> {
         INSTALL => (*p1, *p2) == (0x0C, 0x00),
         DELETE => (*p1, *p2) == (0x00, 0x40),
         STORE_DATA => (0x88..=0x8F).contains(p1) && *p2 == 0x00,
-        GET_STATUS => (*p1, *p2) == (0x40, 0x02),
+        GET_STATUS => *p1 == 0x40 && matches!(*p2, FIRST_ROWS | NEXT_ROWS),
         GET_DATA => (*p1, *p2) == (0xFF, 0x21),
         _ => return Err(WRONG_INSTRUCTION),
     };
@@ -61,7 +72,7 @@ pub fn read(bytes: &[u8], capacity: u32) -> Result<Request<'_>, u16> {
         INSTALL => create(field, capacity),
         DELETE => delete(field),
         STORE_DATA => store_data(field),
-        _ => get_status(field),
+        _ => get_status(field, *p2 == NEXT_ROWS),
     }
     .ok_or(WRONG_DATA)
 }
@@ -172,24 +183,35 @@ fn granted_memory(parameters: &[u8]) -> Option<u32> {
     }
 }
 
-fn get_status(field: &[u8]) -> Option<Request<'_>> {
+fn get_status(field: &[u8], next: bool) -> Option<Request<'_>> {
     let (name, left) = element(&[0x4F], field)?;
-    let which = if name.is_empty() { None } else { Some(right_aid(name)?) };
-    if left.is_empty() {
-        return Some(Request::GetStatus { which, life_cycle: true, attributes: true });
-    }
-    let mut listed = only_element(&[0x5C], left)?;
-    let (mut life_cycle, mut attributes) = (false, false);
+    let rows = match name {
+        [] if next => Rows::Next,
+        [] => Rows::All,
+        // The next rows are those of all profiles: to name one is wrong, held or not.
+        _ if next => return None,
+        _ => Rows::Of(right_aid(name)?),
+    };
+    let tags = if left.is_empty() {
+        Tags { life_cycle: true, attributes: true }
+    } else {
+        listed_tags(only_element(&[0x5C], left)?)?
+    };
+    Some(Request::GetStatus { rows, tags })
+}
+
+fn listed_tags(mut listed: &[u8]) -> Option<Tags> {
+    let mut tags = Tags { life_cycle: false, attributes: false };
     loop {
         listed = match listed {
-            [] => return Some(Request::GetStatus { which, life_cycle, attributes }),
+            [] => return Some(tags),
             [0x4F, left @ ..] => left,
             [0x9F, 0x70, left @ ..] => {
-                life_cycle = true;
+                tags.life_cycle = true;
                 left
             }
             [0x53, left @ ..] => {
-                attributes = true;
+                tags.attributes = true;
                 left
             }
             _ => return None,

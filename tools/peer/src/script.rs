@@ -4,11 +4,12 @@
 use crate::answers::{put_explained, put_hex, put_line};
 use crate::card::*;
 use crate::manager::{self, Answer, Kept};
-use crate::read::{read, Request};
+use crate::read::{read, Request, Rows};
 use std::fmt::Write;
 
 pub const LINE_MOST: usize = 4096;
 const BUFFER_MOST: u32 = 1024;
+const KEPT_MOST: u32 = 254;
 
 #[derive(Clone, Copy, PartialEq, Eq, Debug)]
 pub enum Bad {
@@ -115,6 +116,14 @@ fn place(word: &[u8]) -> Option<Place> {
     })
 }
 
+/// The kept place, or `-` for none.
+fn kept_place(word: &[u8]) -> Option<Option<u8>> {
+    if word == b"-" {
+        return Some(None);
+    }
+    number(word, KEPT_MOST).map(|index| Some(index as u8))
+}
+
 /// How many words may follow a line's first one, at least and at most.
 fn words_after(first: &[u8]) -> Result<(usize, usize), Bad> {
     Ok(match first {
@@ -123,7 +132,7 @@ fn words_after(first: &[u8]) -> Result<(usize, usize), Bad> {
         b"keyed" => (1, 1),
         b"stored" => (2, 2),
         b"tick" | b"lost" => (0, 0),
-        b"card" => (7 + PLACES, 7 + PLACES),
+        b"card" => (8 + PLACES, 8 + PLACES),
         _ => return Err(Bad::UnknownWord),
     })
 }
@@ -162,9 +171,10 @@ fn card(words: &[&[u8]]) -> Result<Card, Bad> {
         last: two_bytes(words[4]).ok_or(Bad::Number)?,
         fall_back: byte_of(words[5])?,
         phase: phase(words[6]).ok_or(Bad::Phase)?,
+        kept_place: kept_place(words[7]).ok_or(Bad::Number)?,
         places: [Place::ZERO; PLACES],
     };
-    for (index, word) in words[7..].iter().enumerate() {
+    for (index, word) in words[8..].iter().enumerate() {
         card.places[index] = place(word).ok_or(Bad::Place)?;
     }
     Ok(card)
@@ -290,15 +300,15 @@ pub fn reading(line: &[u8], capacity: u32, out: &mut String) -> Result<(), Bad> 
             let _ = writeln!(out, "confirm {number}");
             return Ok(());
         }
-        Ok(Request::GetStatus { which, life_cycle, attributes }) => {
-            let more = if life_cycle { ",9F70" } else { "" }.to_owned() + if attributes { ",53" } else { "" };
-            match which {
-                None => {
-                    let _ = writeln!(out, "get-status all 4F{more}");
-                    return Ok(());
-                }
-                Some(aid) => ("get-status ", aid, format!(" 4F{more}")),
-            }
+        Ok(Request::GetStatus { rows, tags }) => {
+            let more = if tags.life_cycle { ",9F70" } else { "" }.to_owned() + if tags.attributes { ",53" } else { "" };
+            let which = match rows {
+                Rows::All => "all",
+                Rows::Next => "next",
+                Rows::Of(aid) => &hex_word(aid),
+            };
+            let _ = writeln!(out, "get-status {which} 4F{more}");
+            return Ok(());
         }
         Ok(Request::GetData) => {
             out.push_str("get-data\n");
@@ -312,8 +322,6 @@ pub fn reading(line: &[u8], capacity: u32, out: &mut String) -> Result<(), Bad> 
     Ok(())
 }
 
-/// For the generator, which writes what this module reads.
-#[allow(dead_code)]
 pub fn hex_word(bytes: &[u8]) -> String {
     let mut out = String::new();
     put_hex(&mut out, bytes);

@@ -40,9 +40,9 @@ fn create(aid: u8, quota: u32) -> String {
     format!("command 0 80E60C002405A00000000105A00000000105A0000000{aid:02X}01800EC90481020370EF068304{quota:08X}00")
 }
 
-/// A card line with the places given, and places of zeros after them.
+/// A card line with no listing open, the places given, and places of zeros after them.
 fn card_line(eid: &str, numbers: &str, phase: &str, places: &[&str]) -> String {
-    format!("card {eid} {numbers} {phase} {}{}", places.join(" "), " -".repeat(PLACES - places.len()))
+    format!("card {eid} {numbers} {phase} - {}{}", places.join(" "), " -".repeat(PLACES - places.len()))
 }
 
 /// A card on which 02 stands DISABLED, finished with the given words: its policy, or its policy and mark.
@@ -100,12 +100,12 @@ fn marked_examples_1_to_6() {
     assert_eq!(after(&with_02("0"), &["command 0 80E28800093A05064F04A0000000"]), "6A80 - - 0");
     assert_eq!(last(&[FRESH, &create(2, 900)]), "9000 00 - 0");
     assert_eq!(last(&[FRESH, &create(2, 901)]), "6A84 - - 0");
-    let eight: Vec<String> = std::iter::once(FRESH.to_owned()).chain((2..=8).map(|aid| create(aid, 10))).collect();
-    let answers = play(&eight.iter().map(String::as_str).collect::<Vec<_>>());
+    let full: Vec<String> = std::iter::once(FRESH.to_owned()).chain((2..=32).map(|aid| create(aid, 10))).collect();
+    let answers = play(&full.iter().map(String::as_str).collect::<Vec<_>>());
     assert!(answers[1..].iter().all(|answer| answer == "9000 00 - 0"));
-    assert_eq!(after(&eight, &[&create(9, 10)]), "6A84 - - 0");
-    let freed = ["keyed A000000002", "stored A000000002 1", "finished A000000002 0", DELETE_02, &create(9, 10)];
-    assert_eq!(after(&eight, &freed), "9000 00 - 0");
+    assert_eq!(after(&full, &[&create(33, 10)]), "6A84 - - 0");
+    let freed = ["keyed A000000002", "stored A000000002 1", "finished A000000002 0", DELETE_02, &create(33, 10)];
+    assert_eq!(after(&full, &freed), "9000 00 - 0");
 }
 
 #[test]
@@ -389,7 +389,7 @@ fn unsound_cards() {
     };
     broken(&|card| card.capacity = 0);
     broken(&|card| card.capacity = 1_048_577);
-    broken(&|card| card.fall_back = 8);
+    broken(&|card| card.fall_back = 32);
     broken(&|card| card.fall_back = 4);
     broken(&|card| card.places[3].policy = 5);
     broken(&|card| card.places[3].policy = 8);

@@ -387,8 +387,9 @@ impl Generator {
             Phase::Back { left, number } => format!("B:{left}:{number}"),
             Phase::Fallen { left, number } => format!("F:{left}:{number}"),
         };
+        let kept_place = card.kept_place.map_or("-".to_owned(), |index| index.to_string());
         let mut line = format!(
-            "card {} {} {} {} {} {} {phase}",
+            "card {} {} {} {} {} {} {phase} {kept_place}",
             hex_word(&card.eid),
             card.capacity,
             card.volatile,
