@@ -129,11 +129,27 @@ def row(a, state, fall_back):
 S, P, D, E = "07", "0F", "1F", "3F"
 
 
+def shown(*rows):
+    """The rows of GET STATUS: (AID number or text, state); a third member tells the fall-back."""
+    return "".join(row(a if isinstance(a, str) else aid(a), state, "01" if fall_back else "00") for a, state, *fall_back in rows)
+
+
+def part(text, left, ticks=0):
+    """The answer to a part of a listing, and whether rows are left."""
+    assert len(text) <= 2 * 255
+    return f"{'6310' if left else '9000'} {text} - {ticks}"
+
+
 def table(*rows, ticks=0):
-    """GET STATUS of all: (AID number or text, state) rows; a third member tells the fall-back."""
-    text = "".join(row(a if isinstance(a, str) else aid(a), state, "01" if fall_back else "00")
-                   for a, state, *fall_back in rows)
-    command(status("4F00", le="00"), done(ticks, response=text))
+    """GET STATUS of all, as rows that fit one response."""
+    command(status("4F00", le="00"), part(shown(*rows), False, ticks))
+
+
+def parts(*groups, ticks=0):
+    """GET STATUS of all in so many parts, each with the rows written for it."""
+    for at, rows in enumerate(groups, 1):
+        data = status("4F00", le="00") if at == 1 else next_rows(le="00")
+        command(data, part(shown(*rows), at < len(groups), ticks))
 
 
 def figures(n, free, ticks=0, volatile=VOLATILE):
@@ -274,15 +290,15 @@ makes(3, no("6A84"), quota=2)
 makes(3, quota=1)
 figures(3, 0)
 
-name("Example 6: the eighth taken, the ninth refused, taken after a delete")
+name("Example 6: the thirty-second taken, the thirty-third refused, taken after a delete")
 fresh()
 profile(2)
-for n in range(3, 9):
-    makes(n)
-makes(9, no("6A84"))
+for n in range(3, 33):
+    makes(n, quota=20)
+makes(33, no("6A84"), quota=20)
 deletes(2)
-makes(9)
-table((1, E, True), (9, S), (3, S), (4, S), (5, S), (6, S), (7, S), (8, S))
+makes(33, quota=20)
+parts([(1, E, True), (33, S), *[(n, S) for n in range(3, 16)]], [(n, S) for n in range(16, 31)], [(31, S), (32, S)])
 
 name("Example 7: enable 02, nine ticks, confirm 1: 02 stays")
 fresh()
@@ -371,10 +387,10 @@ makes(1, no("6A80"))
 
 name("create refused: no room in bytes; then no place")
 makes(3, no("6A84"), quota=851)
-for n in range(3, 9):
+for n in range(3, 33):
     makes(n, quota=1)
-figures(8, 844)
-makes(9, no("6A84"), quota=1)
+figures(32, 820)
+makes(33, no("6A84"), quota=1)
 
 name("create refused while a change is open")
 fresh()
@@ -704,10 +720,11 @@ command(store("3A03", four_f("A000000001000000")), no("6A88"))
 name("Ruling 36: create with a held AID: after 69 85, before 6A 84")
 fresh()
 profile(2)
-for n in range(3, 9):
-    makes(n)
+for n in range(3, 33):
+    makes(n, quota=10)
 makes(8, no("6A80"))
-makes(8, no("6A80"), quota=1000)
+makes(32, no("6A80"), quota=1000)
+makes(33, no("6A84"), quota=1)
 enables(2, done(20, notification=note(2, 1, 2)))
 makes(8, no("6985", 20))
 
@@ -900,7 +917,7 @@ keyed(2)
 finished(2, 0, no("6985"))
 enables(3, done(30, notification=note(2, 1, 3)))
 
-name("Ruling 50: rows by place, SELECTABLE too; eight AIDs of 16 bytes are 216 bytes")
+name("Ruling 50: rows by place, SELECTABLE too; eight AIDs of 16 bytes are 216 bytes, one response")
 longs = [f"A0000005591010FFFFFFFF89000010{n:02X}" for n in range(8)]
 card(done(), fall_back=7, places=[place(a, s) for a, s in zip(reversed(longs), (S, P, D, E, S, P, D, D))])
 table(*[(a, s) for a, s in zip(reversed(longs), (S, P, D, E, S, P, D))], (longs[0], D, True))
@@ -968,7 +985,7 @@ card(no("6F00"), fall_back=1, places=[place(1, E), place(2, S)])
 card(no("6F00"), fall_back=1, places=[place(1, E), place(2, P)])
 card(no("6F00"), places=[place(1, E, quota=501), place(2, D, quota=500)])
 card(done(), places=[place(1, E, quota=500), place(2, D, quota=500)])
-card(no("6F00"), places=[place(n, E if n == 1 else D, quota=4294967295) for n in range(1, 9)])
+card(no("6F00"), places=[place(n, E if n == 1 else D, quota=4294967295) for n in range(1, 33)])
 card(no("6F00"), capacity=1048576, places=[place(1, E, quota=4294967295), place(2, D, quota=1048576)])
 
 name("Ruling 54: the phase of a sound card")
@@ -1476,49 +1493,50 @@ makes(2)
 table((1, E, True), (3, S), (2, S))
 figures(3, 820)
 
-name("B60: eight are held, one of them half-loaded: its place is the ninth's")
-for n, calls in ((2, 3), (5, 2), (8, 1)):
+name("B60: thirty-two are held, one of them half-loaded: its place is the thirty-third's")
+for n, calls in ((2, 3), (17, 2), (32, 1)):
     fresh()
-    for other in range(2, 9):
-        broken(other, calls if other == n else 1)
-    figures(8, 550)
-    makes(9, no("6A84"))
+    for other in range(2, 33):
+        broken(other, calls if other == n else 1, quota=20)
+    figures(32, 280)
+    makes(33, no("6A84"))
     deletes(n)
-    figures(7, 600)
-    makes(9)
-    table((1, E, True), *[(9 if other == n else other, S) for other in range(2, 9)])
+    figures(31, 300)
+    makes(33)
+    rows = [(1, E, True), *[(33 if other == n else other, S) for other in range(2, 33)]]
+    parts(rows[:15], rows[15:30], rows[30:])
     makes(n, no("6A84"))
-    figures(8, 550)
+    figures(32, 250)
 
-name("B60: the eighth created, deleted and created again")
+name("B60: the thirty-second created, deleted and created again")
 fresh()
-for n in range(2, 8):
-    makes(n)
+for n in range(2, 32):
+    makes(n, quota=20)
 for calls in (1, 2, 3):
-    broken(8, calls)
-    makes(9, no("6A84"))
-    deletes(8)
-    figures(7, 600)
-makes(9)
-makes(8, no("6A84"))
-table((1, E, True), *[(n, S) for n in range(2, 8)], (9, S))
+    broken(32, calls)
+    makes(33, no("6A84"))
+    deletes(32)
+    figures(31, 300)
+makes(33)
+makes(32, no("6A84"))
+parts([(1, E, True), *[(n, S) for n in range(2, 16)]], [(n, S) for n in range(16, 31)], [(31, S), (33, S)])
 
-name("B60: eight are held and nothing is free: once the eighth is deleted its quota is taken again, and one byte more is not")
+name("B60: thirty-two are held and nothing is free: once the last is deleted its quota is taken again, and one byte more is not")
 fresh()
-for n in range(2, 8):
-    makes(n, quota=100)
-broken(8, 3, quota=300, used=300)
-figures(8, 0)
-makes(9, no("6A84"), quota=1)
-deletes(8)
-figures(7, 300)
-makes(9, no("6A84"), quota=301)
-makes(9, quota=300)
-figures(8, 0)
-makes(8, no("6A84"), quota=1)
-deletes(9)
-makes(8, quota=1)
-figures(8, 299)
+for n in range(2, 32):
+    makes(n, quota=20)
+broken(32, 3, quota=300, used=300)
+figures(32, 0)
+makes(33, no("6A84"), quota=1)
+deletes(32)
+figures(31, 300)
+makes(33, no("6A84"), quota=301)
+makes(33, quota=300)
+figures(32, 0)
+makes(32, no("6A84"), quota=1)
+deletes(33)
+makes(32, quota=1)
+figures(32, 299)
 
 name("B60: created again with a larger quota, and with a smaller one")
 fresh()
@@ -1983,6 +2001,10 @@ eight = of_quotas(1, 2, 4, 8, 16, 32, 64, 128)
 for n in range(8):
     wrong_free(eight, 745 + (1 << n), 745 - (1 << n))
 right_free(eight, 745)
+full = of_quotas(*range(1, 33))
+for n in (1, 8, 9, 16, 17, 31, 32):
+    wrong_free(full, 472 + n, 472 - n)
+right_free(full, 472)
 
 name("B65: a quota counts in each life cycle, whatever is used, the policy and the mark")
 for state in (S, P, D):
@@ -2004,9 +2026,9 @@ card(done(), [place(1, E, quota=100), "-:00:0:0:0:0"], free=900)
 figures(1, 900, volatile=7)
 
 name("B65: the figure is 0 on a full card")
-for capacity, quotas in ((1, (1,)), (100, (100,)), (1000, (999, 1)), (1000, (125,) * 8), (MOST, (MOST,)), (MOST, (131_072,) * 8)):
+for capacity, quotas in ((1, (1,)), (100, (100,)), (1000, (999, 1)), (1000, (125,) * 8), (MOST, (MOST,)), (MOST, (131_072,) * 8), (32, (1,) * 32), (MOST, (32_768,) * 32)):
     right_free(of_quotas(*quotas), 0, capacity=capacity)
-    makes(9, no("6A84"), quota=1)
+    makes(33, no("6A84"), quota=1)
     wrong_free(of_quotas(*quotas), 1, capacity, WRAP - 1, capacity=capacity)
 
 name("B65: the largest figure, and the smallest that is not 0")
@@ -2017,13 +2039,14 @@ wrong_free(of_quotas(MOST - 1), 0, 2, MOST - 1, capacity=MOST)
 
 name("B65: quotas that together pass the capacity: no free is right, nor what is left of it in 32 bits")
 for capacity, quotas in (
-    (1000, (501, 500)), (1000, (1000, 1000)), (1000, (1000,) * 8), (1000, (125,) * 7 + (126,)), (100, (51, 50)), (1, (1, 1)), (MOST, (MOST, 1)), (MOST, (MOST,) * 8),
+    (1000, (501, 500)), (1000, (1000, 1000)), (1000, (1000,) * 32), (1000, (125,) * 7 + (126,)), (32, (1,) * 31 + (2,)), (100, (51, 50)), (1, (1, 1)),
+    (MOST, (MOST, 1)), (MOST, (MOST,) * 32),
 ):
     over = sum(quotas) - capacity
     wrong_free(of_quotas(*quotas), 0, 1, capacity, over, WRAP - over, WRAP - 1, capacity=capacity)
 
 name("B65: quotas that together pass 32 bits: no free is right, nor the one that a sum of 32 bits would leave")
-for quotas in ((1 << 29,) * 8, (1 << 31,) * 2, (WRAP - 1, 1), (WRAP - 1, 101), (100, WRAP - 1, 1), (100, WRAP - 1000, 1000), (WRAP - 1,) * 8):
+for quotas in ((1 << 29,) * 8, (1 << 27,) * 32, (1 << 31,) * 2, (WRAP - 1, 1), (WRAP - 1, 101), (100, WRAP - 1, 1), (100, WRAP - 1000, 1000), (WRAP - 1,) * 32):
     wrong_free(of_quotas(*quotas), (1000 - sum(quotas)) % WRAP, 0, 1000, WRAP - 1)
 
 name("B65: a free that with the quotas passes 32 bits and comes round to the capacity")
@@ -2135,17 +2158,17 @@ figures(2, 600, ticks=20)
 
 name("B66: no place is left: the creation takes nothing, with room and without")
 fresh()
-for n in range(2, 9):
+for n in range(2, 33):
     makes(n, quota=n)
     figures(n, 900 - sum(range(2, n + 1)))
-for quota in (1, 865, 866, 1000):
-    makes(9, no("6A84"), quota=quota)
-    figures(8, 865)
+for quota in (1, 373, 374, 1000):
+    makes(33, no("6A84"), quota=quota)
+    figures(32, 373)
 deletes(5)
-figures(7, 870)
-makes(9, no("6A84"), quota=871)
-makes(9, quota=870)
-figures(8, 0)
+figures(31, 378)
+makes(33, no("6A84"), quota=379)
+makes(33, quota=378)
+figures(32, 0)
 
 name("B66: delete gives the quota back: DISABLED, SELECTABLE, PERSONALIZED, and whatever was stored, marked or not")
 for calls, used, mark in ((1, 0, None), (2, 0, None), (3, 1, None), (3, 300, None), (4, 1, 0), (4, 1, 1), (4, 300, 0), (4, 300, 1)):
@@ -2361,17 +2384,17 @@ makes(2, no("6A84"), quota=1000)
 makes(2, quota=999)
 figures(2, 0, volatile=7)
 
-name("B66: the previous profile in each place, deleted at the confirmation")
-for n in range(1, 9):
+name("B66: the previous profile in the first places, about the middle and in the last ones, deleted at the confirmation")
+for n in (1, 2, 8, 9, 16, 17, 31, 32):
     # The next one is ENABLED and the fall-back.
-    other = n % 8 + 1
-    once = [place(m, E if m == other else D, quota=1 << m - 1, used=0, policy=4) for m in range(1, 9)]
-    right_free(once, 745, 25, last=9, phase=f"T:{n - 1}:5:9", fall_back=other - 1)
+    other = n % 32 + 1
+    once = [place(m, E if m == other else D, quota=m, used=0, policy=4) for m in range(1, 33)]
+    right_free(once, 472, 25, last=9, phase=f"T:{n - 1}:5:9", fall_back=other - 1)
     confirms(9, done(response=f"80074F05{aid(n)}"))
-    figures(7, 745 + (1 << n - 1), volatile=7)
-    makes(9, no("6A84"), quota=746 + (1 << n - 1))
-    makes(9, quota=745 + (1 << n - 1))
-    figures(8, 0, volatile=7)
+    figures(31, 472 + n, volatile=7)
+    makes(33, no("6A84"), quota=473 + n)
+    makes(33, quota=472 + n)
+    figures(32, 0, volatile=7)
 
 name("B66: the same AID created again with another quota gives back its own")
 fresh()
@@ -2448,20 +2471,20 @@ confirms(1, done(response="80074F05A000000002"))
 figures(3, 850, volatile=7)
 
 name("B66: on a full card handed in: no room and no place; a place and its room come back together")
-full = of_quotas(300, *[100] * 7)
+full = of_quotas(70, *[30] * 31)
 right_free(full, 0)
-for quota in (1, 100, 1000):
-    makes(9, no("6A84"), quota=quota)
-for n in (2, 8, 5):
+for quota in (1, 30, 1000):
+    makes(33, no("6A84"), quota=quota)
+for n in (2, 32, 17):
     deletes(n)
-    figures(7, 100, volatile=7)
-    makes(9, no("6A84"), quota=101)
-    makes(n, quota=100)
-    figures(8, 0, volatile=7)
+    figures(31, 30, volatile=7)
+    makes(33, no("6A84"), quota=31)
+    makes(n, quota=30)
+    figures(32, 0, volatile=7)
 right_free(of_quotas(300, 700), 0)
 makes(9, no("6A84"), quota=1)
-right_free(of_quotas(*[100] * 8), 200)
-makes(9, no("6A84"), quota=1)
+right_free(of_quotas(*[25] * 32), 200)
+makes(33, no("6A84"), quota=1)
 
 name("B68: FREE as a number may be written, and the record is whole with it")
 card(done(), three, free="000000000000820", volatile=VOLATILE)
