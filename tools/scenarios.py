@@ -195,13 +195,14 @@ def not_held(mark):
     return place("-", "00", quota=0, used=0, mark=mark)
 
 
-def explained(line, word, *rows, more=(), phase="quiet", ticks=0):
+def explained(line, word, *rows, more=(), phase="quiet", kept=None, ticks=0):
     """A call in the explained form. A row has what the head names, `more` are the lines before the table."""
     head = ("place", "AID", "state", "quota", "used", "fall-back", "provisioning", "policy")
     longest = max(len(row[1]) for row in rows)
     columns = (">7", f"{longest}", "12", ">7", ">7", "9", "12", "")
     shown = ["  ".join(map(format, cells, columns)) for cells in (head, *rows)]
-    call(line, "\n".join([word, *more, *shown, f"phase {phase}", f"ticks to come {ticks}"]))
+    listing = [] if kept is None else [f"listing open: next row at place {kept}"]
+    call(line, "\n".join([word, *more, *shown, f"phase {phase}", *listing, f"ticks to come {ticks}"]))
 
 
 def unreadable(what, line, reason):
@@ -2493,6 +2494,617 @@ call("  " + card_line(three, free="0820").replace(" ", "   ") + " ", done())
 figures(3, 820, volatile=7)
 card(no("6F00"), three, free="4294967295")
 card(no("6F00"), three, free="0")
+
+# ---------------------------------------------------------------- request 2026-05: thirty-two profiles, and listings in parts
+
+# Tag lists, by the elements that a row then has beside its AID.
+BOTH, LIFE_CYCLE, ATTRIBUTES, NEITHER = "", "5C029F70", "5C0153", "5C00"
+NONE_OPEN = no("6A88")
+
+
+def long_aid(n, size):
+    """An AID of so many bytes that begins as that of five does."""
+    return aid(n) + "EE" * (size - 5)
+
+
+def crowd(sizes, fall_back=0, last=0, phase="Q", states={}, kept="-", answer=None):
+    """A card of AIDs of these sizes from place 0 on, none where the size is 0. 01 is ENABLED unless the states have it otherwise, the others DISABLED.
+    Hands back the rows that there are, by place."""
+    held = {at: (long_aid(at + 1, size), states.get(at + 1, D if at else E), at == fall_back) for at, size in enumerate(sizes) if size}
+    words = [place(*held[at][:2], quota=20) if at in held else "-" for at in range(len(sizes))]
+    card(answer or done(), words, fall_back=fall_back, last=last, phase=phase, kept=kept)
+    return held
+
+
+def text_of(rows, tags=BOTH):
+    """The bytes of these rows with the tags of the list."""
+    text = ""
+    for name, state, is_fall_back in rows:
+        inner = tlv("4F", name)
+        if tags in (BOTH, LIFE_CYCLE):
+            inner += "9F7001" + state
+        if tags in (BOTH, ATTRIBUTES):
+            inner += "5301" + ("01" if is_fall_back else "00")
+        text += tlv("E3", inner)
+    return text
+
+
+def listed(held, first, last, size, tags=BOTH, left=True, ticks=0, again=False):
+    """A part of a listing: the rows of the places from the first to the last, so many bytes. It begins where the first is the lowest, or goes on."""
+    text = text_of([row for at, row in held.items() if first <= at <= last], tags)
+    assert len(text) == 2 * size, (len(text) // 2, size)
+    begins = first == min(held) and not again
+    command((status if begins else next_rows)("4F00" + tags, le="00"), part(text, left, ticks))
+
+
+def goes_on_nowhere(ticks=0):
+    command(next_rows(le="00"), no("6A88", ticks))
+
+
+name("B70: the thirty-second creation is taken, the thirty-third refused; what is created shows in its part")
+fresh()
+for n in range(2, 33):
+    makes(n, quota=20)
+makes(33, no("6A84"), quota=1)
+figures(32, 280)
+rows = [(1, E, True), *[(n, S) for n in range(2, 33)]]
+parts(rows[:15], rows[15:30], rows[30:])
+deletes(32)
+makes(33, quota=1)
+parts(rows[:15], rows[15:30], [(31, S), (33, S)])
+deletes(2)
+makes(34, no("6A84"), quota=320)
+makes(34, quota=319)
+parts([(1, E, True), (34, S), *rows[2:15]], rows[15:30], [(31, S), (33, S)])
+figures(32, 0)
+
+name("B72: 32 AIDs of 5 bytes: 15, 15 and 2 rows, of 240, 240 and 32 bytes; then none is kept")
+held = crowd([5] * 32)
+listed(held, 0, 14, 240)
+listed(held, 15, 29, 240)
+listed(held, 30, 31, 32, left=False)
+goes_on_nowhere()
+goes_on_nowhere()
+
+name("B72: 32 AIDs of 16 bytes: 9, 9, 9 and 5 rows, of 243, 243, 243 and 135 bytes")
+held = crowd([16] * 32, fall_back=31, states={2: S, 3: P})
+listed(held, 0, 8, 243)
+listed(held, 9, 17, 243)
+listed(held, 18, 26, 243)
+listed(held, 27, 31, 135, left=False)
+goes_on_nowhere()
+
+name("B72: 15 AIDs of 5 bytes are one response of 240 bytes, 16 of them are two; 9 and 10 of 16 bytes")
+held = crowd([5] * 15)
+listed(held, 0, 14, 240, left=False)
+goes_on_nowhere()
+held = crowd([5] * 16)
+listed(held, 0, 14, 240)
+listed(held, 15, 15, 16, left=False)
+goes_on_nowhere()
+held = crowd([16] * 9)
+listed(held, 0, 8, 243, left=False)
+goes_on_nowhere()
+held = crowd([16] * 10)
+listed(held, 0, 8, 243)
+listed(held, 9, 9, 27, left=False)
+goes_on_nowhere()
+
+name("B72: the tag list makes the rows shorter: 28 of 9 bytes, 19 of 13, 21 of 12; of 16-byte AIDs 12, 10 and 11 rows")
+held = crowd([5] * 32)
+listed(held, 0, 27, 252, NEITHER)
+listed(held, 28, 31, 36, NEITHER, left=False)
+listed(held, 0, 18, 247, LIFE_CYCLE)
+listed(held, 19, 31, 169, LIFE_CYCLE, left=False)
+listed(held, 0, 20, 252, ATTRIBUTES)
+listed(held, 21, 31, 132, ATTRIBUTES, left=False)
+held = crowd([16] * 32)
+listed(held, 0, 11, 240, NEITHER)
+listed(held, 12, 23, 240, NEITHER)
+listed(held, 24, 31, 160, NEITHER, left=False)
+listed(held, 0, 9, 240, LIFE_CYCLE)
+listed(held, 10, 19, 240, LIFE_CYCLE)
+listed(held, 20, 29, 240, LIFE_CYCLE)
+listed(held, 30, 31, 48, LIFE_CYCLE, left=False)
+listed(held, 0, 10, 253, ATTRIBUTES)
+listed(held, 11, 21, 253, ATTRIBUTES)
+listed(held, 22, 31, 230, ATTRIBUTES, left=False)
+held = crowd([5] * 28)
+listed(held, 0, 27, 252, NEITHER, left=False)
+held = crowd([5] * 29)
+listed(held, 0, 27, 252, NEITHER)
+listed(held, 28, 28, 9, NEITHER, left=False)
+
+name("B72: AIDs of each length, 32 held")
+for size, ends in (
+    (6, (14, 29)), (7, (13, 27)), (8, (12, 25)), (9, (11, 23)), (10, (11, 23)), (11, (10, 21)), (12, (10, 21)), (13, (9, 19, 29)), (14, (9, 19, 29)), (15, (8, 17, 26)),
+):
+    held = crowd([size] * 32)
+    first = 0
+    for end in ends:
+        listed(held, first, end, (end + 1 - first) * (size + 11))
+        first = end + 1
+    listed(held, first, 31, (32 - first) * (size + 11), left=False)
+    goes_on_nowhere()
+
+name("B72: the last row just fits 255 bytes: 90 00, none is kept; one byte more, and it is left")
+held = crowd([6] * 15)
+listed(held, 0, 14, 255, left=False)
+goes_on_nowhere()
+held = crowd([6] * 16)
+listed(held, 0, 14, 255)
+listed(held, 15, 15, 17, left=False)
+held = crowd([7] + [6] * 14)
+listed(held, 0, 13, 239)
+listed(held, 14, 14, 17, left=False)
+held = crowd([6] * 14 + [7])
+listed(held, 0, 13, 238)
+listed(held, 14, 14, 18, left=False)
+# 8 x 27 + 16 + 23 = 255, in either order; with an AID one byte longer the last row is left.
+for sizes in ([16] * 8 + [5, 12], [16] * 8 + [12, 5], [5] + [16] * 8 + [12]):
+    held = crowd(sizes)
+    listed(held, 0, 9, 255, left=False)
+    goes_on_nowhere()
+    held = crowd([*sizes, 5])
+    listed(held, 0, 9, 255)
+    listed(held, 10, 10, 16, left=False)
+held = crowd([16] * 8 + [5, 13])
+listed(held, 0, 8, 232)
+listed(held, 9, 9, 24, left=False)
+# 28 rows of 9 bytes are 252: 25 of them and three of 10 are 255, with and without a row after them.
+held = crowd([5] * 25 + [6] * 3)
+listed(held, 0, 27, 255, NEITHER, left=False)
+held = crowd([6] * 3 + [5] * 26)
+listed(held, 0, 27, 255, NEITHER)
+listed(held, 28, 28, 9, NEITHER, left=False)
+held = crowd([6] * 4 + [5] * 24)
+listed(held, 0, 26, 247, NEITHER)
+listed(held, 27, 27, 9, NEITHER, left=False)
+
+name("B72: mixed lengths: a later, shorter row would fit, and is not given before an earlier one")
+# 14 rows of 17 bytes are 238: one of 27 does not fit, one of 16 would.
+held = crowd([6] * 14 + [16, 5, 5, 16, 5])
+listed(held, 0, 13, 238)
+listed(held, 14, 18, 102, left=False)
+# 5 x 27 + 6 x 16 = 231.
+held = crowd([16] * 5 + [5] * 6 + [16, 5, 6, 7] + [16] * 6 + [5] * 3)
+listed(held, 0, 10, 231)
+listed(held, 11, 20, 27 + 16 + 17 + 18 + 6 * 27)
+listed(held, 21, 23, 3 * 16, left=False)
+# The last part too ends where its first row does not fit, though the others would.
+held = crowd([16] * 9 + [16] + [6] * 12 + [16, 5, 5])
+listed(held, 0, 8, 243)
+listed(held, 9, 21, 231)
+listed(held, 22, 24, 59, left=False)
+goes_on_nowhere()
+
+name("B72: places that are not held: the kept place is that of the next row, and the lowest place need not be 0")
+sizes = [5] * 32
+for at in (1, 2, 17, 18, 30):
+    sizes[at] = 0
+held = crowd(sizes)
+listed(held, 0, 16, 240)
+listed(held, 19, 31, 192, left=False)
+goes_on_nowhere()
+sizes = [0] * 7 + [16] * 9 + [0] * 15 + [16]
+held = crowd(sizes, fall_back=7, states={8: E})
+listed(held, 7, 15, 243)
+listed(held, 31, 31, 27, left=False)
+goes_on_nowhere()
+held = crowd([0] * 31 + [5], fall_back=31, states={32: E})
+listed(held, 31, 31, 16, left=False)
+goes_on_nowhere()
+
+name("B72: the rows that fit are counted by 255 bytes, however long the buffer is; a buffer of 255 bytes is 6F 02 and the place stays")
+held = crowd([5] * 18)
+whole = [text_of(list(held.values())[:15]), text_of(list(held.values())[15:])]
+for buffer in (256, 257, 1024):
+    command(status("4F00"), no("6F02"), buffer=255)
+    command(status("4F00"), part(whole[0], True), buffer=buffer)
+    command(next_rows(), no("6F02"), buffer=255)
+    command(next_rows(), no("6F02"), buffer=0)
+    command(next_rows(), part(whole[1], False), buffer=buffer)
+    command(next_rows(), no("6F02"), buffer=255)
+    command(next_rows(), no("6A88"), buffer=buffer)
+
+name("B73: P2 03 reads no verdict; any class, with Le and without")
+held = crowd([5] * 32)
+whole = [text_of(list(held.values())[at : at + 15]) for at in (0, 15, 30)]
+for verdict, first in ((0, "80"), (1, "8F"), (2, "C4"), (255, "EF")):
+    command(first + status("4F00")[2:], part(whole[0], True), verdict)
+    command(first + next_rows(le="00")[2:], part(whole[1], True), verdict)
+    command(first + next_rows()[2:], part(whole[2], False), verdict)
+
+name("B73: with no listing open P2 03 is 6A 88: on a fresh card, on a small one, after the last part, whatever the tags are")
+fresh()
+goes_on_nowhere()
+makes(2)
+for tags in (BOTH, LIFE_CYCLE, ATTRIBUTES, NEITHER, "5C014F"):
+    command(next_rows("4F00" + tags), NONE_OPEN)
+table((1, E, True), (2, S))
+goes_on_nowhere()
+
+name("B73: with an AID named P2 03 is 6A 80: of any length, held or not, with a place kept and with none")
+NAMED = [aid(1), aid(16), aid(99), "A0000000", "A0", AID16, AID16 + "00", long_aid(2, 16), "A0" * 60]
+fresh()
+for named in NAMED:
+    command(next_rows(four_f(named)), no("6A80"))
+    command(next_rows(four_f(named) + "5C00"), no("6A80"))
+held = crowd([5, 16] + [5] * 14)
+listed(held, 0, 14, 251)
+for named in NAMED:
+    command(next_rows(four_f(named)), no("6A80"))
+    command(next_rows(four_f(named) + "5C00"), no("6A80"))
+listed(held, 15, 15, 16, left=False)
+for named in NAMED:
+    command(next_rows(four_f(named)), no("6A80"))
+goes_on_nowhere()
+
+name("B73: P2 03 with a wrong data field or length shape; P2 00, 01, 04 and others are 6A 86; all of them keep the place")
+WRONG = ["5C0170", "5C019F", "5C029F71", "4F00", "00", "5C", "5C8100", "5C00" + "5C00", "530101", "5C014F00"]
+held = crowd([5] * 16)
+for open_now in (False, True):
+    if open_now:
+        listed(held, 0, 14, 240)
+    for more in WRONG:
+        command(next_rows("4F00" + more), no("6A80"))
+    for field in ("5C00", "9F70013F", "4F", "4F8100", "00"):
+        command(next_rows(field), no("6A80"))
+    for p2 in ("00", "01", "04", "06", "07", "13", "43", "82", "83", "FF"):
+        command(status("4F00", p2=p2), no("6A86"))
+        command(status(four_f(), p2=p2), no("6A86"))
+    for p1 in ("00", "41", "80", "C0"):
+        command(f"80F2{p1}03024F00", no("6A86"))
+    for bytes_ in ("80F24003", "80F2400300", "80F24003034F00", "80F24003024F0001", "80F24003024F000000", "80F240"):
+        command(bytes_, no("6700"))
+    command("80E4" + next_rows()[4:], no("6A86"))
+    command("80F3" + next_rows()[4:], no("6D00"))
+    command("90" + next_rows()[2:], no("6E00"))
+listed(held, 15, 15, 16, left=False)
+goes_on_nowhere()
+
+name("B73: each part has the tags of its own list, and fits by them")
+held = crowd([5] * 32)
+listed(held, 0, 14, 240)
+listed(held, 15, 31, 153, NEITHER, left=False)
+listed(held, 0, 27, 252, NEITHER)
+listed(held, 28, 31, 64, left=False)
+listed(held, 0, 14, 240)
+listed(held, 15, 31, 204, ATTRIBUTES, left=False)
+listed(held, 0, 20, 252, ATTRIBUTES)
+listed(held, 21, 31, 143, LIFE_CYCLE, left=False)
+held = crowd([16] * 32)
+listed(held, 0, 8, 243)
+listed(held, 9, 20, 240, NEITHER)
+listed(held, 21, 29, 243)
+listed(held, 30, 31, 46, ATTRIBUTES, left=False)
+goes_on_nowhere()
+# The tags of a list in another order, twice, and all of them, are the same rows.
+for tags in ("5C044F9F7053", "5C04539F704F", "5C06539F70539F70"):
+    command(status("4F00" + tags), part(text_of(list(held.values())[:9]), True))
+    command(next_rows("4F00" + tags), part(text_of(list(held.values())[9:18]), True))
+
+name("B72: P2 02 in the middle of a listing begins anew, with its own tags, and as often as it comes")
+held = crowd([5] * 32)
+for _ in range(3):
+    listed(held, 0, 14, 240)
+listed(held, 15, 29, 240)
+listed(held, 0, 14, 240)
+listed(held, 15, 29, 240)
+listed(held, 0, 27, 252, NEITHER)
+listed(held, 28, 31, 36, NEITHER, left=False)
+listed(held, 0, 14, 240)
+listed(held, 15, 29, 240)
+listed(held, 30, 31, 32, left=False)
+listed(held, 0, 14, 240)
+
+# ---------------------------------------------------------------- who forgets the kept place, and who leaves it
+
+STATES = {2: S, 3: P}
+
+
+def amid(states=STATES, **more):
+    """Eighteen profiles, of which fifteen rows are given: 02 is SELECTABLE, 03 PERSONALIZED, the others after 01 DISABLED."""
+    held = crowd([5] * 18, states=states, **more)
+    listed(held, 0, 14, 240)
+    return held
+
+
+def forgotten(step, *words, **more):
+    """An accepted call between two parts: P2 03 has nothing to go on from."""
+    amid()
+    step(*words, **more)
+    goes_on_nowhere()
+
+
+name("B75: every accepted call between two parts forgets the kept place, also one that changes nothing else")
+# A tick in Quiet, a lost report on the fall-back, stored 0 and set fall-back on the holder change nothing.
+forgotten(call, "tick", done())
+forgotten(call, "lost", done())
+forgotten(stored, 3, 0)
+forgotten(sets, 1)
+forgotten(command, status(four_f(aid(1))), done(response=row(aid(1), E, "01")))
+forgotten(command, status(four_f(aid(18)) + "5C00"), done(response="E3074F05" + aid(18)))
+forgotten(figures, 18, 640, volatile=7)
+forgotten(makes, 19)
+forgotten(keyed, 2)
+forgotten(stored, 3, 1)
+forgotten(finished, 3)
+forgotten(finished, 3, 4, mark=0)
+forgotten(sets, 4)
+forgotten(deletes, 2)
+forgotten(deletes, 4)
+forgotten(deletes, 18)
+forgotten(master, 16)
+# A listing that fits one response forgets it as its last part does.
+forgotten(command, status("4F005C00"), part(text_of([(aid(n), "", False) for n in range(1, 19)], NEITHER), False))
+
+name("B75: enable, disable, confirmation and each tick of a change forget it")
+held = amid()
+enables(4, done(20, notification=note(2, 1, 4)))
+goes_on_nowhere(20)
+held[0], held[3] = (aid(1), D, True), (aid(4), E, False)
+for left in (19, 18):
+    listed(held, 0, 14, 240, ticks=left + 1)
+    call("tick", done(left))
+    goes_on_nowhere(left)
+listed(held, 0, 14, 240, ticks=18)
+call("lost", done(18))
+goes_on_nowhere(18)
+listed(held, 0, 14, 240, ticks=18)
+confirms(1)
+goes_on_nowhere()
+listed(held, 0, 14, 240)
+disables(4, done(30, notification=note(2, 2, 1)))
+goes_on_nowhere(30)
+
+name("B75: a confirmation that deletes, a roll-back and a fall forget it, and the rows are then those of the new card")
+held = crowd([5] * 18, fall_back=17, states={1: D, 2: E, 3: P}, last=9, phase="T:3:1:9", answer=done(21))
+listed(held, 0, 14, 240, ticks=21)
+call("tick", done(20, notification=note(3, 10, 4)))
+goes_on_nowhere(20)
+held[1], held[3] = (aid(2), D, False), (aid(4), E, False)
+listed(held, 0, 14, 240, ticks=20)
+listed(held, 15, 17, 48, left=False, ticks=20)
+for left in count(19, 11):
+    call("tick", done(left))
+listed(held, 0, 14, 240, ticks=11)
+call("tick", done(10, notification=note(5, 11, 18)))
+goes_on_nowhere(10)
+held[3], held[17] = (aid(4), D, False), (aid(18), E, True)
+listed(held, 0, 14, 240, ticks=10)
+for left in count(9, 0):
+    call("tick", done(left))
+    goes_on_nowhere(left)
+places = [place(n, E if n == 2 else D, policy=4 if n == 1 else 0) for n in range(1, 18)]
+card(done(25), places, fall_back=2, last=9, phase="T:0:5:9")
+rows = [(n, E if n == 2 else D, *[True] * (n == 3)) for n in range(1, 18)]
+command(status("4F00"), part(shown(*rows[:15]), True, 25))
+confirms(9, done(response="80074F05A000000001"))
+goes_on_nowhere()
+command(status("4F00"), part(shown(*rows[1:16]), True))
+command(next_rows(), part(shown(rows[16]), False))
+call("lost", done(10, notification=note(5, 10, 3)))
+goes_on_nowhere(10)
+
+name("B75: a tick between two parts, in each phase: 6A 88; the listing begins anew")
+held = crowd([5] * 32)
+listed(held, 0, 14, 240)
+call("tick", done())
+goes_on_nowhere()
+listed(held, 0, 14, 240)
+listed(held, 15, 29, 240)
+call("tick", done())
+goes_on_nowhere()
+for phase, to_come in (("B:5:9", 5), ("F:5:9", 5), ("T:3:5:9", 25)):
+    held = crowd([5] * 32, last=9, phase=phase, answer=done(to_come))
+    listed(held, 0, 14, 240, ticks=to_come)
+    call("tick", done(to_come - 1))
+    goes_on_nowhere(to_come - 1)
+
+name("B75: a delete between two parts: no part speaks of two cards")
+held = crowd([5] * 18)
+listed(held, 0, 14, 240)
+deletes(16)
+goes_on_nowhere()
+del held[15]
+listed(held, 0, 14, 240)
+listed(held, 16, 17, 32, left=False)
+held = crowd([5] * 18)
+listed(held, 0, 14, 240)
+deletes(3)
+goes_on_nowhere()
+del held[2]
+listed(held, 0, 15, 240)
+makes(19)
+goes_on_nowhere()
+held = {at: held.get(at, (aid(19), S, False)) for at in range(18)}
+listed(held, 0, 14, 240)
+master(18)
+del held[17]
+goes_on_nowhere()
+listed(held, 0, 14, 240)
+listed(held, 15, 16, 32, left=False)
+
+name("B75: every refusal between two parts keeps the place: each word of the table")
+held = amid()
+for step in (
+    lambda: command(next_rows(), no("6F02"), buffer=255),
+    lambda: command("80CAFF2100", no("6F02"), buffer=0),
+    lambda: command("", no("6700")),
+    lambda: command("00" * 300, no("6700")),
+    lambda: command("90CAFF2100", no("6E00")),
+    lambda: command("80CB000000", no("6D00")),
+    lambda: command("80CAFF2200", no("6A86")),
+    lambda: command("80CAFF2101", no("6700")),
+    lambda: command(status("4F00", p2="04"), no("6A86")),
+    lambda: command(status("4F005C0170"), no("6A80")),
+    lambda: command(status("4F005C0170", p2="03"), no("6A80")),
+    lambda: command(next_rows(four_f(aid(16))), no("6A80")),
+    lambda: command(next_rows(four_f("A0000000")), no("6A80")),
+    lambda: makes(4, no("6A80")),
+    lambda: makes(19, no("6A80"), quota=1001),
+    lambda: makes(19, no("6A84"), quota=641),
+    lambda: enables(1, no("6985")),
+    lambda: disables(4, no("6985")),
+    lambda: deletes(1, no("6985")),
+    lambda: sets(2, no("6985")),
+    lambda: master(3, no("6985")),
+    lambda: confirms(0, no("6985")),
+    lambda: enables(99, no("6A88")),
+    lambda: command(status(four_f(aid(99))), no("6A88")),
+    lambda: master(4, no("6982"), 0),
+    lambda: call("keyed A0000000", no("6A80")),
+    lambda: keyed(99, no("6A88")),
+    lambda: keyed(3, no("6985")),
+    lambda: stored(99, 1, no("6A88")),
+    lambda: stored(2, 1, no("6985")),
+    lambda: stored(3, 16, no("6A84")),
+    lambda: finished(3, 5, no("6A80")),
+    lambda: finished(3, 0, no("6A80"), mark=2),
+    lambda: finished(99, 0, no("6A88")),
+    lambda: finished(4, 0, no("6985")),
+):
+    step()
+    listed(held, 15, 17, 48, left=False)
+    listed(held, 0, 14, 240)
+
+name("B75: all of these one after the other, and 69 E1; the third part goes on as if they had not been")
+places = [place(n, {1: E, 2: S, 3: P}.get(n, D), quota=20, policy={1: 1, 4: 2}.get(n, 0)) for n in range(1, 33)]
+card(done(), places)
+rows = [(n, {1: E, 2: S, 3: P}.get(n, D), *[True] * (n == 1)) for n in range(1, 33)]
+for first, last in ((0, 15), (15, 30), (30, 32)):
+    command(next_rows() if first else status("4F00"), part(shown(*rows[first:last]), last < 32))
+    deletes(4, no("69E1"))
+    enables(5, no("69E1"))
+    master(5, no("6982"), 255)
+    makes(33, no("6A84"), quota=1)
+    confirms(1, no("6985"))
+    keyed(1, no("6985"))
+    stored(3, WRAP - 1, no("6A84"))
+    finished(3, 6, no("6A80"))
+    command(next_rows(four_f()), no("6A80"))
+    command("80F240", no("6700"), buffer=1024)
+goes_on_nowhere()
+
+name("B73: P2 03 in Trial, Back and Fallen: an open change does not refuse it, refusals of the change keep the place")
+for phase, to_come in (("T:3:5:9", 25), ("T:0:5:9", 15), ("B:5:9", 15), ("B:5:9", 5), ("F:5:9", 5)):
+    on_fall_back = to_come == 5
+    held = crowd([5] * 32, last=9, phase=phase, states={} if on_fall_back else {1: D, 2: E}, answer=done(to_come))
+    goes_on_nowhere(to_come)
+    listed(held, 0, 14, 240, ticks=to_come)
+    command(next_rows(four_f()), no("6A80", to_come))
+    makes(33, no("6985", to_come), quota=1)
+    deletes(5, no("6985", to_come))
+    sets(1, no("6985", to_come))
+    confirms(8, no("6A88", to_come))
+    listed(held, 15, 29, 240, ticks=to_come)
+    listed(held, 30, 31, 32, left=False, ticks=to_come)
+    goes_on_nowhere(to_come)
+    listed(held, 0, 14, 240, ticks=to_come)
+    confirms(9)
+    goes_on_nowhere()
+
+name("B75: fresh makes a card with no listing open, refused or not; a card line has the place that it says")
+amid()
+fresh()
+goes_on_nowhere()
+amid()
+fresh(quota=0, answer=no("6A80"))
+command(next_rows(), no("6F00"))
+amid()
+crowd([5] * 18)
+goes_on_nowhere()
+amid()
+held = crowd([5] * 18, kept=17)
+listed(held, 17, 17, 16, left=False)
+
+# ---------------------------------------------------------------- records that keep a place
+
+name("B71: records handed in with a held place kept: P2 03 goes on there, also where no listing would have stopped; P2 02 begins anew")
+held = crowd([5] * 32)
+for kept, end, size, left in ((0, 14, 240, True), (1, 15, 240, True), (3, 17, 240, True), (16, 30, 240, True), (17, 31, 240, False), (30, 31, 32, False), (31, 31, 16, False)):
+    crowd([5] * 32, kept=kept)
+    listed(held, kept, end, size, left=left, again=True)
+    if left and end < 30:
+        listed(held, end + 1, min(end + 15, 31), 16 * min(15, 31 - end), left=end + 15 < 31)
+    crowd([5] * 32, kept=kept)
+    listed(held, 0, 14, 240)
+    listed(held, 15, 29, 240)
+held = crowd([5] * 3, kept=0)
+listed(held, 0, 2, 48, left=False, again=True)
+goes_on_nowhere()
+held = crowd([5] * 3, kept=2)
+listed(held, 0, 2, 48, left=False)
+goes_on_nowhere()
+for step in (lambda: call("tick", done()), lambda: call("lost", done()), lambda: sets(1), lambda: figures(3, 940, volatile=7)):
+    crowd([5] * 3, kept=1)
+    step()
+    goes_on_nowhere()
+held = crowd([5] * 3, kept="0000000000000000000000000001")
+listed(held, 1, 2, 32, left=False)
+
+name("B71: a kept place that is held is sound in each phase, one that is not held is 6F 00, 32 and more too")
+for phase, to_come in (("Q", 0), ("T:1:5:9", 25), ("T:0:5:9", 15), ("B:5:9", 15), ("F:5:9", 5)):
+    on_fall_back = phase[0] in "QF"
+    more = {"last": 9, "phase": phase, "states": {3: S} if on_fall_back else {1: D, 3: S, 5: E}}
+    sizes = [5, 5, 5, 0, 5]
+    for kept in (0, 1, 2, 4):
+        held = crowd(sizes, kept=kept, answer=done(to_come), **more)
+        text = text_of([row for at, row in held.items() if at >= kept])
+        command(next_rows(), part(text, False, to_come))
+        goes_on_nowhere(to_come)
+    for kept in (3, 5, 8, 30, 31, 32, 33, 36, 64, 128, 200, 253, 254):
+        crowd(sizes, kept=kept, answer=no("6F00"), **more)
+        command(next_rows(), no("6F00"))
+    command(status("4F00"), no("6F00"))
+    call("tick", no("6F00"))
+    call("lost", no("6F00"))
+    confirms(9, no("6F00"))
+    command(next_rows(four_f()), no("6F00"))
+    command(next_rows(), no("6F00"), buffer=255)
+    crowd(sizes, kept="-", answer=done(to_come), **more)
+
+name("B71: on a full card each place may be kept, 32 may not; on an empty record none may")
+for kept, answer in ((31, None), (32, no("6F00")), (254, no("6F00")), (0, None)):
+    crowd([5] * 32, kept=kept, answer=answer)
+for kept in ("-", 0, 31, 32, 200):
+    card(no("6F00"), [], capacity=0, volatile=0, eid="00" * 16, kept=kept)
+    command(next_rows(), no("6F00"))
+
+name("B71: on a record whose kept place alone is wrong every call is 6F 00, before 6F 02 and before all else")
+for kept in (3, 200):
+    card(no("6F00"), [place(1, E, quota=100), place(2, D, quota=50), place(3, P, quota=30)], kept=kept)
+    nothing_runs()
+card(done(), [place(1, E, quota=100), place(2, D, quota=50), place(3, P, quota=30)], kept=2)
+makes(4, quota=820)
+figures(4, 0, volatile=7)
+
+name("B71: a wrong kept place beside another fault, and a right one beside one")
+for kept in ("-", 0, 2, 200):
+    card(no("6F00"), [place(1, E, mark=0), place(2, D)], kept=kept)
+    card(no("6F00"), [place(1, E), place(2, D)], kept=kept, free=899)
+    card(no("6F00"), [place(1, E), place(2, D)], kept=kept, fall_back=2)
+    card(no("6F00"), [place(1, E), place(2, D)], kept=kept, last=9, phase="B:5:8")
+# A place is held by its AID: a record with only a mark there is not sound for that, nor is its place.
+card(no("6F00"), [place(1, E), not_held(mark=1)], kept=1)
+
+name("B71: neither the fall-back nor the previous profile is read in the kept place's stead")
+held = crowd([5] * 4, fall_back=2, kept=1)
+listed(held, 1, 3, 48, left=False)
+held = crowd([5] * 4, fall_back=1, last=3, phase="T:3:5:3", kept=2, answer=done(25))
+listed(held, 2, 3, 32, left=False, ticks=25)
+held = crowd([5] * 4, fall_back=3, last=2, kept=0)
+listed(held, 0, 3, 64, left=False, again=True)
+
+name("B77: whole listings of mixed AIDs with refused calls between the parts")
+# The rows have 16, 23, 18, 25, 20, 27, 22, 17, 24, 19, 26 and 21 bytes, and again: eleven fit, then eleven, then the last ten.
+held = crowd([5 + at * 7 % 12 for at in range(32)])
+for first, last, size in ((0, 10, 237), (11, 21, 232), (22, 31, 215)):
+    listed(held, first, last, size, left=last < 31)
+    command(next_rows(four_f(held[last][0])), no("6A80"))
+    command(status(four_f(aid(99))), no("6A88"))
+goes_on_nowhere()
 store_away("scenarios")
 
 # ---------------------------------------------------------------- the mark, and what a deletion leaves, in the explained form
@@ -2627,6 +3239,59 @@ explained(f"command 0 {create(params=C9 + ef(870))}", DONE, ONE, AGAIN, THREE, m
 explained(READS, DONE, ONE, AGAIN, THREE, more=["response FF210F810103820400000000830400000007"])
 explained(DELETES[0], DONE, ONE, THREE, more=TAKEN)
 explained(READS, DONE, ONE, THREE, more=["response FF210F810102820400000366830400000007"])
+
+MORE_ROWS, NOT_HELD = "63 10 done, more rows to come", "6A 88 target not held, or not the outstanding number, or no listing open"
+ENABLED_ONE = (0, aid(1), "ENABLED", 20, 5, "yes", "yes", "none")
+SEVENTEEN = [ENABLED_ONE, *[(n - 1, aid(n), "DISABLED", 20, 5, "", "yes", "none") for n in range(2, 18)]]
+SEVENTEEN_WORDS = [place(n, E if n == 1 else D, quota=20) for n in range(1, 18)]
+FIRST_ROWS, NEXT_ROWS = (f"command 0 {command_bytes('4F00')}" for command_bytes in (status, next_rows))
+FIRST_FIFTEEN = ["response " + text_of([(aid(n), E if n == 1 else D, n == 1) for n in range(1, 16)])]
+LAST_TWO = ["response " + text_of([(aid(16), D, False), (aid(17), D, False)])]
+
+name("B76: a listing open is shown after the phase, by the part that leaves rows and by each refusal after it; the last part closes it")
+explained(card_line(SEVENTEEN_WORDS), DONE, *SEVENTEEN)
+explained(NEXT_ROWS, NOT_HELD, *SEVENTEEN)
+explained(FIRST_ROWS, MORE_ROWS, *SEVENTEEN, more=FIRST_FIFTEEN, kept=15)
+explained(f"command 0 {next_rows(four_f())}", WRONG_VALUE, *SEVENTEEN, kept=15)
+explained(f"{NEXT_ROWS} 255", "6F 02 response buffer under 256 bytes", *SEVENTEEN, kept=15)
+explained(f"keyed {aid(99)}", NOT_HELD, *SEVENTEEN, kept=15)
+explained(f"command 0 {status('4F00', p2='04')}", "6A 86 P1 or P2 wrong", *SEVENTEEN, kept=15)
+explained(NEXT_ROWS, DONE, *SEVENTEEN, more=LAST_TWO)
+explained(NEXT_ROWS, NOT_HELD, *SEVENTEEN)
+
+name("B76: each accepted call takes the line away; the next listing has it again")
+explained(FIRST_ROWS, MORE_ROWS, *SEVENTEEN, more=FIRST_FIFTEEN, kept=15)
+explained("tick", DONE, *SEVENTEEN)
+explained(FIRST_ROWS, MORE_ROWS, *SEVENTEEN, more=FIRST_FIFTEEN, kept=15)
+explained("lost", DONE, *SEVENTEEN)
+explained(FIRST_ROWS, MORE_ROWS, *SEVENTEEN, more=FIRST_FIFTEEN, kept=15)
+explained(READS, DONE, *SEVENTEEN, more=["response FF210F8101118204000002948304" + "00000007"])
+explained(FIRST_ROWS, MORE_ROWS, *SEVENTEEN, more=FIRST_FIFTEEN, kept=15)
+explained(f"command 0 {delete(four_f(aid(17)))}", DONE, *SEVENTEEN[:16], more=TAKEN)
+explained(NEXT_ROWS, NOT_HELD, *SEVENTEEN[:16])
+
+name("B76: a kept place in a record handed in, in each phase; in one that is not sound, with a number that is no place too")
+ONE, TWO = (0, aid(1), "DISABLED", 50, 5, "yes", "yes", "none"), (1, B, "ENABLED", 50, 5, "", "yes", "none")
+records, rolled = [place(1, D), place(2, E)], [place(1, E), place(2, D)]
+for at in (0, 1):
+    explained(card_line(records, kept=at), DONE, ONE, TWO, kept=at)
+    explained(card_line(records, last=9, phase="T:0:5:9", kept=at), DONE, ONE, TWO, kept=at, phase="trial: previous at place 0, ticks left 5, number 9", ticks=15)
+    explained(card_line(records, last=9, phase="B:5:9", kept=at), DONE, ONE, TWO, kept=at, phase="back: ticks left 5, number 9", ticks=15)
+    turned = [(0, aid(1), "ENABLED", *ONE[3:]), (1, B, "DISABLED", *TWO[3:])]
+    explained(card_line(rolled, last=9, phase="F:5:9", kept=at), DONE, *turned, kept=at, phase="fallen: ticks left 5, number 9", ticks=5)
+explained(NEXT_ROWS, DONE, *turned, more=["response " + text_of([(B, D, False)])], phase="fallen: ticks left 5, number 9", ticks=5)
+for at in (2, 31, 32, 200, 254):
+    explained(card_line(records, kept=at), UNSOUND, ONE, TWO, kept=at)
+    explained("tick", UNSOUND, ONE, TWO, kept=at)
+explained(NEXT_ROWS, UNSOUND, ONE, TWO, kept=254)
+explained(card_line(records, free=1, kept=1), UNSOUND, ONE, TWO, kept=1)
+explained(f"fresh {EID} {F} 1000 100 10 0", DONE, (0, aid(1), "ENABLED", 100, 10, "yes", "yes", "none"))
+
+name("B70: thirty-two rows in the table")
+ROWS = [ENABLED_ONE, *[(n - 1, aid(n), "DISABLED", 20, 5, "", "yes", "none") for n in range(2, 33)]]
+explained(card_line([place(n, E if n == 1 else D, quota=20) for n in range(1, 33)], kept=31), DONE, *ROWS, kept=31)
+explained(f"command 0 {create(aid=aid(33))}", "6A 84 no free place, or no room in the memory or the quota", *ROWS, kept=31)
+explained(NEXT_ROWS, DONE, *ROWS, more=["response " + text_of([(aid(32), D, False)])])
 store_away("explained", "\n\n", ["explain"])
 
 # ---------------------------------------------------------------- lines that cannot be read
@@ -2656,4 +3321,19 @@ unreadable("FREE comes before the PHASE", card_line([place(1, E)], phase="q", fr
 unreadable("FREE comes before the places", card_line([place(1, E, mark=256)], free="x"), "bad number")
 unreadable("VOLATILE is read too, before FREE", card_line([place(1, E)], volatile="x"), "bad number")
 unreadable("LAST is read too, after FREE", card_line([place(1, E)], last=65536), "bad number")
+for kept in ("255", "256", "0255", "4294967296", "99999999999999999999", "x", "--", "-1", "+1", "0x1", "1.0", "1:", "none", "A0"):
+    unreadable("a KEPT that is neither - nor a number up to 254", card_line([place(1, E)], kept=kept), "bad number")
+NO_KEPT = card_line([place(1, E)], kept="").replace("  ", " ")
+EIGHT_PLACES = card_line([place(1, E)]).removesuffix(" -" * (PLACES - 8))
+unreadable("KEPT as the empty word: a word is missing", card_line([place(1, E)], kept=""), "words missing")
+unreadable("a card line without KEPT is short of a word", NO_KEPT, "words missing")
+unreadable("a card line of before, with eight places and no KEPT", EIGHT_PLACES.replace(" Q - ", " Q "), "words missing")
+unreadable("a card line of eight places", EIGHT_PLACES, "words missing")
+unreadable("a card line of 31 places", card_line([place(1, E)]).removesuffix(" -"), "words missing")
+unreadable("a card line of 33 places", card_line([place(1, E), *["-"] * (PLACES - 1), place(2, D)]), "too many words")
+unreadable("a card line with KEPT twice", card_line([place(1, E)], kept="0 0"), "too many words")
+unreadable("the PHASE comes before KEPT", card_line([place(1, E)], phase="q", kept="x"), "bad phase")
+unreadable("KEPT comes before the places", card_line([place(1, E, mark=256)], kept="255"), "bad number")
+unreadable("FREE comes before KEPT and the PHASE", card_line([place(1, E)], phase="q", kept="x", free="x"), "bad number")
+unreadable("the place before the last is read too", card_line([place(1, E), *["-"] * (PLACES - 3), place(2, D, mark=256)], kept=0), "bad place")
 store_bad_lines()
