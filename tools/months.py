@@ -374,8 +374,8 @@ reported("loaded-deleted-and-not-created-again", of(loaded(2) + deletes(2) + fin
 # By the old rule there was no room for 03, no place for 09 and no room for 2A: 01 had all nine minutes.
 full = makes(2, quota=900) + keyed(2) + stored(2, 900)
 reported("the-room-of-a-broken-download", of(full + deletes(2) + profile(3) + nine_minutes(3)), {1: 0, 3: 9}, 19)
-eight = [one for who in range(2, 9) for one in makes(who)]
-reported("the-place-of-a-broken-download", of(eight + makes(9) + deletes(5) + profile(9) + nine_minutes(9)), {1: 0, 9: 9}, 24, no=1)
+places = [one for who in range(2, 33) for one in makes(who, 20)]
+reported("the-place-of-a-broken-download", of(places + makes(33) + deletes(5) + profile(33) + nine_minutes(33)), {1: 0, 33: 9}, 48, no=1)
 forty = [one for who in range(2, 42) for one in makes(who, quota=900) + keyed(who) + deletes(who)]
 reported("forty-broken-downloads-and-a-whole-one", of(forty + profile(42) + nine_minutes(42)), {1: 0, 42: 9}, 135)
 # The line has the minutes of both lives, and none of the broken download between them.
@@ -466,6 +466,22 @@ reported("room-given-back-by-each-deletion", of(taken + again + kept + last), {1
 full = sized(2, 300, 4) + sized(3, 600) + makes(4, 1) + enables(2) + confirms(1) + enables(3) + ticks(2)
 reported("room-given-back-at-the-confirmation", of(full + confirms(2) + makes(4, 301) + sized(4, 300) + enables(4) + ticks(3)), {1: 0, 2: 0, 3: 2, 4: 3}, 24, no=2)
 reported("room-not-given-back-before-it", of(full + makes(4, 300) + ticks(10) + confirms(3) + makes(4, 300) + ticks(3)), {1: 0, 2: 5, 3: 10}, 30, no=3)
+
+# ---------------------------------------------------------------- thirty-two profiles, and listings in parts
+
+# Seventeen profiles: fifteen rows with 63 10, which is no refusal, and two. What comes after the last part, after a tick or after an accepted keyed is refused; a
+# refused keyed leaves the listing open.
+seventeen = profile(2) + [one for who in range(3, 18) for one in makes(who, 20)]
+begun = lists() + lists_on() + lists_on() + lists() + ticks() + lists_on()
+changed = enables(2) + lists() + lists_on() + ticks(3) + confirms(1) + lists() + keyed(99) + lists_on() + lists() + keyed(3) + lists_on() + ticks(2)
+reported("a-listing-in-parts", of(seventeen + begun + changed), {1: 1, 2: 5}, 40, no=4)
+named = command(next_rows(four_f(aid(3).hex())))
+reported("a-listing-with-an-aid-named", of(seventeen + named + lists() + named + lists_on() + named + ticks()), {1: 1}, 25, no=3)
+reported("a-listing-with-other-tags", of(seventeen + lists() + lists_on("5C00") + lists("5C00") + lists_on() + ticks()), {1: 1}, 24, no=1)
+reported("32-profiles-the-33rd-refused", of(places + makes(33, 20) + lists() + lists_on() * 3 + deletes(32) + makes(33, 20) + ticks(2)), {1: 2}, 40, no=2)
+sized_ones = [one for who in range(2, 33) for one in sized(who, 20)]
+in_turn = [one for who in range(2, 33) for one in enables(who) + ticks() + confirms(who - 1) + lists()]
+reported("32-profiles-enabled-in-turn", of(sized_ones + in_turn + lists_on() * 3), {1: 0, **dict.fromkeys(range(2, 33), 1)}, 251, no=1)
 
 
 def main():

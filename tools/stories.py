@@ -75,6 +75,16 @@ def master(who, verdict):
     return command(delete(four_f(aid(who).hex()) + b6() + TOKEN, le="00"), verdict)
 
 
+def lists(tags=""):
+    """GET STATUS of all, from the first row on."""
+    return command(status("4F00" + tags))
+
+
+def lists_on(tags=""):
+    """The next rows."""
+    return command(next_rows("4F00" + tags))
+
+
 def parade(names, count=1, stay=1):
     """Profiles enabled one after the other and confirmed; each is deleted when the next one is confirmed. Six events each, and as many ticks as it stays.
     `count` is the number of the first change."""

@@ -1,8 +1,9 @@
-//! `generate SEED CALLS [bad | month | free | free bad]`: writes one script of about CALLS calls, the same for the
-//! same words. It plays each line on the peer's own card as it writes it, so that most calls meet a card on
-//! which they matter; with `bad`, the script ends in a line that cannot be read; with `month`, it is
+//! `generate SEED CALLS [bad | month | free | free bad | listing | listing bad]`: writes one script of about CALLS
+//! calls, the same for the same words. It plays each line on the peer's own card as it writes it, so that most calls
+//! meet a card on which they matter; with `bad`, the script ends in a line that cannot be read; with `month`, it is
 //! one fresh card and what an event file can hold; with `free`, the free memory is looked at wherever it moves,
-//! and the card is handed in again and again with a free that is not its own.
+//! and the card is handed in again and again with a free that is not its own; with `listing`, cards hold many
+//! profiles, most calls are parts of a listing or come between two, and the card is handed in with other kept places.
 
 // The generator needs only part of each module it shares with the peer.
 #![allow(dead_code)]
@@ -90,9 +91,10 @@ struct Generator {
     calls: usize,
     /// The script is to be an event file: no command says how long its buffer is.
     is_month: bool,
-    /// The script is about the free memory. The others draw no random number for it: they are what they were
-    /// before a card kept its free, and so are their stored answers.
+    /// The script is about the free memory.
     is_free: bool,
+    /// The script is about listings in parts.
+    is_listing: bool,
 }
 
 impl Generator {
@@ -104,7 +106,8 @@ impl Generator {
         self.calls += 1;
     }
 
-    /// Names that only their length, or zeros at their end, tell apart, among plain ones.
+    /// Names that only their length, or zeros at their end, tell apart, among plain ones; more of them than there are
+    /// places. Those of most are of one length, or of any: a listing's parts hang on it.
     fn new_aids(&mut self) {
         self.aids.clear();
         self.gone = None;
@@ -124,6 +127,14 @@ impl Generator {
         other[15] = self.random.byte();
         self.aids.push(other.to_vec());
         self.aids.push(vec![0; self.random.number(5, 16) as usize]);
+        let same = self.random.pick(&[5, 5, 6, 7, 16, 16]);
+        let is_mixed = self.random.chance(50);
+        for last in 8..40 {
+            let length = if is_mixed { self.random.number(5, 16) as usize } else { same };
+            let mut aid = vec![0xA0, 0, 0, 0, last];
+            aid.resize(length, 0xEE);
+            self.aids.push(aid);
+        }
     }
 
     fn any_aid(&mut self) -> Vec<u8> {
@@ -225,7 +236,8 @@ impl Generator {
     }
 
     /// Any sound card, also of kinds that no run from fresh makes: a SELECTABLE one with used
-    /// bytes or a mark, a previous that is the fall-back, eight places full, numbers about to wrap.
+    /// bytes or a mark, a previous that is the fall-back, all places full, numbers about to wrap, a kept place at which
+    /// no listing stops.
     fn sound_card(&mut self) -> Card {
         let capacity = self.random.pick(&[100, 1000, 1_048_576]);
         let mut card = Card { capacity, volatile: self.random.next() as u32, free: capacity, ..Card::ZEROS };
@@ -245,15 +257,22 @@ impl Generator {
         let any = self.random.next() as u16;
         card.last = self.random.pick(&[0, 1, 65533, 65534, 65535, any]);
         card.phase = self.phase(&card);
+        if self.random.chance(if self.is_listing { 60 } else { 25 }) {
+            card.kept_place = Some(self.random.pick(&held) as u8);
+        }
         card
     }
 
-    /// Profiles in some of the places, at least in one; none is ENABLED yet.
+    /// Profiles in few, in many or in all of the places, at least in one; none is ENABLED yet.
     fn fill(&mut self, card: &mut Card) {
         let mut names = self.aids.clone();
-        let full = self.random.chance(25);
+        let share = if self.is_listing {
+            self.random.pick(&[50, 75, 90, 100])
+        } else {
+            self.random.pick(&[5, 15, 15, 50, 75, 100])
+        };
         for index in 0..PLACES {
-            if !full && self.random.chance(40) {
+            if !self.random.chance(share) {
                 continue;
             }
             let name = names.swap_remove(self.random.below(names.len()));
@@ -293,6 +312,10 @@ impl Generator {
     /// Broken in anything but its free, which is right wherever it can be.
     fn broken_card(&mut self) -> Card {
         let mut card = self.sound_card();
+        if self.random.chance(if self.is_listing { 60 } else { 10 }) {
+            self.keep_wrong_place(&mut card);
+            return card;
+        }
         match self.random.below(22) {
             0 => card.capacity = self.random.pick(&[0, 1, 1_048_577, u32::MAX]),
             1 => card.fall_back = self.random.pick(&[PLACES as u8, PLACES as u8 + 1, 200, 255]),
@@ -314,6 +337,14 @@ impl Generator {
         }
         card.free = free_left(&card);
         card
+    }
+
+    /// Nothing but the kept place is touched. A number past the places, or a place that is mostly not held.
+    fn keep_wrong_place(&mut self, card: &mut Card) {
+        let past = self.random.number(PLACES as u32, 254) as u8;
+        let free = card.lowest_free_place().map_or(past, |index| index as u8);
+        let place = self.random.below(PLACES) as u8;
+        card.kept_place = Some(self.random.pick(&[free, free, place, 31, 32, 33, 64, 200, 254, past]));
     }
 
     /// A place that is not held is broken by most of these too.
@@ -378,6 +409,27 @@ impl Generator {
             }
         }
         self.hand_in(&card);
+    }
+
+    /// The card as it stands with another kept place, right or wrong, or with none, and a part or two of a listing; mostly
+    /// the card is then handed in as it was, also with the listing open.
+    fn move_kept_place(&mut self) {
+        let card = *self.model.card();
+        let mut other = card;
+        if self.random.chance(35) {
+            self.keep_wrong_place(&mut other);
+        } else {
+            let held = held_places(&card);
+            let place = self.random.pick(&held) as u8;
+            other.kept_place = self.random.pick(&[None, Some(place), Some(place)]);
+        }
+        self.hand_in(&other);
+        for _ in 0..self.random.below(4) {
+            self.part();
+        }
+        if !self.model.card().is_sound() || self.random.chance(50) {
+            self.hand_in(&card);
+        }
     }
 
     fn hand_in(&mut self, card: &Card) {
@@ -550,6 +602,10 @@ impl Generator {
         let card = *self.model.card();
         let aid = self.aid_to_create();
         let quota = self.quota(&card);
+        self.create_of(aid, quota);
+    }
+
+    fn create_of(&mut self, aid: Vec<u8>, quota: Vec<u8>) {
         let occurrences = self.random.pick(&[1, 1, 1, 1, 1, 1, 1, 1, 1, 1, 1, 1, 1, 1, 2, 2, 3, 3, 33, 33, 0]);
         let mut protocols = [0x81, 2, 3, 0x70].repeat(occurrences);
         if self.random.chance(2) {
@@ -647,25 +703,119 @@ impl Generator {
         self.command([0xE4, 0x00, 0x40], field, verdict);
     }
 
-    fn get_status(&mut self) {
-        let aid = if self.random.chance(65) { Vec::new() } else { self.target(|_, _| true) };
-        let mut field = tlv(&[0x4F], &aid);
+    /// The tags of a list: none, each alone, in any order and more than once, now and then a wrong one or a long list.
+    fn tag_list(&mut self) -> Vec<u8> {
+        let count = self.random.pick(&[0, 1, 1, 2, 2, 3, 5]);
+        let mut listed = Vec::new();
+        for _ in 0..count {
+            listed.extend(self.random.pick(&[&[0x4F][..], &[0x9F, 0x70], &[0x53]]));
+        }
+        if self.random.chance(6) {
+            listed.push(self.random.pick(&[0x9F, 0x70, 0x5C, 0x00]));
+        }
+        if self.random.chance(2) {
+            listed = [0x9F, 0x70].repeat(60 + self.random.below(66));
+        }
+        tlv(&[0x5C], &listed)
+    }
+
+    fn get_status_of(&mut self, p2: u8, aid: &[u8]) {
+        let mut field = tlv(&[0x4F], aid);
         if self.random.chance(50) {
-            let count = self.random.pick(&[0, 1, 1, 2, 2, 3, 5]);
-            let mut listed = Vec::new();
-            for _ in 0..count {
-                listed.extend(self.random.pick(&[&[0x4F][..], &[0x9F, 0x70], &[0x53]]));
-            }
-            if self.random.chance(6) {
-                listed.push(self.random.pick(&[0x9F, 0x70, 0x5C, 0x00]));
-            }
-            if self.random.chance(2) {
-                listed = [0x9F, 0x70].repeat(60 + self.random.below(66));
-            }
-            field.extend(tlv(&[0x5C], &listed));
+            field.extend(self.tag_list());
         }
         let verdict = self.verdict();
-        self.command([0xF2, 0x40, 0x02], field, verdict);
+        self.command([0xF2, 0x40, p2], field, verdict);
+    }
+
+    /// The first rows, the next ones where some are left, or one profile's.
+    fn get_status(&mut self) {
+        let next = if self.model.card().kept_place.is_some() { 60 } else { 8 };
+        if self.random.chance(next) {
+            return self.next_rows();
+        }
+        let aid = if self.random.chance(65) { Vec::new() } else { self.target(|_, _| true) };
+        self.get_status_of(0x02, &aid);
+    }
+
+    /// Now and then with a name, which is wrong whatever is kept.
+    fn next_rows(&mut self) {
+        let aid = match self.random.below(100) {
+            0..=91 => Vec::new(),
+            92..=96 => self.target(|_, _| true),
+            _ => self.odd_aid(),
+        };
+        self.get_status_of(0x03, &aid);
+    }
+
+    /// One part of a listing: the next one, mostly, where one is open.
+    fn part(&mut self) {
+        let open = self.model.card().kept_place.is_some();
+        match self.random.below(100) {
+            0..=69 if open => self.next_rows(),
+            0..=9 => self.next_rows(),
+            10..=93 => self.get_status_of(0x02, &[]),
+            94..=96 => self.get_status(),
+            _ => {
+                let p2 = self.random.pick(&[0x00, 0x01, 0x04, 0x06, 0x83]);
+                self.get_status_of(p2, &[]);
+            }
+        }
+    }
+
+    /// A listing to its end or until it tires, in any parts, with calls of every kind between some of them.
+    fn listing(&mut self) {
+        self.get_status_of(0x02, &[]);
+        for _ in 0..self.random.below(8) {
+            match self.random.below(100) {
+                0..=64 => self.part(),
+                65..=84 => self.refused_call(),
+                85..=91 => self.any_call(),
+                _ => self.idle_call(),
+            }
+            if self.model.card().kept_place.is_none() && self.random.chance(60) {
+                return;
+            }
+        }
+    }
+
+    /// A call that is mostly refused; an open listing is to outlive it.
+    fn refused_call(&mut self) {
+        let odd = self.odd_aid();
+        let any = self.any_aid();
+        let verdict = self.random.pick(&[0, 2, 255]);
+        match self.random.below(11) {
+            0 => self.put(format!("keyed {}", hex_word(&odd))),
+            1 => self.put(format!("stored {} 4294967295", hex_word(&any))),
+            2 => self.put(format!("finished {} 5", hex_word(&any))),
+            3 => self.put(format!("finished {} 0 2", hex_word(&any))),
+            4 => self.get_status_of(0x02, &odd),
+            5 => self.get_status_of(0x03, &any),
+            6 => self.command([0xE4, 0x00, 0x40], tlv(&[0x4F], &odd), verdict),
+            7 => self.store_data(3, tlv(&[0x4F], &odd)),
+            8 => self.confirm(0),
+            9 => self.send(vec![0x80, 0xCA, 0xFF, 0x21], verdict),
+            _ => self.forbidden_while_open(),
+        }
+    }
+
+    /// A call that is accepted and changes nothing, but for an open listing.
+    fn idle_call(&mut self) {
+        let fall_back = self.model.card().places[usize::from(self.model.card().fall_back) % PLACES].aid;
+        match self.random.below(6) {
+            0 => self.put("tick".to_owned()),
+            1 => self.lost(),
+            2 => self.store_data(5, tlv(&[0x4F], fall_back.bytes())),
+            3 => {
+                let aid = self.target(|_, place| place.life_cycle == PERSONALIZED);
+                self.put(format!("stored {} 0", hex_word(&aid)));
+            }
+            4 => {
+                let aid = self.target(|_, _| true);
+                self.get_status_of(0x02, &aid);
+            }
+            _ => self.get_data(),
+        }
     }
 
     fn get_data(&mut self) {
@@ -732,6 +882,18 @@ impl Generator {
             self.delete(false);
         } else {
             self.delete(true);
+        }
+    }
+
+    /// Creations one after the other, up to all places and more, each with so small a quota that there is room for all.
+    fn crowd(&mut self) {
+        let names = self.aids.clone();
+        let start = self.random.below(names.len());
+        let count = self.random.pick(&[9, 12, 16, 20, 36, 44]);
+        for at in start..start + count.min(names.len()) {
+            let most = self.model.card().free / PLACES as u32 / 2 + 1;
+            let quota = self.random.number(1, most.min(0xFFFF));
+            self.create_of(names[at % names.len()].clone(), quota.to_be_bytes().to_vec());
         }
     }
 
@@ -836,11 +998,21 @@ impl Generator {
             self.hand_in(&card);
         }
         let length = if from_fresh { self.random.number(40, 160) } else { self.random.number(3, 60) };
+        if from_fresh && self.random.chance(if self.is_listing { 90 } else { 20 }) {
+            self.crowd();
+        }
         let end = most.min(self.calls + length as usize);
         while self.calls < end && !(self.is_stuck() && self.random.chance(20)) {
-            self.call();
+            if self.is_listing && self.random.chance(60) {
+                self.listing();
+            } else {
+                self.call();
+            }
             if self.is_free && self.random.chance(8) {
                 self.lose_balance();
+            }
+            if self.is_listing && self.random.chance(8) {
+                self.move_kept_place();
             }
         }
         for _ in 0..self.random.below(4) {
@@ -862,10 +1034,17 @@ impl Generator {
             self.calls = 0;
             self.new_aids();
             self.fresh();
+            let is_crowded = self.random.chance(40);
+            if is_crowded {
+                self.crowd();
+            }
             while self.calls < most {
                 self.call();
                 if self.random.chance(15) {
                     self.ticks();
+                }
+                if is_crowded && self.random.chance(10) {
+                    self.listing();
                 }
                 if self.is_stuck() {
                     break;
@@ -882,7 +1061,8 @@ impl Generator {
             0 => "x".repeat(4097),
             1 => format!("#{}", " ".repeat(4096)),
             _ if self.is_free => self.random.pick(&BAD_FREES).to_owned(),
-            2..=14 => format!("card EID 1000 0 1000 0 0 Q {} REST", self.random.pick(&BAD_PLACES)),
+            _ if self.is_listing => self.random.pick(&BAD_KEPTS).to_owned(),
+            2..=14 => format!("card EID 1000 0 1000 0 0 Q - {} REST", self.random.pick(&BAD_PLACES)),
             15..=28 => self.random.pick(&BAD_CARDS).to_owned(),
             _ => self.random.pick(&BAD_CALLS).to_owned(),
         }
@@ -941,39 +1121,61 @@ const BAD_CALLS: [&str; 42] = [
 ];
 
 const BAD_CARDS: [&str; 14] = [
-    "card EID 1000 0 1000 0 0 Q REST",
-    "card EID 1000 0 1000 0 0 Q NONE -",
-    "card EID00 1000 0 1000 0 0 Q NONE",
-    "card - 1000 0 1000 0 0 Q NONE",
-    "card EID 1000 0 1000 65536 0 Q NONE",
-    "card EID 1000 0 1000 0 256 Q NONE",
-    "card EID 1000 0 1000 0 0 q NONE",
-    "card EID 1000 0 1000 0 0 Q: NONE",
-    "card EID 1000 0 1000 0 0 T:0:1 NONE",
-    "card EID 1000 0 1000 0 0 T:256:1:0 NONE",
-    "card EID 1000 0 1000 0 0 B:1:65536 NONE",
-    "card EID 1000 0 1000 0 0 B::0 NONE",
-    "card EID 1000 0 1000 0 0 F:1:0:0 NONE",
-    "card EID 1000 0 1000 0 0 X x REST",
+    "card EID 1000 0 1000 0 0 Q - REST",
+    "card EID 1000 0 1000 0 0 Q - NONE -",
+    "card EID00 1000 0 1000 0 0 Q - NONE",
+    "card - 1000 0 1000 0 0 Q - NONE",
+    "card EID 1000 0 1000 65536 0 Q - NONE",
+    "card EID 1000 0 1000 0 256 Q - NONE",
+    "card EID 1000 0 1000 0 0 q - NONE",
+    "card EID 1000 0 1000 0 0 Q: - NONE",
+    "card EID 1000 0 1000 0 0 T:0:1 - NONE",
+    "card EID 1000 0 1000 0 0 T:256:1:0 - NONE",
+    "card EID 1000 0 1000 0 0 B:1:65536 - NONE",
+    "card EID 1000 0 1000 0 0 B::0 - NONE",
+    "card EID 1000 0 1000 0 0 F:1:0:0 - NONE",
+    "card EID 1000 0 1000 0 0 X - x REST",
+];
+
+const BAD_KEPTS: [&str; 18] = [
+    // As it was spelled before a card kept a place, and with places for eight.
+    "card EID 1000 0 1000 0 0 Q NONE",
+    "card EID 1000 0 1000 0 0 Q - - - - - - - - -",
+    "card EID 1000 0 1000 0 0 Q - REST",
+    "card EID 1000 0 1000 0 0 Q - NONE -",
+    "card EID 1000 0 1000 0 0 Q 0 0 NONE",
+    "card EID 1000 0 1000 0 0 Q 255 NONE",
+    "card EID 1000 0 1000 0 0 Q 256 NONE",
+    "card EID 1000 0 1000 0 0 Q 4294967296 NONE",
+    "card EID 1000 0 1000 0 0 Q 99999999999999999999999 NONE",
+    "card EID 1000 0 1000 0 0 Q -- NONE",
+    "card EID 1000 0 1000 0 0 Q -1 NONE",
+    "card EID 1000 0 1000 0 0 Q +1 NONE",
+    "card EID 1000 0 1000 0 0 Q 0x1 NONE",
+    "card EID 1000 0 1000 0 0 Q 1: NONE",
+    "card EID 1000 0 1000 0 0 Q x x REST",
+    "card EID 1000 0 1000 0 0 q x NONE",
+    "card EID 1000 0 1000 0 256 q x NONE",
+    "card EID 1000 0 1000 0 0 Q 254 x REST",
 ];
 
 const BAD_FREES: [&str; 15] = [
     // As it was spelled before a card kept its free.
-    "card EID 1000 0 0 0 Q NONE",
-    "card EID 1000 0 1000 0 0 Q REST",
-    "card EID 1000 0 1000 0 0 Q NONE -",
-    "card EID 1000 0 4294967296 0 0 Q NONE",
-    "card EID 1000 0 99999999999999999999999 0 0 Q NONE",
-    "card EID 1000 0 -1 0 0 Q NONE",
-    "card EID 1000 0 +1 0 0 Q NONE",
-    "card EID 1000 0 0x1 0 0 Q NONE",
-    "card EID 1000 0 1.0 0 0 Q NONE",
-    "card EID 1000 0 - 0 0 Q NONE",
-    "card EID 1000 0 x 0 0 q x REST",
-    "card EID00 1000 0 x 0 0 Q NONE",
-    "card EID 1000 4294967296 1000 0 0 Q NONE",
-    "card EID 1000 0 65536 65536 0 Q NONE",
-    "card EID 1000 0 256 256 256 Q NONE",
+    "card EID 1000 0 0 0 Q - NONE",
+    "card EID 1000 0 1000 0 0 Q - REST",
+    "card EID 1000 0 1000 0 0 Q - NONE -",
+    "card EID 1000 0 4294967296 0 0 Q - NONE",
+    "card EID 1000 0 99999999999999999999999 0 0 Q - NONE",
+    "card EID 1000 0 -1 0 0 Q - NONE",
+    "card EID 1000 0 +1 0 0 Q - NONE",
+    "card EID 1000 0 0x1 0 0 Q - NONE",
+    "card EID 1000 0 1.0 0 0 Q - NONE",
+    "card EID 1000 0 - 0 0 Q - NONE",
+    "card EID 1000 0 x 0 0 q - x REST",
+    "card EID00 1000 0 x 0 0 Q - NONE",
+    "card EID 1000 4294967296 1000 0 0 Q - NONE",
+    "card EID 1000 0 65536 65536 0 Q - NONE",
+    "card EID 1000 0 256 256 256 Q - NONE",
 ];
 
 const BAD_PLACES: [&str; 13] = [
@@ -994,7 +1196,7 @@ const BAD_PLACES: [&str; 13] = [
 ];
 
 fn usage() -> ExitCode {
-    eprintln!("usage: generate SEED CALLS [bad | month | free | free bad]");
+    eprintln!("usage: generate SEED CALLS [bad | month | free | free bad | listing | listing bad]");
     ExitCode::from(2)
 }
 
@@ -1002,12 +1204,11 @@ fn main() -> ExitCode {
     let arguments: Vec<String> = std::env::args().skip(1).collect();
     let number = |index: usize| arguments.get(index).and_then(|word| word.parse::<u64>().ok());
     let words: Vec<&str> = arguments.iter().skip(2).map(String::as_str).collect();
-    let (is_month, is_free, is_bad) = match words[..] {
-        [] => (false, false, false),
-        ["bad"] => (false, false, true),
-        ["month"] => (true, false, false),
-        ["free"] => (false, true, false),
-        ["free", "bad"] => (false, true, true),
+    let (mode, is_bad) = match words[..] {
+        [] => ("", false),
+        ["bad"] => ("", true),
+        [mode @ ("month" | "free" | "listing")] => (mode, false),
+        [mode @ ("free" | "listing"), "bad"] => (mode, true),
         _ => return usage(),
     };
     let (Some(seed), Some(calls)) = (number(0), number(1)) else { return usage() };
@@ -1018,10 +1219,11 @@ fn main() -> ExitCode {
         gone: None,
         out: String::new(),
         calls: 0,
-        is_month,
-        is_free,
+        is_month: mode == "month",
+        is_free: mode == "free",
+        is_listing: mode == "listing",
     };
-    if is_month {
+    if generator.is_month {
         generator.month(calls as usize);
     } else {
         generator.chapters(calls as usize);
