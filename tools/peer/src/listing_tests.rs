@@ -116,6 +116,41 @@ fn no_shorter_row_comes_before_its_turn() {
     lists(card_of(&lengths), ALL_TAGS, &[19], &[240, 192]);
 }
 
+/// B77, on many cards: names of 5 to 16 bytes, and places that are not held.
+#[test]
+fn the_parts_join() {
+    for seed in 0..200usize {
+        let size = |index: usize| {
+            if index > 0 && (index * seed + seed) % 7 == 3 {
+                0
+            } else {
+                5 + (index * index + seed * index) % 12
+            }
+        };
+        let card = card_of(&(0..PLACES).map(size).collect::<Vec<_>>());
+        for field in [ALL_TAGS, LIFE_CYCLE, ATTRIBUTES, NO_TAGS] {
+            let mut kept = Kept::of(card);
+            let mut joined = Vec::new();
+            let mut count = 0;
+            loop {
+                let (word, response, place) = part(&mut kept, if count == 0 { FIRST } else { NEXT }, field);
+                count += 1;
+                joined.extend(&response);
+                assert!(response.len() <= 255 && count <= 4);
+                assert_eq!(word == 0x6310, place.is_some());
+                if word == 0x9000 {
+                    break;
+                }
+                // A row has at most 27 bytes.
+                assert!(response.len() >= 229);
+                assert_eq!(manager::keyed(&mut kept, &[]).status, 0x6A80);
+            }
+            let held = (0..PLACES).filter(|index| card.places[*index].is_held());
+            assert_eq!(joined, rows(&card, held, field));
+        }
+    }
+}
+
 /// A card of 32 profiles of which fifteen rows are given.
 fn amid() -> Kept {
     let mut card = card_of(&[5; 32]);

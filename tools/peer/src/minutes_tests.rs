@@ -250,6 +250,25 @@ fn sixty_four_lines_and_the_rest() {
     assert_eq!(of_events(&[&parade(66)]), format!("{full}rest 2\nticks 65\nevents 455\n"));
 }
 
+/// Seventeen profiles are listed in two parts. The first one's 63 10 is no refusal; what comes after the last part, after a tick
+/// and with an AID named is.
+#[test]
+fn a_part_that_leaves_rows_is_accepted() {
+    let create = "80E60C002205A00000000105A00000000105A0000000";
+    let crowd = (2..=17).flat_map(|last| command(&format!("{create}{last:02X}01800CC90481020370EF048302001400")));
+    let (first, next) = (command("80F24002024F00"), command("80F24003024F00"));
+    let named = command("80F24003074F05A000000002");
+    let parts = [&first, &named, &next, &next, &first, TICK, &next].map(<[u8]>::to_vec).concat();
+    let events: Vec<u8> = crowd.chain(parts).collect();
+    let table = "AID                               minutes   share
+A000000001                              1  100.0%
+ticks                                   1
+events                                 23
+refused                                 3
+";
+    assert_eq!(explained(&file(&fresh(), &events)), table);
+}
+
 #[test]
 fn for_a_person() {
     let events = [made(2, 0), TICK.repeat(2), change(3, 2), TICK.to_vec(), event(2, F)].concat();

@@ -302,14 +302,16 @@ fn every_phase(number: u16) -> Vec<Phase> {
     phases
 }
 
-/// Small cards in every shape of phase, previous, fall-back and enabled place, marked in several ways.
+/// Small cards in every shape of phase, previous, fall-back and enabled place, marked in several ways, with a listing open and not.
 fn sound_cards() -> Vec<Card> {
     let mut cards = Vec::new();
     for marks in [[1, 1, 1, 1], [1, 0, 0, 1], [0, 1, 1, 0]] {
         for enabled in 0..4 {
             for fall_back in 0..4 {
-                for phase in every_phase(65535) {
-                    let mut card = Card { last: 65535, fall_back, phase, ..four_profiles(marks) };
+                for (phase, kept_place) in
+                    every_phase(65535).into_iter().flat_map(|phase| [(phase, None), (phase, Some(3))])
+                {
+                    let mut card = Card { last: 65535, fall_back, phase, kept_place, ..four_profiles(marks) };
                     card.places[enabled].life_cycle = ENABLED;
                     cards.push(card);
                 }
@@ -349,6 +351,7 @@ fn refusals_leave_the_card_and_steps_keep_it_sound() {
         commands.push([&[0x80, 0xE4, 0, 0x40, element.len() as u8][..], &element].concat());
     }
     commands.push(vec![0x80, 0xE2, 0x89, 0, 7, 0x3A, 8, 4, 0x4E, 2, 0xFF, 0xFF]);
+    commands.extend([0x02, 0x03].map(|p2| vec![0x80, 0xF2, 0x40, p2, 2, 0x4F, 0]));
     for card in sound_cards() {
         for bytes in &commands {
             let mut kept = Kept::of(card);
@@ -356,14 +359,15 @@ fn refusals_leave_the_card_and_steps_keep_it_sound() {
             let new = *kept.card();
             assert_eq!(kept, Kept::of(new));
             assert!(new.is_sound());
-            assert!(answer.status == 0x9000 || new == card);
+            // All rows of four profiles fit one part, so no accepted call leaves a place kept.
+            assert!(if answer.status == 0x9000 { new.kept_place.is_none() } else { new == card });
             assert_eq!(answer.ticks, new.ticks_to_come());
             assert!(is_told(&card, &new, &answer));
         }
         for report in [manager::tick, manager::lost] {
             let mut kept = Kept::of(card);
             let answer = report(&mut kept);
-            assert!(kept.card().is_sound());
+            assert!(kept.card().is_sound() && kept.card().kept_place.is_none());
             assert!(is_told(&card, kept.card(), &answer));
         }
     }
@@ -410,6 +414,9 @@ fn unsound_cards() {
     broken(&|card| card.phase = Phase::Back { left: 5, number: card.last - 1 });
     broken(&|card| card.phase = Phase::Trial { previous: 200, left: 5, number: card.last });
     broken(&|card| card.phase = Phase::Trial { previous: 0, left: 5, number: card.last });
+    broken(&|card| card.kept_place = Some(4));
+    broken(&|card| card.kept_place = Some(32));
+    broken(&|card| card.kept_place = Some(254));
     for place in 0..PLACES {
         broken(&|card| card.places[place].quota = u32::MAX);
     }
