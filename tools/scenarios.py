@@ -2027,7 +2027,9 @@ card(done(), [place(1, E, quota=100), "-:00:0:0:0:0"], free=900)
 figures(1, 900, volatile=7)
 
 name("B65: the figure is 0 on a full card")
-for capacity, quotas in ((1, (1,)), (100, (100,)), (1000, (999, 1)), (1000, (125,) * 8), (MOST, (MOST,)), (MOST, (131_072,) * 8), (32, (1,) * 32), (MOST, (32_768,) * 32)):
+for capacity, quotas in (
+    (1, (1,)), (100, (100,)), (1000, (999, 1)), (1000, (125,) * 8), (32, (1,) * 32), (MOST, (MOST,)), (MOST, (131_072,) * 8), (MOST, (32_768,) * 32),
+):
     right_free(of_quotas(*quotas), 0, capacity=capacity)
     makes(33, no("6A84"), quota=1)
     wrong_free(of_quotas(*quotas), 1, capacity, WRAP - 1, capacity=capacity)
@@ -2530,7 +2532,8 @@ def text_of(rows, tags=BOTH):
 
 
 def listed(held, first, last, size, tags=BOTH, left=True, ticks=0, again=False):
-    """A part of a listing: the rows of the places from the first to the last, so many bytes. It begins where the first is the lowest, or goes on."""
+    """A part of a listing: the rows of the places from the first to the last, so many bytes. It begins
+    where the first is the lowest, else it goes on; `again` goes on there too."""
     text = text_of([row for at, row in held.items() if first <= at <= last], tags)
     assert len(text) == 2 * size, (len(text) // 2, size)
     begins = first == min(held) and not again
@@ -2755,8 +2758,8 @@ for open_now in (False, True):
         command(status(four_f(), p2=p2), no("6A86"))
     for p1 in ("00", "41", "80", "C0"):
         command(f"80F2{p1}03024F00", no("6A86"))
-    for bytes_ in ("80F24003", "80F2400300", "80F24003034F00", "80F24003024F0001", "80F24003024F000000", "80F240"):
-        command(bytes_, no("6700"))
+    for wrong in ("80F24003", "80F2400300", "80F24003034F00", "80F24003024F0001", "80F24003024F000000", "80F240"):
+        command(wrong, no("6700"))
     command("80E4" + next_rows()[4:], no("6A86"))
     command("80F3" + next_rows()[4:], no("6D00"))
     command("90" + next_rows()[2:], no("6E00"))
@@ -3023,11 +3026,9 @@ listed(held, 17, 17, 16, left=False)
 
 name("B71: records handed in with a held place kept: P2 03 goes on there, also where no listing would have stopped; P2 02 begins anew")
 held = crowd([5] * 32)
-for kept, end, size, left in ((0, 14, 240, True), (1, 15, 240, True), (3, 17, 240, True), (16, 30, 240, True), (17, 31, 240, False), (30, 31, 32, False), (31, 31, 16, False)):
+for kept, end, rows in ((0, 14, 15), (1, 15, 15), (3, 17, 15), (16, 30, 15), (17, 31, 15), (30, 31, 2), (31, 31, 1)):
     crowd([5] * 32, kept=kept)
-    listed(held, kept, end, size, left=left, again=True)
-    if left and end < 30:
-        listed(held, end + 1, min(end + 15, 31), 16 * min(15, 31 - end), left=end + 15 < 31)
+    listed(held, kept, end, 16 * rows, left=end < 31, again=True)
     crowd([5] * 32, kept=kept)
     listed(held, 0, 14, 240)
     listed(held, 15, 29, 240)

@@ -130,7 +130,7 @@ fn the_parts_join() {
         let card = card_of(&(0..PLACES).map(size).collect::<Vec<_>>());
         for field in [ALL_TAGS, LIFE_CYCLE, ATTRIBUTES, NO_TAGS] {
             let mut kept = Kept::of(card);
-            let mut joined = Vec::new();
+            let mut joined: Vec<u8> = Vec::new();
             let mut count = 0;
             loop {
                 let (word, response, place) = part(&mut kept, if count == 0 { FIRST } else { NEXT }, field);
