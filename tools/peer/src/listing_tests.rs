@@ -194,6 +194,13 @@ fn every_accepted_call_forgets_the_place() {
         forgets(|kept| send(kept, 0, &bytes).0);
     }
     forgets(|kept| send(kept, 1, &master_delete(4)).0);
+    // A creation needs a free place, and a disable another profile than the fall-back.
+    let mut kept = Kept::of(Card { fall_back: 1, ..card_of(&[5; 31]) });
+    for bytes in [create(32, 1), change(4, 1)] {
+        assert_eq!(part(&mut kept, FIRST, ALL_TAGS).2, Some(15));
+        assert_eq!(status(&mut kept, &bytes), 0x9000);
+        assert_eq!(part(&mut kept, NEXT, ALL_TAGS), (0x6A88, vec![], None));
+    }
 }
 
 /// A change is open, and a listing too; none of these closes the other.
