@@ -478,7 +478,8 @@ reported("a-listing-in-parts", of(seventeen + begun + changed), {1: 1, 2: 5}, 40
 named = command(next_rows(four_f(aid(3).hex())))
 reported("a-listing-with-an-aid-named", of(seventeen + named + lists() + named + lists_on() + named + ticks()), {1: 1}, 25, no=3)
 reported("a-listing-with-other-tags", of(seventeen + lists() + lists_on("5C00") + lists("5C00") + lists_on() + ticks()), {1: 1}, 24, no=1)
-reported("32-profiles-the-33rd-refused", of(places + makes(33, 20) + lists() + lists_on() * 3 + deletes(32) + makes(33, 20) + ticks(2)), {1: 2}, 40, no=2)
+# The AID taken after the delete is another one than that refused before it: were the first one taken, the second would be too.
+reported("32-profiles-the-33rd-refused", of(places + makes(33, 20) + lists() + lists_on() * 3 + deletes(32) + makes(34, 20) + ticks(2)), {1: 2}, 40, no=2)
 sized_ones = [one for who in range(2, 33) for one in sized(who, 20)]
 in_turn = [one for who in range(2, 33) for one in enables(who) + ticks() + confirms(who - 1) + lists()]
 reported("32-profiles-enabled-in-turn", of(sized_ones + in_turn + lists_on() * 3), {1: 0, **dict.fromkeys(range(2, 33), 1)}, 251, no=1)
