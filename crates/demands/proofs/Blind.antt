@@ -28,10 +28,10 @@ use Rattle.card.specs.declared.Phase.{Phase}
 use Rattle.card.specs.declared.Phase.the-variants.{Quiet, Trial, Back, Fallen}
 use Rattle.steps.specs.Asked.{Act, Act.enable, Act.disable, Act.delete, Act.masterDelete, Act.setFallBack, Act.status, Act.keyed, Act.stored, Act.finished, Asked, Asked.unread, Asked.create, Asked.on, Asked.confirm, Asked.statusOfAll, Asked.getData, Asked.tick, Asked.lost}
 use Rattle.steps.specs.Conditions.{cardRows}
-use Rattle.steps.specs.Steps.{stepOf, actStep, responseOf, actResponse}
+use Rattle.steps.specs.Steps.{beginsAt, partWord, successOf, stepOf, actStep, responseOf, actResponse}
 use Rattle.steps.proofs.Laws.Places.{held-within}
 use Rattle.demands.proofs.Others.{free-other, tick-lives, lost-lives}
-use Rattle.demands.proofs.Uses.{useAt, reuseAt, use-at, use-other, set-other, set-used, set-over, reuse-moved, enabled-reuse, place-reuse, free-reuse, drops-reuse, tick-reuse, lost-reuse, ticks-reuse, status-reuse, one-reuse, data-reuse, notice-reuse}
+use Rattle.demands.proofs.Uses.{useAt, reuseAt, use-at, use-other, set-other, set-used, set-over, reuse-moved, enabled-reuse, place-reuse, free-reuse, drops-reuse, tick-reuse, lost-reuse, ticks-reuse, part-reuse, left-reuse, one-reuse, data-reuse, notice-reuse}
 
 -- the cards are equal, or place i still bears the AID and they differ in its used bytes
 pub data Near (a : List ℕ) (i : ℕ) (c d : Card) : Type 0 where
@@ -55,7 +55,7 @@ spares a unread = true
 spares a (create aid quota) = true
 spares a (on aid act) = sparesAct a aid act
 spares a (confirm number) = true
-spares a (statusOfAll life fallback) = true
+spares a (statusOfAll next life fallback) = true
 spares a getData = true
 spares a tick = true
 spares a lost = true
@@ -108,7 +108,7 @@ module _ (a : List ℕ) (i u : ℕ) (c : Card) (b : isFor a (at (c .places) i) �
   rows-near (create aid quota) n = rw (profile aid, free-reuse i u c)
   rows-near (on aid x) n = act-rows aid x n
   rows-near (confirm number) n = refl
-  rows-near (statusOfAll life fallback) n = refl
+  rows-near (statusOfAll next life fallback) n = refl
   rows-near getData n = refl
   rows-near tick n = refl
   rows-near lost n = refl
@@ -174,7 +174,7 @@ module _ (a : List ℕ) (i u : ℕ) (c : Card) (b : isFor a (at (c .places) i) �
   card-near (create aid quota) n = rw (free-reuse i u c) (other-near (freePlace c) _ (c .free - quota) (c .phase) (free-other (c .places) i held-there))
   card-near (on aid x) n = act-near aid x n
   card-near (confirm number) n = confirm-near (c .phase)
-  card-near (statusOfAll life fallback) n = apart u refl b
+  card-near (statusOfAll next life fallback) n = rw (left-reuse i u c (beginsAt c next) life fallback) (apart u refl b)
   card-near getData n = apart u refl b
   card-near tick n = apart u (tick-reuse i u c) (lives-for a i (tick-lives c) b)
   card-near lost n = apart u (lost-reuse i u c) (lives-for a i (lost-lives c) b)
@@ -203,10 +203,20 @@ module _ (a : List ℕ) (i u : ℕ) (c : Card) (b : isFor a (at (c .places) i) �
   response-near (create aid quota) = refl
   response-near (on aid x) = act-response aid x
   response-near (confirm number) = rw (gone-near (c .phase))
-  response-near (statusOfAll life fallback) = status-reuse i u c life fallback
+  response-near (statusOfAll next life fallback) = part-reuse i u c (beginsAt c next) life fallback
   response-near getData = data-reuse i u c
   response-near tick = refl
   response-near lost = refl
+
+  pub success-near : (x : Asked) → successOf (reuseAt i u c) x ≡ successOf c x
+  success-near unread = refl
+  success-near (create aid quota) = refl
+  success-near (on aid x) = refl
+  success-near (confirm number) = refl
+  success-near (statusOfAll next life fallback) = ap partWord (left-reuse i u c (beginsAt c next) life fallback)
+  success-near getData = refl
+  success-near tick = refl
+  success-near lost = refl
 
 -- every step notes its notification by the two cards
 act-notice : (c : Card) (aid : List ℕ) (x : Act) → actStep c aid x .notification ≡ noticeSince (c .last) (actStep c aid x .card)
@@ -226,7 +236,7 @@ step-notice c unread = refl
 step-notice c (create aid quota) = refl
 step-notice c (on aid x) = act-notice c aid x
 step-notice c (confirm number) = refl
-step-notice c (statusOfAll life fallback) = refl
+step-notice c (statusOfAll next life fallback) = refl
 step-notice c getData = refl
 step-notice c tick = refl
 step-notice c lost = refl

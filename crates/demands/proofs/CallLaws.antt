@@ -20,7 +20,7 @@ use Rattle.steps.specs.Laws.Deletion.{DeleteAnswers, MasterDeleteAnswers}
 use Rattle.steps.specs.Laws.FallBack.{SetFallBackAnswers}
 use Rattle.steps.specs.Laws.Confirmation.{ConfirmationAnswers}
 use Rattle.steps.specs.Laws.Clock.{TickAnswers, LostAnswers}
-use Rattle.steps.specs.Laws.Reports.{StatusOfAllAnswers, StatusOfOneAnswers, GetDataAnswers}
+use Rattle.steps.specs.Laws.Reports.{StatusOfAllAnswers, StatusOfNextAnswers, StatusOfOneAnswers, GetDataAnswers}
 use Rattle.steps.proofs.Laws.{call-laws}
 use Rattle.manager.specs.Calls.{Call.Keyed, Call.Stored, Call.Finished, Call.Tick, Call.Lost}
 use Rattle.manager.specs.Manager.{step}
@@ -66,8 +66,9 @@ every-call =
       master-delete = λ aid. lifted (field.deletion (field.masterDelete aid)) (λ c verdict. MasterDeleteAnswers c aid verdict) (λ c verdict. call-laws .master-delete c aid verdict);
       set-fall-back = λ aid. lifted (field.storeData (field.setFallBack aid)) (λ c verdict. SetFallBackAnswers c aid) (λ c verdict. call-laws .set-fall-back c aid);
       confirmation = λ number. lifted (field.storeData (field.confirmation number)) (λ c verdict. ConfirmationAnswers c number) (λ c verdict. call-laws .confirmation c number);
-      status-of-all = λ life attribute. lifted (field.getStatus (field.asked [] life attribute)) (λ c verdict. StatusOfAllAnswers c life attribute) (λ c verdict. call-laws .status-of-all c life attribute);
-      status-of-one = λ first rest life attribute. lifted (field.getStatus (field.asked (first ∷ rest) life attribute)) (λ c verdict. StatusOfOneAnswers c (first ∷ rest) life attribute) (λ c verdict. call-laws .status-of-one c (first ∷ rest) life attribute);
+      status-of-all = λ life attribute. lifted (field.getStatus (field.asked false [] life attribute)) (λ c verdict. StatusOfAllAnswers c life attribute) (λ c verdict. call-laws .status-of-all c life attribute);
+      status-of-next = λ life attribute. lifted (field.getStatus (field.asked true [] life attribute)) (λ c verdict. StatusOfNextAnswers c life attribute) (λ c verdict. call-laws .status-of-next c life attribute);
+      status-of-one = λ first rest life attribute. lifted (field.getStatus (field.asked false (first ∷ rest) life attribute)) (λ c verdict. StatusOfOneAnswers c (first ∷ rest) life attribute) (λ c verdict. call-laws .status-of-one c (first ∷ rest) life attribute);
       get-data = lifted field.getData (λ c verdict. GetDataAnswers c) (λ c verdict. call-laws .get-data c);
       keyed = λ aid c e. subst (KeyedAnswers c aid) (keyed-works c aid) (call-laws .keyed c aid e);
       stored = λ aid n c e. subst (StoredAnswers c aid n) (stored-works c aid n) (call-laws .stored c aid n e);

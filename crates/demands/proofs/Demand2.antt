@@ -2,9 +2,10 @@
 -- step; soundness is kept by every call, so by every run, and a sound card has one enabled profile and one fall-back.
 use mathlib.Core.Path.{_≡_, refl, sym, ap, _∙_}
 use mathlib.Core.List.{List, [], _∷_}
-use mathlib.Core.Bool.{Bool, true, false, cond, false≢true}
+use mathlib.Core.Bool.{Bool, true, false, cond, _||_, false≢true}
+use lib.Dec.{eqb}
 use borrow.Author.Tests.{ne-eqb}
-use Rattle.status.specs.declared.Status.the-variants.{Done}
+use Rattle.status.specs.declared.Status.{Status}
 use Rattle.status.specs.StatusWords.{isDone}
 use Rattle.status.specs.Rows.{Row, wordOf}
 use Rattle.status.proofs.Tables as tables
@@ -13,6 +14,7 @@ use Rattle.isdp.proofs.Placed.{placed}
 use Rattle.places.specs.Places.{at}
 use Rattle.places.proofs.Lives.{within}
 use Rattle.places.proofs.Sets.{all-at}
+use Rattle.card.specs.Cards.{noPlace}
 use Rattle.card.specs.Sound.{sound}
 use Rattle.card.specs.Ticks.{stepsIn, ticksToCome}
 use Rattle.card.specs.Notifications.{noticeSince}
@@ -21,8 +23,11 @@ use Rattle.card.specs.Fresh.{freshOutcome}
 use Rattle.card.specs.declared.Card.{Card}
 use Rattle.card.proofs.Sounds.{parts, resort-done, fall-back-marked, resort-nonzero}
 use Rattle.card.proofs.Freshness.{fresh-sound}
+use Rattle.steps.specs.Steps.{successOf}
+use Rattle.steps.proofs.Successes.{success-done}
+use Rattle.manager.specs.Calls.{asked}
 use Rattle.manager.specs.Table.{table}
-use Rattle.manager.specs.Manager.{step, run, answers, work}
+use Rattle.manager.specs.Manager.{run, answers}
 use Rattle.manager.proofs.Runs.{run-parts, answers-parts}
 use Rattle.manager.proofs.Kept.{step-sound, run-sound}
 use Rattle.demands.specs.Demand2.{NoneHolds, First, FirstRow, OnlyFirstRow, Otherwise, OnlyOtherwise, Takes, FreshTaken, FreshRefused, RunAnswered, Makes, Standing, FromFresh, Demand2}
@@ -40,32 +45,33 @@ from-passed (r ∷ rs) h = (h .0, from-passed rs (h .1))
 
 pub first-row : FirstRow
 first-row c call w f =
-    word-is c call ∙ ap (wordOf Done) (f .split) ∙ tables.first-row Done (f .before) (f .this) (f .after) (to-passed (f .before) (f .none-before)) (f .holds) ∙ f .word
+    let w = successOf c (asked c call) in
+    word-is c call ∙ ap (wordOf w) (f .split) ∙ tables.first-row w (f .before) (f .this) (f .after) (to-passed (f .before) (f .none-before)) (f .holds) ∙ f .word
 
 -- the first row that holds is found by going down the rows
-found-case : (r : Row) (rs : List Row) (b : Bool) → r .when ≡ b → isDone (cond b (r .word) (wordOf Done rs)) ≡ false → (isDone (wordOf Done rs) ≡ false → First rs (wordOf Done rs)) → First (r ∷ rs) (cond b (r .word) (wordOf Done rs))
-found-case r rs true q e f =
+found-case : (w : Status) (r : Row) (rs : List Row) (b : Bool) → r .when ≡ b → isDone (cond b (r .word) (wordOf w rs)) ≡ false → (isDone (wordOf w rs) ≡ false → First rs (wordOf w rs)) → First (r ∷ rs) (cond b (r .word) (wordOf w rs))
+found-case w r rs true q e f =
     record { before = []; this = r; after = rs; split = refl; none-before = tt; holds = q; word = refl }
-found-case r rs false q e f =
+found-case w r rs false q e f =
     let g = f e in
     record { before = r ∷ g .before; this = g .this; after = g .after; split = ap (λ (l : List Row). r ∷ l) (g .split); none-before = (q, g .none-before); holds = g .holds; word = g .word }
 
-found : (rows : List Row) → isDone (wordOf Done rows) ≡ false → First rows (wordOf Done rows)
+found : (w : Status) → isDone w ≡ true → (rows : List Row) → isDone (wordOf w rows) ≡ false → First rows (wordOf w rows)
 unfolding wordOf
-found [] e = absurd (false≢true (sym e))
-found (r ∷ rs) e = found-case r rs (r .when) refl e (found rs)
+found w d [] e = absurd (false≢true (sym e ∙ d))
+found w d (r ∷ rs) e = found-case w r rs (r .when) refl e (found w d rs)
 
 pub only-first-row : OnlyFirstRow
-only-first-row c call e = rw (word-is c call) (found (table c call) (done-as c call false e))
+only-first-row c call e = rw (word-is c call) (found (successOf c (asked c call)) (success-done c (asked c call)) (table c call) (done-as c call false e))
 
 pub otherwise : Otherwise
-otherwise c call h = word-is c call ∙ tables.no-row (work c call .success) (table c call) (to-passed (table c call) h)
+otherwise c call h = word-is c call ∙ tables.no-row (successOf c (asked c call)) (table c call) (to-passed (table c call) h)
 
 pub only-otherwise : OnlyOtherwise
-only-otherwise c call e = from-passed (table c call) (tables.passed (work c call .success) (table c call) refl (done-as c call true (ap isDone e)))
+only-otherwise c call e = from-passed (table c call) (tables.passed (successOf c (asked c call)) (table c call) refl (done-as c call true e))
 
 pub takes : Takes
-takes c call e = takes-step c call (ap isDone e)
+takes c call e = takes-step c call e
 
 pub fresh-taken : FreshTaken
 unfolding freshOutcome wordOf accepted ticksToCome stepsIn noticeSince
@@ -82,6 +88,10 @@ answered c before call after = rw (run-parts c before (call ∷ [])) (answers-pa
 pub makes : Makes
 makes eid aid capacity quota used volatile e = fresh-sound eid aid capacity quota used volatile (ap isDone e)
 
+or-other : (a b : Bool) → (a || b) ≡ true → a ≡ false → b ≡ true
+or-other true b e n = absurd (false≢true (sym n))
+or-other false b e n = e
+
 -- what a sound card has
 pub standing : (c : Card) → sound c ≡ true → Standing c
 standing c s =
@@ -95,6 +105,7 @@ standing c s =
       fallback-held = placed (c .capacity) (at (c .places) (c .fallback)) (ne-eqb _ _ n) (all-at (placeOk (c .capacity)) (c .places) (c .fallback) k (w .placed .each)) .there;
       fallback-finished = resort-done c w;
       fallback-marked = fall-back-marked c s;
+      kept-held = λ n. or-other (eqb (c .kept) noPlace) _ (w .roles .listing) (ne-eqb (c .kept) noPlace n);
     }
 
 pub from-fresh : FromFresh

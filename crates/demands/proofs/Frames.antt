@@ -14,7 +14,7 @@ use Rattle.isdp.specs.declared.Isdp.{Isdp}
 use Rattle.isdp.proofs.Bools.{and-l, or-l, or-r}
 use Rattle.places.specs.Places.{at}
 use Rattle.places.proofs.Sets.{set-enabled}
-use Rattle.card.specs.Cards.{isQuiet, placeOf, profileOf, withPlaces, withPhase}
+use Rattle.card.specs.Cards.{noPlace, keeping, forgotten, isQuiet, placeOf, profileOf, withPlaces, withPhase}
 use Rattle.card.specs.Sound.{sound}
 use Rattle.card.specs.Clock.{outstanding, dropped, tickOf, lostOf, confirmIn, confirmOf}
 use Rattle.card.specs.Steps.{tickStep, lostStep, confirmStep}
@@ -31,7 +31,7 @@ use Rattle.fields.specs.declared.request.Field.the-variants as field
 use Rattle.command.specs.Requests.{fieldOf}
 use Rattle.steps.proofs.Rows.{Passed}
 use Rattle.steps.specs.Asked.{Act, Act.enable, Act.disable, Act.delete, Act.masterDelete, Act.setFallBack, Act.status, Act.keyed, Act.stored, Act.finished, Asked, Asked.unread, Asked.create, Asked.on, Asked.confirm, Asked.statusOfAll, Asked.getData, Asked.tick, Asked.lost}
-use Rattle.steps.specs.Steps.{stepOf, responseOf}
+use Rattle.steps.specs.Steps.{goesOnAt, stepOf, responseOf}
 use Rattle.manager.proofs.Kept.{rows-accepted}
 use Rattle.manager.specs.Calls.{Call, Call.Command, Call.Keyed, Call.Stored, Call.Finished, Call.Tick, Call.Lost, asked, requestAsks, fieldAsks}
 use Rattle.manager.specs.Table.{table}
@@ -49,6 +49,10 @@ taken-sound c call e = rows-accepted c call (work c call .success) e .whole
 pub same : (c : Card) → Unmoved c c
 same c = record { phase = refl; enabled = λ i. refl; named = λ i. refl; fallback = refl; last = refl }
 
+-- only the kept place is new
+pub same-kept : (c : Card) (i : ℕ) → Unmoved c (keeping c i)
+same-kept c i = record { phase = refl; enabled = λ i. refl; named = λ i. refl; fallback = refl; last = refl }
+
 -- a place rewritten that was not enabled and is not, with the AID that it had
 set-named : (x : Isdp) (l : List Isdp) (i : ℕ) → x .aid ≡ at l i .aid → (j : ℕ) → at (set l i x) j .aid ≡ at l j .aid
 set-named x [] i e j = refl
@@ -64,7 +68,7 @@ rewritten-same c i x e n =
 open-row : (c : Card) → isQuiet (c .phase) ≡ false → not (isQuiet (c .phase)) ≡ false → ⊥
 open-row c o h = false≢true (sym o ∙ not-false _ h)
 
-lost-open : (c : Card) → isQuiet (c .phase) ≡ false → lostOf c ≡ c
+lost-open : (c : Card) → isQuiet (c .phase) ≡ false → lostOf c ≡ forgotten c
 unfolding lostOf
 lost-open c o = rw o
 
@@ -73,7 +77,7 @@ isTicking unread = false
 isTicking (create aid quota) = false
 isTicking (on aid act) = false
 isTicking (confirm number) = false
-isTicking (statusOfAll life fallback) = false
+isTicking (statusOfAll next life fallback) = false
 isTicking getData = false
 isTicking tick = true
 isTicking lost = false
@@ -84,7 +88,7 @@ act-same c aid disable o p = absurd (open-row c o (p .change))
 act-same c aid delete o p = absurd (open-row c o (p .change))
 act-same c aid (masterDelete verdict) o p = absurd (open-row c o (p .change))
 act-same c aid setFallBack o p = absurd (open-row c o (p .change))
-act-same c aid (status life fallback) o p = same c
+act-same c aid (status life fallback) o p = same-kept c noPlace
 act-same c aid keyed o p =
     rewritten-same c (placeOf c aid) _ (rw (eqb-true (profileOf c aid .life) selectable (not-false _ (p .state)))) refl
 act-same c aid (stored n) o p =
@@ -94,14 +98,14 @@ act-same c aid (finished policy mark) o p =
 
 asked-same : (c : Card) (a : Asked) → isQuiet (c .phase) ≡ false → isTicking a ≡ false → isConfirmation a ≡ false → Passed c a → Unmoved c (stepOf c a .card)
 unfolding lostStep
-asked-same c unread o t k p = same c
+asked-same c unread o t k p = same-kept c noPlace
 asked-same c (create aid quota) o t k p = absurd (open-row c o (p .change))
 asked-same c (on aid act) o t k p = act-same c aid act o p
 asked-same c (confirm number) o t k p = absurd (false≢true (sym k))
-asked-same c (statusOfAll life fallback) o t k p = same c
-asked-same c getData o t k p = same c
+asked-same c (statusOfAll next life fallback) o t k p = same-kept c (goesOnAt c next life fallback)
+asked-same c getData o t k p = same-kept c noPlace
 asked-same c tick o t k p = absurd (false≢true (sym t))
-asked-same c lost o t k p = rw (lost-open c o) (same c)
+asked-same c lost o t k p = rw (lost-open c o) (same-kept c noPlace)
 
 -- no command asks for a tick
 request-ticks : (verdict : ℕ) (s : List ℕ) (r : Request) → isTicking (requestAsks verdict s r) ≡ false
@@ -112,7 +116,7 @@ request-ticks verdict s (request.SetFallBack aid) = refl
 request-ticks verdict s (request.Delete aid) = refl
 request-ticks verdict s (request.MasterDelete aid) = refl
 request-ticks verdict s (request.Confirm number) = refl
-request-ticks verdict s (request.GetStatusOfAll life fallback) = refl
+request-ticks verdict s (request.GetStatusOfAll next life fallback) = refl
 request-ticks verdict s (request.GetStatusOfOne aid life fallback) = refl
 request-ticks verdict s request.GetData = refl
 
@@ -179,7 +183,7 @@ confirm-card c unread e = absurd (false≢true e)
 confirm-card c (create aid quota) e = absurd (false≢true e)
 confirm-card c (on aid act) e = absurd (false≢true e)
 confirm-card c (confirm number) e = refl
-confirm-card c (statusOfAll life fallback) e = absurd (false≢true e)
+confirm-card c (statusOfAll next life fallback) e = absurd (false≢true e)
 confirm-card c getData e = absurd (false≢true e)
 confirm-card c tick e = absurd (false≢true e)
 confirm-card c lost e = absurd (false≢true e)

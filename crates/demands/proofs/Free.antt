@@ -86,7 +86,7 @@ module _ (c : Card) where
   asks-capacity (create aid quota) = refl
   asks-capacity (on aid a) = act-capacity aid a
   asks-capacity (confirm number) = confirm-capacity (c .phase)
-  asks-capacity (statusOfAll life fallback) = refl
+  asks-capacity (statusOfAll next life fallback) = refl
   asks-capacity getData = refl
   asks-capacity tick = tick-capacity (c .phase)
   asks-capacity lost = choose As (isQuiet (c .phase)) _ _ (λ q. choose As (onFallback c) _ _ (λ e. refl) (λ e. refl)) (λ q. refl)
@@ -143,7 +143,7 @@ module _ (c : Card) (s : Sound c) (ms : List Made) (t : Tally ms (c .places)) wh
       create-tally ms (c .places) (freePlace c) aid selectable quota 0 (g .named) k (not-true _ (seek-below isFree (c .places) k)) t
   asks-tally (on aid a) g p = act-tally aid a (p .target)
   asks-tally (confirm number) g p = confirm-tally (c .phase) (s .phased)
-  asks-tally (statusOfAll life fallback) g p = t
+  asks-tally (statusOfAll next life fallback) g p = t
   asks-tally getData g p = t
   asks-tally tick g p = lives-tally ms (tick-lives c) t
   asks-tally lost g p = lives-tally ms (lost-lives c) t

@@ -18,7 +18,7 @@ use Rattle.isdp.specs.LifeCycle.{disabled, enabled, withMark}
 use Rattle.isdp.specs.Place.{vacant, made, isFor, clash, zeros, placeOk}
 use Rattle.isdp.proofs.Bools.{and-l, and-r}
 use Rattle.places.specs.Places.{quotas, allOf, anyOf, countOf, distinct, allOff, enableAt}
-use Rattle.card.specs.Cards.{cardWith}
+use Rattle.card.specs.Cards.{noPlace, cardWith}
 use Rattle.card.specs.Sound.{phaseOk, sound}
 use Rattle.card.specs.Clock.{tickOf}
 use Rattle.card.specs.Ticks.{stepsIn, ticksToCome}
@@ -90,7 +90,7 @@ demand-2-met =
 -- F enabled and on trial, the profile before it not the fall-back
 abbrev trial : Card
 trial =
-    cardWith eid 1000 0 800 1 0 (Trial 1 10 1)
+    cardWith eid 1000 0 800 1 0 (Trial 1 10 1) noPlace
     (withMark (made (aidEnding 1) enabled 100 0) 1 ∷ made (aidEnding 2) disabled 100 1 ∷ replicate (mostPlaces - 2) vacant)
 
 pub ticks-met : TicksMet

@@ -15,7 +15,7 @@ use Rattle.isdp.specs.Place.{isFor, clash}
 use Rattle.isdp.specs.declared.Isdp.{Isdp}
 use Rattle.isdp.proofs.Bools.{and-l, and-r}
 use Rattle.places.specs.Places.{at, seek, anyOf, distinct}
-use Rattle.card.specs.Cards.{placeOf, profileOf, withPlaces}
+use Rattle.card.specs.Cards.{placeOf, profileOf, over}
 use Rattle.card.specs.Sound.{sound}
 use Rattle.card.proofs.Sounds.{parts}
 use Rattle.card.specs.Answers.{Outcome, accepted, refused, settle}
@@ -29,7 +29,7 @@ use Rattle.command.specs.Framing.{lengthWrong, classWrong, instructionWrong, pa
 use Rattle.command.specs.Requests.{fieldOf}
 use Rattle.steps.specs.Asked.{Asked}
 use Rattle.steps.specs.Conditions.{cardRows}
-use Rattle.steps.specs.Steps.{stepOf, responseOf}
+use Rattle.steps.specs.Steps.{successOf, stepOf, responseOf}
 use Rattle.manager.specs.Calls.{Call, Call.Command, Call.Keyed, Call.Stored, Call.Finished, Call.Tick, Call.Lost, requestAsks, fieldAsks, asked}
 use Rattle.manager.specs.Table.{bufferShort, inCommand, valuesWrong, table}
 use Rattle.manager.specs.Manager.{step, run}
@@ -39,7 +39,7 @@ use Rattle.demands.specs.Said.{Said, said, Exchange, exchanges}
 use Rattle.demands.specs.Influence.{reuse, Differ, fills, noneFills, UsedBytesStayPrivate}
 use Rattle.demands.proofs.Uses.{useAt, reuseAt, use-same}
 use Rattle.demands.proofs.Tallies.{not-before}
-use Rattle.demands.proofs.Blind.{Near, Near.same, Near.apart, near-notice, near-ticks, spares, rows-near, card-near, response-near, step-notice}
+use Rattle.demands.proofs.Blind.{Near, Near.same, Near.apart, near-notice, near-ticks, spares, rows-near, card-near, response-near, success-near, step-notice}
 
 -- no command stores or finishes a profile
 request-spares : (a : List ℕ) (verdict : ℕ) (s : List ℕ) (r : Request) → spares a (requestAsks verdict s r) ≡ true
@@ -50,7 +50,7 @@ request-spares a verdict s (request.SetFallBack aid) = refl
 request-spares a verdict s (request.Delete aid) = refl
 request-spares a verdict s (request.MasterDelete aid) = refl
 request-spares a verdict s (request.Confirm number) = refl
-request-spares a verdict s (request.GetStatusOfAll life fallback) = refl
+request-spares a verdict s (request.GetStatusOfAll next life fallback) = refl
 request-spares a verdict s (request.GetStatusOfOne aid life fallback) = refl
 request-spares a verdict s request.GetData = refl
 
@@ -119,8 +119,10 @@ step-alike a i u c call e f b n =
     let near = card-near a i u c b x k in
     let notice : stepOf (reuseAt i u c) x .notification ≡ stepOf c x .notification = step-notice (reuseAt i u c) x ∙ near-notice a i u c (stepOf c x .card) (stepOf (reuseAt i u c) x .card) near ∙ sym (step-notice c x) in
     let rows : table (reuseAt i u c) call ≡ table c call = rows-alike call (not (sound (reuseAt i u c))) (not (sound c)) (valuesWrong (reuseAt i u c) call) (valuesWrong c call) (cardRows (reuseAt i u c) (asked (reuseAt i u c) call)) (cardRows c x) (rw (e, f)) (values-same i u c call) (ap (cardRows (reuseAt i u c)) (asked-same i u c call) ∙ rows-near a i u c b x k) in
+    let won : successOf (reuseAt i u c) (asked (reuseAt i u c) call) ≡ successOf c x = ap (successOf (reuseAt i u c)) (asked-same i u c call) ∙ success-near a i u c b x in
+    let word : tableWord (reuseAt i u c) call ≡ tableWord c call = rw (won, rows) in
     subst (Alike a i (step c call))
-    (sym (outcome-alike (reuseAt i u c) (tableWord (reuseAt i u c) call) (tableWord c call) (asked (reuseAt i u c) call) x (responseOf c x) (ap (wordOf Done) rows) (asked-same i u c call) (response-near a i u c b x)))
+    (sym (outcome-alike (reuseAt i u c) (tableWord (reuseAt i u c) call) (tableWord c call) (asked (reuseAt i u c) call) x (responseOf c x) word (asked-same i u c call) (response-near a i u c b x)))
     (alike-case a i u c (tableWord c call) (stepOf c x) (stepOf (reuseAt i u c) x) (responseOf c x) (isDone (tableWord c call)) e f b notice near)
 
 -- a run
@@ -156,8 +158,8 @@ found a (p ∷ ps) (suc i) d b =
 -- by place and by AID
 near-differ : (a : List ℕ) (i : ℕ) (c d : Card) → sound c ≡ true → Near a i c d → Differ a c d
 unfolding useAt
-near-differ a i c d s (same e) = (profileOf c a .used, e ∙ ap (withPlaces c) (sym (use-same (c .places) (placeOf c a))))
-near-differ a i c d s (apart u e b) = (u, e ∙ ap (λ (j : ℕ). withPlaces c (useAt (c .places) j u)) (sym (found a (c .places) i (parts c s .placed .apart) b)))
+near-differ a i c d s (same e) = (profileOf c a .used, e ∙ ap (over c) (sym (use-same (c .places) (placeOf c a))))
+near-differ a i c d s (apart u e b) = (u, e ∙ ap (λ (j : ℕ). over c (useAt (c .places) j u)) (sym (found a (c .places) i (parts c s .placed .apart) b)))
 
 -- where the search finds none nothing is set
 missed-case : (t : Isdp → Bool) (x p : Isdp) (ps : List Isdp) (b : Bool) → t p ≡ b → t (at (p ∷ ps) (cond b 0 (suc (seek t ps)))) ≡ false → (t (at ps (seek t ps)) ≡ false → set ps (seek t ps) x ≡ ps) → set (p ∷ ps) (cond b 0 (suc (seek t ps))) x ≡ p ∷ ps
@@ -173,7 +175,7 @@ missed t x (p ∷ ps) n = missed-case t x p ps (t p) refl n (missed t x ps)
 start : (a : List ℕ) (u : ℕ) (c : Card) (b : Bool) → isFor a (profileOf c a) ≡ b → Near a (placeOf c a) c (reuse a u c)
 unfolding useAt
 start a u c true e = apart u refl e
-start a u c false e = same (ap (withPlaces c) (missed (isFor a) (withUsed (profileOf c a) u) (c .places) e))
+start a u c false e = same (ap (over c) (missed (isFor a) (withUsed (profileOf c a) u) (c .places) e))
 
 pub used-bytes-stay-private : UsedBytesStayPrivate
 used-bytes-stay-private c a u calls e f n =

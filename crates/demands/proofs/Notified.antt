@@ -20,7 +20,7 @@ use Rattle.isdp.proofs.Placed.{vacant-is}
 use Rattle.places.specs.Places.{at, seek, isFree}
 use Rattle.places.proofs.Seeks.{seek-below}
 use Rattle.places.proofs.Sets.{all-at}
-use Rattle.card.specs.Cards.{placeOf, profileOf, freePlace, enabledAid, mayBeDeleted, withRoom, withFallback}
+use Rattle.card.specs.Cards.{noPlace, keeping, placeOf, profileOf, freePlace, enabledAid, mayBeDeleted, withRoom, withFallback}
 use Rattle.card.specs.Sound.{sound}
 use Rattle.card.specs.Noticed.{JustOpened, Noticed, silently, told}
 use Rattle.card.specs.Steps.{stepTo}
@@ -36,7 +36,7 @@ use Rattle.card.proofs.Noticed.{found-kept, unmoved, steps-noticed}
 use Rattle.card.proofs.Freshness.{fresh-sound}
 use Rattle.steps.proofs.Rows.{Passed}
 use Rattle.steps.specs.Asked.{Act, Act.enable, Act.disable, Act.delete, Act.masterDelete, Act.setFallBack, Act.status, Act.keyed, Act.stored, Act.finished, Asked, Asked.unread, Asked.create, Asked.on, Asked.confirm, Asked.statusOfAll, Asked.getData, Asked.tick, Asked.lost}
-use Rattle.steps.specs.Steps.{stepOf, responseOf}
+use Rattle.steps.specs.Steps.{goesOnAt, stepOf, responseOf}
 use Rattle.manager.specs.Calls.{Call, asked}
 use Rattle.manager.specs.Manager.{step, run}
 use Rattle.manager.proofs.Kept.{step-sound}
@@ -65,6 +65,10 @@ module _ (c : Card) (s : sound c ≡ true) where
   rewrites : (i : ℕ) (x : Isdp) {free : ℕ} → isEnabled x ≡ false → isEnabled (at (c .places) i) ≡ false → Noticed c (stepTo c (withRoom c free (set (c .places) i x)) noAid)
   rewrites i x e f = unmoved c _ noAid refl (ap (λ (p : Isdp). p .aid) (found-kept x e (c .places) i f))
 
+  -- only the kept place is new
+  idle : (i : ℕ) → Noticed c (stepTo c (keeping c i) noAid)
+  idle i = unmoved c (keeping c i) noAid refl refl
+
   -- a free place is not enabled
   free-off : (i : ℕ) → i < length (c .places) → held (at (c .places) i) ≡ false → isEnabled (at (c .places) i) ≡ false
   free-off i k h =
@@ -80,7 +84,7 @@ module _ (c : Card) (s : sound c ≡ true) where
   acts aid delete p = rewrites (placeOf c aid) vacant refl (gone-off aid (not-false _ (p .state)))
   acts aid (masterDelete verdict) p = rewrites (placeOf c aid) vacant refl (gone-off aid (by-delete-too c (placeOf c aid) (not-false _ (p .state))))
   acts aid setFallBack p = unmoved c (withFallback c (placeOf c aid)) noAid refl refl
-  acts aid (status life fallback) p = unmoved c c noAid refl refl
+  acts aid (status life fallback) p = idle noPlace
   acts aid keyed p =
       rewrites (placeOf c aid) _ refl (other-life (placeOf c aid) selectable refl (eqb-true _ _ (not-false _ (p .state))))
   acts aid (stored n) p =
@@ -90,14 +94,14 @@ module _ (c : Card) (s : sound c ≡ true) where
       rewrites (placeOf c aid) _ refl (other-life (placeOf c aid) personalized refl (eqb-true _ _ (and-l (eqb (profileOf c aid .life) personalized) _ (not-false _ (p .state)))))
 
   asks : (a : Asked) → Passed c a → Noticed c (stepOf c a)
-  asks unread p = unmoved c c noAid refl refl
+  asks unread p = idle noPlace
   asks (create aid quota) p =
       let k : freePlace c < length (c .places) = rw (parts c s .sizes .full) (ltb-true _ _ (not-false _ (or-l (not (ltb (freePlace c) mostPlaces)) _ (p .room)))) in
       rewrites (freePlace c) (made aid selectable quota 0) refl (free-off (freePlace c) k (not-true _ (seek-below isFree (c .places) k)))
   asks (on aid act) p = acts aid act p
   asks (confirm number) p = steps-noticed .confirmation c s
-  asks (statusOfAll life fallback) p = unmoved c c noAid refl refl
-  asks getData p = unmoved c c noAid refl refl
+  asks (statusOfAll next life fallback) p = idle (goesOnAt c next life fallback)
+  asks getData p = idle noPlace
   asks tick p = steps-noticed .tick c s
   asks lost p = steps-noticed .lost c s
 

@@ -118,7 +118,7 @@ module _ (c : Card) (j : ℕ) where
   asks (create aid quota) h t n = sets-other (freePlace c) _ (free-other (c .places) j h)
   asks (on aid a) h t n = act aid a t
   asks (confirm number) h t n = confirms (c .phase) n
-  asks (statusOfAll life fallback) h t n = same _
+  asks (statusOfAll next life fallback) h t n = same _
   asks getData h t n = same _
   asks tick h t n = lively j (tick-lives c)
   asks lost h t n = lively j (lost-lives c)
@@ -136,7 +136,7 @@ module _ (c : Card) (j : ℕ) where
   asks-gone (create aid quota) e = absurd (false≢true e)
   asks-gone (on aid a) e = absurd (false≢true e)
   asks-gone (confirm number) e = gone (c .phase) e
-  asks-gone (statusOfAll life fallback) e = absurd (false≢true e)
+  asks-gone (statusOfAll next life fallback) e = absurd (false≢true e)
   asks-gone getData e = absurd (false≢true e)
   asks-gone tick e = absurd (false≢true e)
   asks-gone lost e = absurd (false≢true e)

@@ -17,6 +17,7 @@ use Rattle.isdp.specs.declared.Isdp.{Isdp}
 use Rattle.isdp.proofs.Bools.{both}
 use Rattle.isdp.proofs.Placed.{vacant-is, made-held, made-aid}
 use Rattle.places.proofs.Sets.{all-at, same-places}
+use Rattle.card.specs.Cards.{noPlace, keeping}
 use Rattle.card.specs.Sound.{sound}
 use Rattle.card.specs.Ticks.{ticksByPhase}
 use Rattle.card.specs.Answers.{Outcome, accepted}
@@ -42,10 +43,9 @@ use Rattle.demands.proofs.Demand1.{refusals}
 use Rattle.demands.proofs.CallLaws.{every-call}
 
 -- a call is accepted, or the card is the one handed in
-module _ (P : Card → Type 0) (d : Card) (call : Call) (f : step d call .status ≡ Done → P (step d call .card)) (g : P d) where
+module _ (P : Card → Type 0) (d : Card) (call : Call) (f : isDone (step d call .status) ≡ true → P (step d call .card)) (g : P d) where
   settled-case : (b : Bool) → isDone (step d call .status) ≡ b → P (step d call .card)
-  unfolding accepted
-  settled-case true e = f (ap (λ (o : Outcome). o .status) (takes-step d call e))
+  settled-case true e = f e
   settled-case false e = subst P (sym (refusals d call e .same-card)) g
 
   settled : P (step d call .card)
@@ -89,11 +89,11 @@ module _ (c : Card) (t : ℕ) (d : Card) (x : Isdp) (free : ℕ) (bytes : List �
   same-case e i true q = e ∙ ap (profileAt c) (sym (eqb-true i t q))
   same-case e i false q = b .others i q
 
-  undone : sound c ≡ true → sound (o .card) ≡ true → x ≡ profileAt c t → o .card ≡ c
+  undone : sound c ≡ true → sound (o .card) ≡ true → x ≡ profileAt c t → o .card ≡ keeping c noPlace
   undone s s' e =
       let k = still-beside in
       let l = same-places (o .card .places) (c .places) (k .as-many) (λ i. a .places i ∙ same-case e i (eqb i t) refl) in
-      same-card c (o .card) (k .eid) (k .capacity) (k .volatile) (same-free c (o .card) (parts c s .placed .room) (parts (o .card) s' .placed .room) (k .capacity) l) (k .last) (k .fallback) (k .phase) l
+      same-card (keeping c noPlace) (o .card) (k .eid) (k .capacity) (k .volatile) (same-free c (o .card) (parts c s .placed .room) (parts (o .card) s' .placed .room) (k .capacity) l) (k .last) (k .fallback) (k .phase) (a .forgets) l
 
 -- a download on the way: place t bears the AID, and while it is loaded its policy is empty
 record Half (c : Card) (aid : List ℕ) (t : ℕ) (d : Card) : Type 0 where
@@ -161,11 +161,11 @@ no-room-lost c v _ _ inner (commands verdict s room long encoded) (commands verd
     let creation = Command verdict s room in
     let sounds = taken-sound c creation (done-as c creation true (ap isDone done)) in
     let law = every-call .create v c verdict s room sounds long encoded in
-    let place = law .some-place done in
+    let place = law .some-place (ap isDone done) in
     let t = place .0 in
     let low = place .1 in
     let exact = law .exactly t low in
-    let may = exact .only-where done in
+    let may = exact .only-where (ap isDone done) in
     let a = exact .where-may may in
     let n = encoded .encoded .named in
     let ok : aidOk aid ≡ true = both _ _ (le-leb 5 (length aid) (n .least)) (le-leb (length aid) 16 (n .most)) in

@@ -34,7 +34,7 @@ use Rattle.command.specs.Framing.{lengthWrong, classRight, classWrong, instruct
 use Rattle.command.specs.Requests.{fieldOf, dataWrong}
 use Rattle.command.specs.Grammar.{readAs}
 use Rattle.command.specs.Reading.{readOf}
-use Rattle.responses.specs.Responses.{statusBody, statusRow, rowOf, rowsFrom, statusResponse, oneStatus, dataResponse, deletedResponse}
+use Rattle.responses.specs.Responses.{statusBody, statusRow, rowOf, partFrom, leftFrom, partGiven, leftAfter, oneStatus, dataResponse, deletedResponse}
 use Rattle.manager.specs.Manager.{step}
 use Rattle.demands.specs.Examples.{command, fresh}
 use Rattle.demands.specs.Engines.{reached}
@@ -45,7 +45,7 @@ writes : (s : List ℕ) (w : Wanted) → smallBytes s ≡ true → readAs s (rea
 writes s w b e = commands 0 s 256 (omega arith) (encodes s 1000 w b e)
 
 pub room-met : RoomMet
-unfolding fresh step wordOf sameBytes padded isFor clash zeros placeOk seek quotas allOf anyOf countOf distinct allOff enableAt phaseOk sound tickOf lostOf confirmOf tickStep lostStep confirmStep noticeSince stepsIn ticksToCome refused accepted freshOutcome pick atMost isBelow isSame tagAt lengthAt afterLength afterTag headAt expectOf expectAt aloneAt dgiAt confirmationAt namedBy storeDataAt verificationAt deletionAt noted listedWithin listedAt tagsAt listingAt protocolsWithin protocolsAt numberAt grantOf memoryAt parametersAt prefixedOf prefixedAt namesAt rightsAt installOf lengthWrong classRight classWrong instructionWrong parametersRight parametersWrong shapeRight shapeWrong fieldOf dataWrong statusBody statusRow rowOf rowsFrom statusResponse oneStatus dataResponse deletedResponse listWrong listAt listWithin listOf elementOf restOf closed reached innerCalls readOf window
+unfolding fresh step wordOf sameBytes padded isFor clash zeros placeOk seek quotas allOf anyOf countOf distinct allOff enableAt phaseOk sound tickOf lostOf confirmOf tickStep lostStep confirmStep noticeSince stepsIn ticksToCome refused accepted freshOutcome pick atMost isBelow isSame tagAt lengthAt afterLength afterTag headAt expectOf expectAt aloneAt dgiAt confirmationAt namedBy storeDataAt verificationAt deletionAt noted listedWithin listedAt tagsAt listingAt protocolsWithin protocolsAt numberAt grantOf memoryAt parametersAt prefixedOf prefixedAt namesAt rightsAt installOf lengthWrong classRight classWrong instructionWrong parametersRight parametersWrong shapeRight shapeWrong fieldOf dataWrong statusBody statusRow rowOf partFrom leftFrom partGiven leftAfter oneStatus dataResponse deletedResponse listWrong listAt listWithin listOf elementOf restOf closed reached innerCalls readOf window
 room-met =
     record {
       creates = writes _ _ refl refl;
@@ -58,7 +58,7 @@ room-met =
 
 -- the fresh card's 100 bytes and the 50 that stay
 pub room-lost : RoomLost
-unfolding fresh step wordOf sameBytes padded isFor clash zeros placeOk seek quotas allOf anyOf countOf distinct allOff enableAt phaseOk sound tickOf lostOf confirmOf tickStep lostStep confirmStep noticeSince stepsIn ticksToCome refused accepted freshOutcome pick atMost isBelow isSame tagAt lengthAt afterLength afterTag headAt expectOf expectAt aloneAt dgiAt confirmationAt namedBy storeDataAt verificationAt deletionAt noted listedWithin listedAt tagsAt listingAt protocolsWithin protocolsAt numberAt grantOf memoryAt parametersAt prefixedOf prefixedAt namesAt rightsAt installOf lengthWrong classRight classWrong instructionWrong parametersRight parametersWrong shapeRight shapeWrong fieldOf dataWrong statusBody statusRow rowOf rowsFrom statusResponse oneStatus dataResponse deletedResponse listWrong listAt listWithin listOf elementOf restOf closed reached innerCalls readOf window
+unfolding fresh step wordOf sameBytes padded isFor clash zeros placeOk seek quotas allOf anyOf countOf distinct allOff enableAt phaseOk sound tickOf lostOf confirmOf tickStep lostStep confirmStep noticeSince stepsIn ticksToCome refused accepted freshOutcome pick atMost isBelow isSame tagAt lengthAt afterLength afterTag headAt expectOf expectAt aloneAt dgiAt confirmationAt namedBy storeDataAt verificationAt deletionAt noted listedWithin listedAt tagsAt listingAt protocolsWithin protocolsAt numberAt grantOf memoryAt parametersAt prefixedOf prefixedAt namesAt rightsAt installOf lengthWrong classRight classWrong instructionWrong parametersRight parametersWrong shapeRight shapeWrong fieldOf dataWrong statusBody statusRow rowOf partFrom leftFrom partGiven leftAfter oneStatus dataResponse deletedResponse listWrong listAt listWithin listOf elementOf restOf closed reached innerCalls readOf window
 room-lost =
     record {
       created-left = λ g. false≢true (ap isDone (g fresh _ _ _ [] (room-met .creates) (room-met .deletes) refl refl .status));

@@ -1,31 +1,31 @@
 -- Other used bytes at one place: what a list of places and a card show of them. Every other field, every search and the step of the
 -- clock go past them. By induction over the places. Assumes nothing.
 use mathlib.Core.Path.{_≡_, refl, ap, _∙_}
-use Prim.Native.Nat.{ℕ, zero, suc}
+use Prim.Native.Nat.{ℕ, zero, suc, _-_}
 use mathlib.Core.List.{List, [], _∷_}
 use mathlib.Core.Bool.{Bool, true, false, cond}
-use lib.ListN.{set}
+use lib.ListN.{set, drop}
 use lib.Dec.{ltb}
 use Rattle.isdp.specs.declared.Aid.{Aid}
 use Rattle.isdp.specs.LifeCycle.{enabled, isEnabled, withLife, withUsed}
 use Rattle.isdp.specs.Place.{held, isFor}
 use Rattle.isdp.specs.declared.Isdp.{Isdp}
 use Rattle.places.specs.Places.{at, seek, isFree, countOf, allOff, enableAt}
-use Rattle.card.specs.Cards.{isQuiet, placeOf, enabledPlace, freePlace, onFallback, withPlaces, enabledAid}
+use Rattle.card.specs.Cards.{isQuiet, placeOf, enabledPlace, freePlace, onFallback, over, enabledAid}
 use Rattle.card.specs.Clock.{moved, dropped, tickIn, tickOf, lostOf}
 use Rattle.card.specs.Ticks.{stepsIn, ticksToCome}
 use Rattle.card.specs.Notifications.{issued, noticeSince, kindOf}
 use Rattle.card.specs.declared.Card.{Card}
 use Rattle.card.specs.declared.Phase.{Phase}
 use Rattle.card.specs.declared.Phase.the-variants.{Quiet, Trial, Back, Fallen}
-use Rattle.responses.specs.Responses.{attributeOf, statusBody, statusRow, rowOf, rowsFrom, statusResponse, oneStatus, dataResponse}
+use Rattle.responses.specs.Responses.{attributeOf, statusBody, statusRow, rowOf, rowSize, mostResponse, partFrom, leftFrom, partGiven, leftAfter, oneStatus, dataResponse}
 
 -- the places, and the card, with u used bytes at place i
 unfoldable pub useAt : List Isdp → ℕ → ℕ → List Isdp
 useAt l i u = set l i (withUsed (at l i) u)
 
 abbrev pub reuseAt : ℕ → ℕ → Card → Card
-reuseAt i u c = withPlaces c (useAt (c .places) i u)
+reuseAt i u c = over c (useAt (c .places) i u)
 
 -- a place, but for its used bytes
 pub use-at : (l : List Isdp) (i u j : ℕ) → at (useAt l i u) j ≡ withUsed (at l j) (at (useAt l i u) j .used)
@@ -167,15 +167,37 @@ module _ (i u : ℕ) where
   unfolding rowOf statusRow statusBody
   row-reuse p v attribute life fallback = refl
 
-  pub rows-reuse : (l : List Isdp) (j holder place : ℕ) (life fallback : Bool) → rowsFrom holder place life fallback (useAt l j u) ≡ rowsFrom holder place life fallback l
-  unfolding rowsFrom useAt
-  rows-reuse [] j holder place life fallback = refl
-  rows-reuse (p ∷ ps) zero holder place life fallback = rw (row-reuse p u (attributeOf holder place) life fallback)
-  rows-reuse (p ∷ ps) (suc j) holder place life fallback = rw (rows-reuse ps j holder (suc place) life fallback)
+  -- a part of a listing, over the places themselves and over those from one on; so too the place that is left
+  module _ (holder : ℕ) (life fallback : Bool) where
+    parts-reuse : (l : List Isdp) (j room place : ℕ) → partFrom room holder place life fallback (useAt l j u) ≡ partFrom room holder place life fallback l
+    unfolding partFrom useAt
+    parts-reuse [] j room place = refl
+    parts-reuse (p ∷ ps) zero room place = rw (row-reuse p u (attributeOf holder place) life fallback)
+    parts-reuse (p ∷ ps) (suc j) room place = rw (parts-reuse ps j (room - rowSize p life fallback) (suc place))
 
-  pub status-reuse : (c : Card) (life fallback : Bool) → statusResponse (reuseAt i u c) life fallback ≡ statusResponse c life fallback
-  unfolding statusResponse
-  status-reuse c life fallback = rows-reuse (c .places) i (c .fallback) 0 life fallback
+    lefts-reuse : (l : List Isdp) (j room place : ℕ) → leftFrom room holder place life fallback (useAt l j u) ≡ leftFrom room holder place life fallback l
+    unfolding leftFrom useAt
+    lefts-reuse [] j room place = refl
+    lefts-reuse (p ∷ ps) zero room place = refl
+    lefts-reuse (p ∷ ps) (suc j) room place = rw (lefts-reuse ps j (room - rowSize p life fallback) (suc place))
+
+  -- what holds of the places holds of those from one on
+  from-reuse : (X : Type 0) (f : List Isdp → X) → ((l : List Isdp) (j : ℕ) → f (useAt l j u) ≡ f l) → (l : List Isdp) (j n : ℕ) → f (drop n (useAt l j u)) ≡ f (drop n l)
+  unfolding useAt
+  from-reuse X f h l j zero = h l j
+  from-reuse X f h [] j (suc n) = refl
+  from-reuse X f h (p ∷ ps) zero (suc n) = refl
+  from-reuse X f h (p ∷ ps) (suc j) (suc n) = from-reuse X f h ps j n
+
+  pub part-reuse : (c : Card) (from : ℕ) (life fallback : Bool) → partGiven (reuseAt i u c) from life fallback ≡ partGiven c from life fallback
+  unfolding partGiven
+  part-reuse c from life fallback =
+      from-reuse (List ℕ) (partFrom mostResponse (c .fallback) from life fallback) (λ l j. parts-reuse (c .fallback) life fallback l j mostResponse from) (c .places) i from
+
+  pub left-reuse : (c : Card) (from : ℕ) (life fallback : Bool) → leftAfter (reuseAt i u c) from life fallback ≡ leftAfter c from life fallback
+  unfolding leftAfter
+  left-reuse c from life fallback =
+      from-reuse ℕ (leftFrom mostResponse (c .fallback) from life fallback) (λ l j. lefts-reuse (c .fallback) life fallback l j mostResponse from) (c .places) i from
 
   pub one-reuse : (c : Card) (j : ℕ) (life fallback : Bool) → oneStatus (reuseAt i u c) j life fallback ≡ oneStatus c j life fallback
   unfolding oneStatus

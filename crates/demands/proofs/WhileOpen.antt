@@ -3,22 +3,25 @@ use mathlib.Core.Path.{_≡_, refl, ap, sym, _∙_}
 use mathlib.Core.List.{List, _∷_}
 use mathlib.Core.Bool.{Bool, true, not}
 use Rattle.status.specs.Rows.{Row, row, wordOf}
-use Rattle.status.specs.declared.Status.the-variants.{Unsound, BufferShort, LengthWrong, ClassWrong, InstructionWrong, ParametersWrong, DataWrong, Done}
-use Rattle.card.specs.Cards.{withPhase}
+use Rattle.status.specs.declared.Status.{Status}
+use Rattle.status.specs.declared.Status.the-variants.{Unsound, BufferShort, LengthWrong, ClassWrong, InstructionWrong, ParametersWrong, DataWrong}
+use Rattle.card.specs.Cards.{inPhase}
 use Rattle.card.specs.Sound.{sound}
 use Rattle.card.specs.declared.Card.{Card}
 use Rattle.card.specs.declared.Phase.the-variants.{Quiet}
-use Rattle.card.proofs.Sounds.{parts, whole, rephased}
+use Rattle.card.proofs.Sounds.{parts, whole}
 use Rattle.command.specs.Framing.{lengthWrong, classWrong, instructionWrong, parametersWrong, shapeWrong}
 use Rattle.steps.specs.Asked.{Act.status, Act.keyed, Act.stored, Act.finished, Asked, Asked.on, Asked.statusOfAll, Asked.getData, Asked.tick, Asked.lost}
+use Rattle.responses.specs.Responses.{leftAfter}
 use Rattle.steps.specs.Conditions.{cardRows}
+use Rattle.steps.specs.Steps.{goesOnAt, partWord, successOf}
 use Rattle.manager.specs.Calls.{Call, Call.Command, Call.Keyed, Call.Stored, Call.Finished, Call.Tick, Call.Lost}
 use Rattle.manager.specs.Table.{bufferShort, inCommand, valuesWrong, table}
 use Rattle.demands.specs.WhileOpen as statement
 use Rattle.demands.proofs.Words.{word-is}
 
 -- the values of a call are the same on the same card in Quiet
-values-same : (c : Card) (call : Call) → valuesWrong c call ≡ valuesWrong (withPhase c Quiet) call
+values-same : (c : Card) (call : Call) → valuesWrong c call ≡ valuesWrong (inPhase c Quiet) call
 values-same c (Command verdict s room) = refl
 values-same c (Keyed aid) = refl
 values-same c (Stored aid n) = refl
@@ -26,8 +29,19 @@ values-same c (Finished aid policy mark) = refl
 values-same c Tick = refl
 values-same c Lost = refl
 
-quiet-sound : (c : Card) → sound c ≡ true → sound (withPhase c Quiet) ≡ true
-quiet-sound c s = whole _ (rephased c Quiet (parts c s) tt)
+quiet-sound : (c : Card) → sound c ≡ true → sound (inPhase c Quiet) ≡ true
+quiet-sound c s =
+    let p = parts c s in
+    let z = p .sizes in
+    let l = p .placed in
+    let r = p .roles in
+    whole _
+    (record {
+      sizes = record { named = z .named; full = z .full; numbered = z .numbered; some = z .some; most = z .most };
+      placed = record { each = l .each; apart = l .apart; room = l .room };
+      roles = record { one = r .one; resort = r .resort; listing = r .listing };
+      phased = tt;
+    })
 
 -- the table of a call by what its rows look at: soundness, the values, the card
 abbrev tableOf : Call → Bool → Bool → List Row → List Row
@@ -42,26 +56,34 @@ tableOf call isSound wrong rows =
     ∷ row wrong DataWrong
     ∷ rows
 
-status-same : (a : Asked) → ((c : Card) → cardRows c a ≡ cardRows (withPhase c Quiet) a) → statement.Allowed a
-status-same a f c call s e =
-    let d = withPhase c Quiet in
+status-same : (a : Asked) → ((c : Card) → cardRows c a ≡ cardRows (inPhase c Quiet) a) → ((c : Card) → successOf c a ≡ successOf (inPhase c Quiet) a) → statement.Allowed a
+status-same a f g c call s e =
+    let d = inPhase c Quiet in
+    let w = successOf c a in
     word-is c call
-    ∙ ap (λ (x : Asked). wordOf Done (tableOf call (sound c) (valuesWrong c call) (cardRows c x))) e
-    ∙ ap (λ (b : Bool). wordOf Done (tableOf call b (valuesWrong c call) (cardRows c a))) (s ∙ sym (quiet-sound c s))
-    ∙ ap (λ (b : Bool). wordOf Done (tableOf call (sound d) b (cardRows c a))) (values-same c call)
-    ∙ ap (λ (rows : List Row). wordOf Done (tableOf call (sound d) (valuesWrong d call) rows)) (f c)
-    ∙ ap (λ (x : Asked). wordOf Done (tableOf call (sound d) (valuesWrong d call) (cardRows d x))) (sym e)
+    ∙ ap (λ (x : Asked). wordOf (successOf c x) (table c call)) e
+    ∙ ap (λ (x : Asked). wordOf w (tableOf call (sound c) (valuesWrong c call) (cardRows c x))) e
+    ∙ ap (λ (b : Bool). wordOf w (tableOf call b (valuesWrong c call) (cardRows c a))) (s ∙ sym (quiet-sound c s))
+    ∙ ap (λ (b : Bool). wordOf w (tableOf call (sound d) b (cardRows c a))) (values-same c call)
+    ∙ ap (λ (rows : List Row). wordOf w (tableOf call (sound d) (valuesWrong d call) rows)) (f c)
+    ∙ ap (λ (x : Asked). wordOf w (tableOf call (sound d) (valuesWrong d call) (cardRows d x))) (sym e)
+    ∙ ap (λ (x : Status). wordOf x (table d call)) (g c ∙ ap (successOf d) (sym e))
     ∙ sym (word-is d call)
+
+-- what is left of a listing asks nothing of the phase
+part-in-quiet : (c : Card) (next life fallback : Bool) → partWord (goesOnAt c next life fallback) ≡ partWord (goesOnAt (inPhase c Quiet) next life fallback)
+unfolding leftAfter
+part-in-quiet c next life fallback = refl
 
 pub allowed-while-open : statement.AllowedWhileOpen
 allowed-while-open =
     record {
-      keyed-allowed = λ aid. status-same (on aid keyed) (λ c. refl);
-      stored-allowed = λ aid n. status-same (on aid (stored n)) (λ c. refl);
-      finished-allowed = λ aid policy mark. status-same (on aid (finished policy mark)) (λ c. refl);
-      status-of-all-allowed = λ life fallback. status-same (statusOfAll life fallback) (λ c. refl);
-      status-of-one-allowed = λ aid life fallback. status-same (on aid (status life fallback)) (λ c. refl);
-      get-data-allowed = status-same getData (λ c. refl);
-      tick-allowed = status-same tick (λ c. refl);
-      lost-allowed = status-same lost (λ c. refl);
+      keyed-allowed = λ aid. status-same (on aid keyed) (λ c. refl) (λ c. refl);
+      stored-allowed = λ aid n. status-same (on aid (stored n)) (λ c. refl) (λ c. refl);
+      finished-allowed = λ aid policy mark. status-same (on aid (finished policy mark)) (λ c. refl) (λ c. refl);
+      status-of-all-allowed = λ next life fallback. status-same (statusOfAll next life fallback) (λ c. refl) (λ c. part-in-quiet c next life fallback);
+      status-of-one-allowed = λ aid life fallback. status-same (on aid (status life fallback)) (λ c. refl) (λ c. refl);
+      get-data-allowed = status-same getData (λ c. refl) (λ c. refl);
+      tick-allowed = status-same tick (λ c. refl) (λ c. refl);
+      lost-allowed = status-same lost (λ c. refl) (λ c. refl);
     }

@@ -49,7 +49,7 @@ use Rattle.demands.specs.Written.{listedAsks, wantedAsks, ofReading}
 use Rattle.demands.proofs.Words.{word-is, done-as}
 
 -- an AID is not empty
-listed-one : (who : List ℕ) (life shown : Bool) → 1 ≤ length who → on who (status life shown) ≡ listedAsks who life shown
+listed-one : (who : List ℕ) (life shown : Bool) → 1 ≤ length who → on who (status life shown) ≡ listedAsks false who life shown
 listed-one [] life shown h = absurd (omega arith)
 listed-one (first ∷ rest) life shown h = refl
 
@@ -66,7 +66,7 @@ asks-same verdict s capacity (request.SetFallBack part) p = refl
 asks-same verdict s capacity (request.Delete part) p = refl
 asks-same verdict s capacity (request.MasterDelete part) p = refl
 asks-same verdict s capacity (request.Confirm number) p = refl
-asks-same verdict s capacity (request.GetStatusOfAll life shown) p = refl
+asks-same verdict s capacity (request.GetStatusOfAll next life shown) p = refl
 asks-same verdict s capacity (request.GetStatusOfOne part life shown) p = listed-one (partOf s part) life shown (placed-length s part p)
 asks-same verdict s capacity request.GetData p = refl
 

@@ -15,7 +15,7 @@ use Rattle.status.specs.Rows.{wordOf}
 use Rattle.isdp.specs.Aids.{padded, noAid}
 use Rattle.isdp.specs.Place.{isFor, clash, zeros, placeOk}
 use Rattle.places.specs.Places.{seek, quotas, allOf, anyOf, countOf, distinct, allOff, enableAt}
-use Rattle.card.specs.Cards.{isQuiet}
+use Rattle.card.specs.Cards.{noPlace, keeping, isQuiet}
 use Rattle.card.specs.declared.Card.{Card}
 use Rattle.card.proofs.Counts.{steps-are, steps-unique}
 use Rattle.card.proofs.Freshness.{fresh-sound}
@@ -37,7 +37,7 @@ use Rattle.install.specs.Parameters.{protocolsWithin, protocolsAt, numberAt, gr
 use Rattle.install.specs.Install.{prefixedOf, prefixedAt, namesAt, rightsAt, installOf}
 use Rattle.command.specs.Framing.{lengthWrong, classRight, classWrong, instructionWrong, parametersRight, parametersWrong, shapeRight, shapeWrong}
 use Rattle.command.specs.Requests.{fieldOf, dataWrong}
-use Rattle.responses.specs.Responses.{statusBody, statusRow, rowOf, rowsFrom, statusResponse, oneStatus, dataResponse, deletedResponse}
+use Rattle.responses.specs.Responses.{statusBody, statusRow, rowOf, partFrom, leftFrom, partGiven, leftAfter, oneStatus, dataResponse, deletedResponse}
 use Rattle.steps.specs.Steps.{responseOf}
 use Rattle.manager.specs.Calls.{Call, Call.Keyed, asked}
 use Rattle.manager.proofs.Kept.{step-sound, run-sound}
@@ -47,6 +47,7 @@ use Rattle.demands.specs.Inputs.{freshOf}
 use Rattle.demands.specs.Examples.{aid, inputs, getStatus, setFallBack, enable, confirm, create, loadWith, load, ticks}
 use Rattle.demands.specs.Engines.{Engine, reached, remembered, cardAfter, answerAfter, Answered, MeetsDemand3}
 use Rattle.demands.specs.WrongEngines.{Refuted, refusesAll, fixedAnswer, leavesEveryCard, Along, larger, Exemplary, RefusesAll, FixedAnswer, LeavesEveryCard, isCommand, firstThen, FirstThenOnly9000, idle, NotTheSecondChange, inventsTicks, OnlyTheCount, thirtyWhileOpen, rollBackAsksPolicy, previousDeletedAtEnable, secondEnableRestartsWait, lateConfirmationTaken, ignoresMark, IgnoringMark, Caught}
+use Rattle.demands.proofs.Taken.{hands-back}
 
 -- a change that this engine opens, and calls after each of which it is still open
 record Open (e : Engine) (past : List Call) (opening : Call) (wanted : List ℕ) (calls : List Call) : Type 0 where
@@ -63,6 +64,8 @@ firstChange = load 2 0 ++ load 3 0 ++ enable 2 ∷ confirm 1 ∷ []
 record Runs : Type 0 where
   made : isDone (freshOf inputs .status) ≡ true
   listed : step (freshOf inputs .card) getStatus .status ≡ Done
+  listed-card : step (freshOf inputs .card) getStatus .card ≡ freshOf inputs .card
+  listed-larger : step (freshOf larger .card) getStatus .card ≡ freshOf larger .card
   missing : step (freshOf inputs .card) (setFallBack 2) .status ≡ NotHeld
   room-before : quotas (freshOf inputs .card .places) ≡ 100
   room-after : quotas (step (freshOf inputs .card) (create 2 50) .card .places) ≡ 150
@@ -73,6 +76,8 @@ record Runs : Type 0 where
   more-room : step (freshOf larger .card) getStatus .card .capacity ≡ 2000
   made-larger : isDone (freshOf larger .status) ≡ true
   second-quiet : isQuiet (run (freshOf inputs .card) firstChange .phase) ≡ true
+  second-left : leftAfter (run (freshOf inputs .card) firstChange) 0 true true ≡ noPlace
+  second-kept : run (freshOf inputs .card) firstChange .kept ≡ noPlace
   second-opens : Opens (run (freshOf inputs .card) firstChange) (enable 3) (aid 3)
   invented : thirtyWhileOpen (answerAfter (inventsTicks thirtyWhileOpen) inputs (load 2 0) (enable 2) .card) ≡ 30
   counted : ticksToCome (answerAfter (inventsTicks thirtyWhileOpen) inputs (load 2 0) (enable 2) .card) ≡ 20
@@ -90,11 +95,13 @@ record Runs : Type 0 where
   unmarked-refused : step (cardAfter ignoresMark inputs (loadWith 2 0 0)) (setFallBack 2) .status ≡ StateWrong
 
 runs : Runs
-unfolding reached remembered ticksAmong staysOpen step run wordOf sameBytes padded isFor clash zeros placeOk seek quotas allOf anyOf countOf distinct allOff enableAt phaseOk sound tickOf lostOf confirmOf tickStep lostStep confirmStep noticeSince stepsIn ticksToCome refused accepted freshOutcome pick atMost isBelow isSame tagAt lengthAt afterLength afterTag headAt expectOf expectAt aloneAt dgiAt confirmationAt namedBy storeDataAt verificationAt deletionAt noted listedWithin listedAt tagsAt listingAt protocolsWithin protocolsAt numberAt grantOf memoryAt parametersAt prefixedOf prefixedAt namesAt rightsAt installOf lengthWrong classRight classWrong instructionWrong parametersRight parametersWrong shapeRight shapeWrong fieldOf dataWrong statusBody statusRow rowOf rowsFrom statusResponse oneStatus dataResponse deletedResponse listWrong listAt listWithin listOf elementOf restOf closed
+unfolding reached remembered ticksAmong staysOpen step run wordOf sameBytes padded isFor clash zeros placeOk seek quotas allOf anyOf countOf distinct allOff enableAt phaseOk sound tickOf lostOf confirmOf tickStep lostStep confirmStep noticeSince stepsIn ticksToCome refused accepted freshOutcome pick atMost isBelow isSame tagAt lengthAt afterLength afterTag headAt expectOf expectAt aloneAt dgiAt confirmationAt namedBy storeDataAt verificationAt deletionAt noted listedWithin listedAt tagsAt listingAt protocolsWithin protocolsAt numberAt grantOf memoryAt parametersAt prefixedOf prefixedAt namesAt rightsAt installOf lengthWrong classRight classWrong instructionWrong parametersRight parametersWrong shapeRight shapeWrong fieldOf dataWrong statusBody statusRow rowOf partFrom leftFrom partGiven leftAfter oneStatus dataResponse deletedResponse listWrong listAt listWithin listOf elementOf restOf closed
 runs =
     record {
       made = refl;
       listed = refl;
+      listed-card = refl;
+      listed-larger = refl;
       missing = refl;
       room-before = refl;
       room-after = refl;
@@ -105,6 +112,8 @@ runs =
       more-room = refl;
       made-larger = refl;
       second-quiet = refl;
+      second-left = refl;
+      second-kept = refl;
       second-opens = enables (aid 3) refl refl;
       invented = refl;
       counted = refl;
@@ -163,17 +172,7 @@ fixed-answer-examples o =
           absurd (omega arith);
     }
 
--- GET STATUS leaves every card as it was
-left : (c : Card) (b : Bool) (w : Status) (r : List ℕ) → cond b (accepted w (stepTo c c noAid) r) (refused c w) .card ≡ c
-unfolding accepted refused
-left c true w r = refl
-left c false w r = refl
-
-listed-card : (c : Card) → step c getStatus .card ≡ c
-unfolding step fieldOf pick isSame listingAt tagsAt aloneAt expectAt expectOf headAt afterTag afterLength tagAt lengthAt atMost isBelow listWrong listAt listWithin listOf elementOf restOf closed
-listed-card c = left c (isDone (tableWord c getStatus)) (tableWord c getStatus) (responseOf c (asked c getStatus))
-
--- a creation does not
+-- a creation changes the card
 grown : quotas (freshOf inputs .card .places) ≡ quotas (step (freshOf inputs .card) (create 2 50) .card .places) → ⊥
 grown e =
     let a = runs .room-before in
@@ -185,8 +184,8 @@ unfolding Along
 leaves-every-card-examples =
     record {
       first = (
-        (record { status = refl; response = refl; notification = refl; card = sym (listed-card (freshOf inputs .card)) }, tt),
-        (record { status = refl; response = refl; notification = refl; card = sym (listed-card (freshOf larger .card)) }, tt),
+        (record { status = refl; response = refl; notification = refl; card = sym (runs .listed-card) }, tt),
+        (record { status = refl; response = refl; notification = refl; card = sym (runs .listed-larger) }, tt),
       );
       second = λ says x. grown (ap (λ (c : Card). quotas (c .places)) (x .0 .0 .card));
       seventh = λ says x. grown (ap (λ (c : Card). quotas (c .places)) (x .0 .card));
@@ -236,11 +235,18 @@ tally k later [] m c = omega arith
 tally k later (call ∷ calls) m c =
     tally k later calls (cond (isCommand call) (suc m) m) _ ∙ tallied (isCommand call) (commandsAmong calls) m
 
--- a run of GET STATUS
-listings-leave : (j : ℕ) (c : Card) → run c (replicate j getStatus) ≡ c
+-- GET STATUS leaves a card that keeps no place where it leaves no row
+listed-card : (c : Card) → leftAfter c 0 true true ≡ noPlace → c .kept ≡ noPlace → step c getStatus .card ≡ c
+unfolding fieldOf pick isSame listingAt tagsAt aloneAt expectAt expectOf headAt afterTag afterLength tagAt lengthAt atMost isBelow listWrong listAt listWithin listOf elementOf restOf closed
+listed-card c e k =
+    let same : keeping c (leftAfter c 0 true true) ≡ c = ap (keeping c) (e ∙ sym k) in
+    hands-back c getStatus (λ d. d ≡ c) (λ done. same) refl
+
+-- a run of GET STATUS, where one leaves the card
+listings-leave : (j : ℕ) (c : Card) → step c getStatus .card ≡ c → run c (replicate j getStatus) ≡ c
 unfolding run
-listings-leave zero c = refl
-listings-leave (suc j) c = ap (λ (d : Card). run d (replicate j getStatus)) (listed-card c) ∙ listings-leave j c
+listings-leave zero c e = refl
+listings-leave (suc j) c e = ap (λ (d : Card). run d (replicate j getStatus)) e ∙ listings-leave j c e
 
 listings-count : (j : ℕ) → commandsAmong (replicate j getStatus) ≡ j
 unfolding commandsAmong
@@ -256,7 +262,7 @@ first-then-only-9000 n later done d =
     let c = freshOf inputs .card in
     let past = replicate n getStatus in
     let count = listings-count n in
-    let there : cardAfter (firstThen n later) inputs past ≡ c = worked n later past 0 c (omega arith) ∙ listings-leave n c in
+    let there : cardAfter (firstThen n later) inputs past ≡ c = worked n later past 0 c (omega arith) ∙ listings-leave n c (runs .listed-card) in
     let number = tally n later past 0 c in
     let x = d inputs (runs .made) past (setFallBack 2) .status in
     let y = ap (λ (o : Outcome). o .status) (late-answer n (remembered (firstThen n later) 0 c past) (later (cardAfter (firstThen n later) inputs past) (setFallBack 2)) (step (cardAfter (firstThen n later) inputs past) (setFallBack 2)) (omega arith)) in
@@ -276,7 +282,7 @@ not-the-second-change n d =
     let k = n + 4 in
     let past = firstChange ++ replicate n getStatus in
     let count = listings-count n in
-    let there : cardAfter (firstThen k idle) inputs past ≡ run c firstChange = worked k idle past 0 c (omega arith) ∙ listings-leave n (run c firstChange) in
+    let there : cardAfter (firstThen k idle) inputs past ≡ run c firstChange = worked k idle past 0 c (omega arith) ∙ listings-leave n (run c firstChange) (listed-card (run c firstChange) (runs .second-left) (runs .second-kept)) in
     let number = tally k idle past 0 c in
     let opens = coe 1 0 (i. Opens (there i) (enable 3) (aid 3)) (runs .second-opens) in
     let quiet = ap (λ (e : Card). isQuiet (e .phase)) there ∙ runs .second-quiet in

@@ -3,7 +3,7 @@
 use Prim.Native.Nat.{ℕ, _≤_}
 use mathlib.Core.Path.{_≡_}
 use mathlib.Core.List.{List, [], _∷_}
-use mathlib.Core.Bool.{Bool, true, cond}
+use mathlib.Core.Bool.{Bool, true, false, cond}
 use Rattle.status.specs.declared.Status.the-variants.{Unsound, Done}
 use Rattle.card.specs.Sound.{sound}
 use Rattle.card.specs.Answers.{Outcome}
@@ -19,7 +19,7 @@ use Rattle.steps.specs.Laws.Deletion.{DeleteAnswers, MasterDeleteAnswers}
 use Rattle.steps.specs.Laws.FallBack.{SetFallBackAnswers}
 use Rattle.steps.specs.Laws.Confirmation.{ConfirmationAnswers}
 use Rattle.steps.specs.Laws.Clock.{TickAnswers, LostAnswers}
-use Rattle.steps.specs.Laws.Reports.{StatusOfAllAnswers, StatusOfOneAnswers, GetDataAnswers}
+use Rattle.steps.specs.Laws.Reports.{StatusOfAllAnswers, StatusOfNextAnswers, StatusOfOneAnswers, GetDataAnswers}
 use Rattle.manager.specs.Calls.{Call, Call.Command, Call.Keyed, Call.Stored, Call.Finished, Call.Tick, Call.Lost}
 use Rattle.manager.specs.Table.{leastBuffer}
 use Rattle.manager.specs.Manager.{step}
@@ -46,9 +46,11 @@ pub record EveryCall : Type 0 where
   pub set-fall-back : (aid : List ℕ) → WrittenLaw (field.storeData (field.setFallBack aid)) (λ c verdict. SetFallBackAnswers c aid)
   pub confirmation : (number : ℕ) → WrittenLaw (field.storeData (field.confirmation number)) (λ c verdict. ConfirmationAnswers c number)
   -- 4F is empty
-  pub status-of-all : (life attribute : Bool) → WrittenLaw (field.getStatus (field.asked [] life attribute)) (λ c verdict. StatusOfAllAnswers c life attribute)
+  pub status-of-all : (life attribute : Bool) → WrittenLaw (field.getStatus (field.asked false [] life attribute)) (λ c verdict. StatusOfAllAnswers c life attribute)
+  -- and P2 is 03
+  pub status-of-next : (life attribute : Bool) → WrittenLaw (field.getStatus (field.asked true [] life attribute)) (λ c verdict. StatusOfNextAnswers c life attribute)
   -- 4F is an AID
-  pub status-of-one : (first : ℕ) (rest : List ℕ) (life attribute : Bool) → WrittenLaw (field.getStatus (field.asked (first ∷ rest) life attribute)) (λ c verdict. StatusOfOneAnswers c (first ∷ rest) life attribute)
+  pub status-of-one : (first : ℕ) (rest : List ℕ) (life attribute : Bool) → WrittenLaw (field.getStatus (field.asked false (first ∷ rest) life attribute)) (λ c verdict. StatusOfOneAnswers c (first ∷ rest) life attribute)
   pub get-data : WrittenLaw field.getData (λ c verdict. GetDataAnswers c)
   pub keyed : (aid : List ℕ) → CallLaw (Keyed aid) (λ c. KeyedAnswers c aid)
   pub stored : (aid : List ℕ) (n : ℕ) → CallLaw (Stored aid n) (λ c. StoredAnswers c aid n)
@@ -77,6 +79,7 @@ pub record EveryCallMet : Type 0 where
   pub master-delete : IsWritten (field.deletion (field.masterDelete (aidEnding 2)))
   pub set-fall-back : IsWritten (field.storeData (field.setFallBack (aidEnding 2)))
   pub confirmation : IsWritten (field.storeData (field.confirmation 1))
-  pub status-of-all : IsWritten (field.getStatus (field.asked [] true true))
-  pub status-of-one : IsWritten (field.getStatus (field.asked (aidEnding 2) true true))
+  pub status-of-all : IsWritten (field.getStatus (field.asked false [] true true))
+  pub status-of-next : IsWritten (field.getStatus (field.asked true [] true true))
+  pub status-of-one : IsWritten (field.getStatus (field.asked false (aidEnding 2) true true))
   pub get-data : IsWritten field.getData

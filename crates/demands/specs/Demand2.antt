@@ -16,15 +16,16 @@ use Rattle.status.specs.declared.Status.the-variants.{DataWrong, Done}
 use Rattle.isdp.specs.LifeCycle.{isEnabled, isFinished}
 use Rattle.isdp.specs.Place.{held}
 use Rattle.places.specs.Places.{at, countOf}
+use Rattle.card.specs.Cards.{noPlace}
 use Rattle.card.specs.Sound.{sound}
 use Rattle.card.specs.Answers.{accepted}
 use Rattle.card.specs.Notifications.{silent}
 use Rattle.card.specs.Fresh.{zeroCard, freshCard, freshOk, freshOutcome}
 use Rattle.card.specs.declared.Card.{Card}
-use Rattle.steps.specs.Steps.{stepOf, responseOf}
+use Rattle.steps.specs.Steps.{successOf, stepOf, responseOf}
 use Rattle.manager.specs.Calls.{Call, asked}
 use Rattle.manager.specs.Table.{table}
-use Rattle.manager.specs.Manager.{step, run, answers, work}
+use Rattle.manager.specs.Manager.{step, run, answers}
 
 -- no row's condition holds
 abbrev pub NoneHolds : List Row → Type 0
@@ -48,19 +49,19 @@ FirstRow = (c : Card) (call : Call) (w : Status) → First (table c call) w → 
 abbrev pub OnlyFirstRow : Type 0
 OnlyFirstRow = (c : Card) (call : Call) → isDone (step c call .status) ≡ false → First (table c call) (step c call .status)
 
--- by definition: "Otherwise 90 00", and only then
+-- by definition: "Otherwise 90 00", or of a listing 63 10, and only then
 abbrev pub Otherwise : Type 0
-Otherwise = (c : Card) (call : Call) → NoneHolds (table c call) → step c call .status ≡ Done
+Otherwise = (c : Card) (call : Call) → NoneHolds (table c call) → step c call .status ≡ successOf c (asked c call)
 
 abbrev pub OnlyOtherwise : Type 0
-OnlyOtherwise = (c : Card) (call : Call) → step c call .status ≡ Done → NoneHolds (table c call)
+OnlyOtherwise = (c : Card) (call : Call) → isDone (step c call .status) ≡ true → NoneHolds (table c call)
 
 -- by definition: an accepted call gives its step and its response, the whole answer
 abbrev pub Takes : Type 0
 Takes =
     (c : Card) (call : Call)
-    → step c call .status ≡ Done
-    → step c call ≡ accepted (work c call .success) (stepOf c (asked c call)) (responseOf c (asked c call))
+    → isDone (step c call .status) ≡ true
+    → step c call ≡ accepted (successOf c (asked c call)) (stepOf c (asked c call)) (responseOf c (asked c call))
 
 -- fresh: its whole answer, where its inputs keep the sizes and where not
 abbrev pub FreshTaken : Type 0
@@ -94,7 +95,8 @@ Makes =
     → freshOutcome eid aid capacity quota used volatile .status ≡ Done
     → sound (freshOutcome eid aid capacity quota used volatile .card) ≡ true
 
--- a sound card: exactly one place is ENABLED, and the fall-back is one of its places, held, DISABLED or ENABLED, and has provisioning capability
+-- a sound card: exactly one place is ENABLED, and the fall-back is one of its places, held, DISABLED or ENABLED, and has provisioning capability.
+-- Request 2026-05: "Demand 2 counts that kept place, a held one, as part of the card"
 pub record Standing (c : Card) : Type 0 where
   pub still-sound : sound c ≡ true
   pub one-enabled : countOf isEnabled (c .places) ≡ 1
@@ -102,6 +104,7 @@ pub record Standing (c : Card) : Type 0 where
   pub fallback-held : held (at (c .places) (c .fallback)) ≡ true
   pub fallback-finished : isFinished (at (c .places) (c .fallback) .life) ≡ true
   pub fallback-marked : at (c .places) (c .fallback) .mark ≡ 1
+  pub kept-held : (c .kept ≡ noPlace → ⊥) → held (at (c .places) (c .kept)) ≡ true
 
 -- "From a fresh card on": whatever the calls
 abbrev pub FromFresh : Type 0

@@ -83,10 +83,10 @@ loadWith n policy mark = create n 50 ∷ Keyed (aid n) ∷ Stored (aid n) 5 ∷ 
 abbrev pub load : ℕ → ℕ → List Call
 load n policy = loadWith n policy 1
 
--- the examples' card with these profiles in its first places and what they leave free, this last number, this place the fall-back, in this phase
+-- the examples' card with these profiles in its first places and what they leave free, this last number, this place the fall-back, in this phase, with no listing open
 abbrev pub cardWith : List Isdp → ℕ → ℕ → Phase → Card
 cardWith profiles last fallback phase =
-    cards.cardWith (replicate 16 0x89) 1000 7 (freeOf 1000 profiles) last fallback phase (profiles ++ replicate (mostPlaces - length profiles) vacant)
+    cards.cardWith (replicate 16 0x89) 1000 7 (freeOf 1000 profiles) last fallback phase cards.noPlace (profiles ++ replicate (mostPlaces - length profiles) vacant)
 
 -- the profiles field by field: AID, life cycle, quota, used, policy, mark. F, which has the mark, alone; F and 02, with their life cycles, 02 with this mark or marked too; new profiles of quota 1, with AIDs from
 -- n on

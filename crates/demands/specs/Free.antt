@@ -49,7 +49,7 @@ afterAsked unread response ms = ms
 afterAsked (create aid quota) response ms = record { aid = aid; quota = quota } ∷ ms
 afterAsked (on aid act) response ms = afterAct aid act ms
 afterAsked (confirm number) response ms = afterConfirm response ms
-afterAsked (statusOfAll life fallback) response ms = ms
+afterAsked (statusOfAll next life fallback) response ms = ms
 afterAsked getData response ms = ms
 afterAsked tick response ms = ms
 afterAsked lost response ms = ms

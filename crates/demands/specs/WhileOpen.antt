@@ -3,7 +3,7 @@ use Prim.Native.Nat.{ℕ}
 use mathlib.Core.Path.{_≡_}
 use mathlib.Core.List.{List}
 use mathlib.Core.Bool.{Bool, true}
-use Rattle.card.specs.Cards.{withPhase}
+use Rattle.card.specs.Cards.{inPhase}
 use Rattle.card.specs.Sound.{sound}
 use Rattle.card.specs.declared.Card.{Card}
 use Rattle.card.specs.declared.Phase.the-variants.{Quiet}
@@ -20,7 +20,7 @@ pub record AllowedWhileOpen : Type 0 where
   pub keyed-allowed : (aid : List ℕ) → Allowed (on aid keyed)
   pub stored-allowed : (aid : List ℕ) (n : ℕ) → Allowed (on aid (stored n))
   pub finished-allowed : (aid : List ℕ) (policy mark : ℕ) → Allowed (on aid (finished policy mark))
-  pub status-of-all-allowed : (life fallback : Bool) → Allowed (statusOfAll life fallback)
+  pub status-of-all-allowed : (next life fallback : Bool) → Allowed (statusOfAll next life fallback)
   pub status-of-one-allowed : (aid : List ℕ) (life fallback : Bool) → Allowed (on aid (status life fallback))
   pub get-data-allowed : Allowed getData
   pub tick-allowed : Allowed tick

@@ -6,7 +6,7 @@ use mathlib.Core.List.{List, [], _∷_}
 use mathlib.Core.Bool.{Bool, true, false}
 use Rattle.status.specs.StatusWords.{isDone}
 use Rattle.status.specs.declared.Status.{Status}
-use Rattle.status.specs.declared.Status.the-variants.{Unsound, BufferShort, LengthWrong, ClassWrong, InstructionWrong, ParametersWrong, DataWrong, StateWrong, NotHeld, PolicyForbids, VerdictWrong, NoRoom, Done}
+use Rattle.status.specs.declared.Status.the-variants.{Unsound, BufferShort, LengthWrong, ClassWrong, InstructionWrong, ParametersWrong, DataWrong, StateWrong, NotHeld, PolicyForbids, VerdictWrong, NoRoom, More, Done}
 use Rattle.card.specs.Sound.{sound}
 use Rattle.card.specs.Answers.{outcome}
 use Rattle.card.specs.declared.Card.{Card}
@@ -31,17 +31,17 @@ abbrev pub deletedAsks : ℕ → field.Deleted → Asked
 deletedAsks verdict (field.delete aid) = on aid delete
 deletedAsks verdict (field.masterDelete aid) = on aid (masterDelete verdict)
 
--- 4F is empty, for all, or an AID
-abbrev pub listedAsks : List ℕ → Bool → Bool → Asked
-listedAsks [] life shown = statusOfAll life shown
-listedAsks (first ∷ rest) life shown = on (first ∷ rest) (status life shown)
+-- 4F is empty, for all, or an AID, which P2 03 never names
+abbrev pub listedAsks : Bool → List ℕ → Bool → Bool → Asked
+listedAsks next [] life shown = statusOfAll next life shown
+listedAsks next (first ∷ rest) life shown = on (first ∷ rest) (status life shown)
 
 -- what a written command asks of the card
 abbrev pub wantedAsks : ℕ → Wanted → Asked
 wantedAsks verdict (field.create v) = create (v .aid) (v .quota)
 wantedAsks verdict (field.storeData v) = storedAsks v
 wantedAsks verdict (field.deletion v) = deletedAsks verdict v
-wantedAsks verdict (field.getStatus v) = listedAsks (v .who) (v .life) (v .fallBackShown)
+wantedAsks verdict (field.getStatus v) = listedAsks (v .next) (v .who) (v .life) (v .fallBackShown)
 wantedAsks verdict field.getData = getData
 
 -- the answer to a written command is the outcome of what was written: the card's rows of the table, the step and the response of that
@@ -74,6 +74,7 @@ ofReading NotHeld = false
 ofReading PolicyForbids = false
 ofReading VerdictWrong = false
 ofReading NoRoom = false
+ofReading More = false
 ofReading Done = false
 
 -- what nobody writes so is refused by such a word

@@ -2,22 +2,21 @@
 -- make up the listing, that what is left begins with a held place, and that a row more would not have fit. By induction over the places.
 -- Assumes nothing.
 use mathlib.Core.Path.{_≡_, refl, ap, sym, _∙_}
-use Prim.Native.Nat.{ℕ, zero, suc, _+_, _-_, _≤_, _<_}
+use Prim.Native.Nat.{ℕ, suc, _+_, _-_, _≤_, _<_}
 use native.Mathlib.Numerals.{add-one}
 use native.Mathlib.Omega.{arith}
 use mathlib.Core.List.{List, [], _∷_, _++_, append-assoc}
-use mathlib.Core.Bool.{Bool, true, false, cond, _||_}
+use mathlib.Core.Bool.{Bool, true, false, cond}
 use lib.ListN.{length, drop, getD, length-append, length-drop, drop-of-length-le}
 use lib.Seq.{drop-cons, drop-drop, getD-drop}
 use lib.Dec.{leb}
-use borrow.Author.Tests.{le-leb, lt-leb, leb-true, leb-false, ne-eqb}
+use borrow.Author.Tests.{le-leb, lt-leb, leb-true, leb-false}
 use Rattle.isdp.specs.Aids.{aidOf}
 use Rattle.isdp.specs.Place.{held}
 use Rattle.isdp.specs.declared.Isdp.{Isdp}
 use Rattle.places.specs.Places.{at}
 use Rattle.places.proofs.Records.{unread}
-use Rattle.card.specs.Cards.{noPlace, keeping}
-use Rattle.card.specs.Sound.{keptOk}
+use Rattle.card.specs.Cards.{noPlace}
 use Rattle.card.specs.declared.Card.{Card}
 use Rattle.responses.specs.Responses.{attributeOf, rowOf, rowSize, rowsFrom, listingFrom, mostResponse, partFrom, leftFrom, partGiven, leftAfter}
 use Rattle.responses.proofs.Rows.{row-sized}

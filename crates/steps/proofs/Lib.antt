@@ -2,6 +2,7 @@
 -- keeps a sound card sound.
 pub mod Targets
 pub mod Rows
+pub mod Successes
 pub mod Opens
 pub mod Creates
 pub mod Inner

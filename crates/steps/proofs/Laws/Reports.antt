@@ -4,13 +4,12 @@ use mathlib.Core.Path.{_≡_, refl, sym, ap, subst, _∙_}
 use Prim.Native.Nat.{ℕ, zero, suc, _+_, _-_, _≤_, _<_}
 use native.Mathlib.Numerals.{add-one}
 use native.Mathlib.Omega.{arith}
-use mathlib.Core.List.{List, [], _∷_, _++_, append-assoc, append-nil}
+use mathlib.Core.List.{List, [], _++_, append-assoc, append-nil}
 use mathlib.Core.Bool.{Bool, true, false, cond, or-true}
 use lib.ListN.{length, length-append, drop-of-length-le}
 use lib.Seq.{drop-cons, take-append-seam}
 use lib.Dec.{leb, eqb}
 use borrow.Author.Tests.{leb-true, leb-false, ne-eqb, eqb-false}
-use Rattle.status.specs.StatusWords.{isDone}
 use Rattle.status.specs.declared.Status.{Status}
 use Rattle.status.specs.declared.Status.the-variants.{More, Done}
 use Rattle.isdp.specs.Aids.{noAid}
@@ -30,6 +29,7 @@ use Rattle.steps.specs.Laws.Answer.{profileAt, Still}
 use Rattle.steps.specs.Steps.{beginsAt, goesOnAt, partWord, askedWork}
 use Rattle.steps.specs.Laws.Reports.{statusAt, statusFrom, Listed, PartAnswers, PartAnswers.to-the-last, PartAnswers.up-to, StatusOfAllLaw, StatusOfNextLaw, StatusOfOneLaw, GetDataLaw}
 use Rattle.steps.proofs.Rows.{Passed}
+use Rattle.steps.proofs.Successes.{part-done}
 use Rattle.steps.proofs.Laws.Answer.{asked-passed, asked-taken-as, asked-taken, command-law, held-passes, no-notice, same-ticks, still}
 
 -- the row of one place
@@ -94,7 +94,7 @@ module _ (c : Card) (life attribute : Bool) (from : ℕ) (s : sound c ≡ true) 
       let d : from + (left - from) ≡ left = let low = w .low in omega arith in
       let high = w .high in
       let q : part ≡ statusFrom c life attribute from (left - from) =
-          begins-alike part _ (listingFrom c left life attribute) (sym e ∙ from-there c life attribute from (left - from) (omega arith) ∙ rw d) in
+      begins-alike part _ (listingFrom c left life attribute) (sym e ∙ from-there c life attribute from (left - from) (omega arith) ∙ rw d) in
       let o : eqb left noPlace ≡ false = ne-eqb left noPlace (λ z. let f = parts c s .sizes .full in omega arith) in
       rw (o, q)
       (up-to (left - from) (omega arith) (rw d (w .there)) (rw (d, ← q, row-bytes c left life attribute (w .there)) (w .full))
@@ -103,15 +103,10 @@ module _ (c : Card) (life attribute : Bool) (from : ℕ) (s : sound c ≡ true) 
   part-given : PartAnswers c life attribute from (accepted (partWord (leftAfter c from life attribute)) (stepTo c (keeping c (leftAfter c from life attribute)) noAid) (partGiven c from life attribute))
   part-given = part-case (partGiven c from life attribute) (leftAfter c from life attribute) (given c life attribute from) (part-short c life attribute from)
 
--- 90 00 and 63 10 are both a success
-part-done : (b : Bool) → isDone (cond b Done More) ≡ true
-part-done true = refl
-part-done false = refl
-
 part-taken : (c : Card) (life attribute : Bool) → sound c ≡ true → (next : Bool) → Passed c (statusOfAll next life attribute) → outcome c (askedWork c (statusOfAll next life attribute)) ≡ accepted (partWord (goesOnAt c next life attribute)) (stepTo c (keeping c (goesOnAt c next life attribute)) noAid) (partGiven c (beginsAt c next) life attribute)
 part-taken c life attribute s next p =
     let left = goesOnAt c next life attribute in
-    asked-taken-as c (statusOfAll next life attribute) (partWord left) (part-done (eqb left noPlace)) refl s p
+    asked-taken-as c (statusOfAll next life attribute) (partWord left) (part-done left) refl s p
 
 pub status-of-all-law : StatusOfAllLaw
 status-of-all-law c life attribute s =
