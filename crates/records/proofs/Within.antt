@@ -1,5 +1,5 @@
 -- A number that was read is at most what it may be. By cases on the word and on what its digits spell.
-use Prim.Native.Nat.{ℕ, _+_, _≤_}
+use Prim.Native.Nat.{ℕ, _+_, _-_, _≤_}
 use mathlib.Core.Path.{_≡_, refl}
 use mathlib.Core.List.{List}
 use native.Mathlib.Omega.{arith}
@@ -9,9 +9,14 @@ use Rattle.text.specs.declared.words.Word.{Word}
 use Rattle.text.specs.declared.words.Word.the-variants as word
 use Rattle.text.specs.declared.numbers.Number.{Number}
 use Rattle.text.specs.declared.numbers.Number.the-variants as number
+use Rattle.byte_string.specs.Bytes.{sameBytes}
 use Rattle.text.proofs.NumberLaws.{decimal-within}
+use Rattle.choice.proofs.Branches.{each}
+use Rattle.card.specs.Cards.{noPlace}
+use Rattle.records.specs.Ascii.{ascii}
 use Rattle.records.specs.Arguments.{onNumber, valueAt}
 use Rattle.records.specs.Colons.{colon, numberField}
+use Rattle.records.specs.Records.{keptIn, keptAt}
 use Rattle.records.specs.declared.arguments.Reason.the-variants as reason
 use Rattle.records.specs.declared.arguments.Value.{Value}
 use Rattle.records.specs.declared.arguments.Value.the-variants as value
@@ -33,10 +38,23 @@ word-within : (most e n k : ℕ) (d : Number) → ((m : ℕ) → number.Value m 
 word-within most e n k number.Wrong f q = let o : _≡_ {A = ℕ} 0 1 = cc in absurd (omega arith)
 word-within most e n k (number.Value m) f q = let i : n ≡ m = cc in let h = f m refl in omega arith
 
-value-on : (most n k : ℕ) (s : List ℕ) (v : Word) → value.Is n k ≡ onWord v (value.Wrong reason.WordsMissing) (λ a e. onNumber (decimalOf most (part s a e)) (value.Wrong reason.BadNumber) λ m. value.Is m e) → n ≤ most
-value-on most n k s word.End q = let o : _≡_ {A = ℕ} 0 1 = cc in absurd (omega arith)
-value-on most n k s (word.Span a e) q = word-within most e n k (decimalOf most (part s a e)) (λ m. decimal-within most m (part s a e)) q
+value-on : (most n k : ℕ) (read : List ℕ → Number) → ((w : List ℕ) (m : ℕ) → number.Value m ≡ read w → m ≤ most) → (s : List ℕ) (v : Word)
+    → value.Is n k ≡ onWord v (value.Wrong reason.WordsMissing) (λ a e. onNumber (read (part s a e)) (value.Wrong reason.BadNumber) λ m. value.Is m e)
+    → n ≤ most
+value-on most n k read f s word.End q = let o : _≡_ {A = ℕ} 0 1 = cc in absurd (omega arith)
+value-on most n k read f s (word.Span a e) q = word-within most e n k (read (part s a e)) (f (part s a e)) q
 
 pub value-within : (most : ℕ) (s : List ℕ) (at n k : ℕ) → value.Is n k ≡ valueAt most s at → n ≤ most
 unfolding valueAt
-value-within most s at n k q = value-on most n k s (wordAt s at) q
+value-within most s at n k q = value-on most n k (decimalOf most) (λ w m. decimal-within most m w) s (wordAt s at) q
+
+place-within : (w : List ℕ) (m : ℕ) → number.Value m ≡ keptIn w → m ≤ noPlace
+unfolding keptIn
+place-within w m =
+    each (λ (r : Number). number.Value m ≡ r → m ≤ noPlace) (sameBytes w (ascii "-"))
+    (λ h q. let i : m ≡ noPlace = cc in omega arith)
+    (λ h q. let i = decimal-within (noPlace - 1) m w q in omega arith)
+
+pub kept-within : (s : List ℕ) (at n k : ℕ) → value.Is n k ≡ keptAt s at → n ≤ noPlace
+unfolding keptAt
+kept-within s at n k q = value-on noPlace n k keptIn place-within s (wordAt s at) q

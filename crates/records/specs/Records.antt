@@ -1,25 +1,34 @@
--- "`card EID CAPACITY VOLATILE FREE LAST FALLBACK PHASE PLACE0 .. PLACE7` hands in any record, sound or not: EID 16 bytes; FALLBACK a
+-- "`card EID CAPACITY VOLATILE FREE LAST FALLBACK PHASE KEPT PLACE0 .. PLACE31` hands in any record, sound or not: EID 16 bytes; FALLBACK a
 -- place number 0-255", with a PLACE for each place of a card. The words are read from left to right, and the first that is wrong gives the reason.
-use Prim.Native.Nat.{ℕ, zero, suc}
+use Prim.Native.Nat.{ℕ, zero, suc, _-_}
 use mathlib.Core.List.{List, [], _∷_, _++_}
 use lib.ListN.{replicate}
 use Rattle.choice.specs.Choice.{pick, isSame}
+use Rattle.byte_string.specs.Bytes.{sameBytes}
 use Rattle.text.specs.Words.{part, wordAt, onWord}
+use Rattle.text.specs.Numbers.{decimalOf}
+use Rattle.text.specs.declared.numbers.Number.{Number}
+use Rattle.text.specs.declared.numbers.Number.the-variants as number
 use Rattle.text.specs.Hex.{hexReadOf, spelled}
 use Rattle.isdp.specs.Sizes.{mostPlaces, eidSize}
 use Rattle.isdp.specs.Place.{vacant}
 use Rattle.isdp.specs.declared.Isdp.{Isdp}
-use Rattle.card.specs.Cards.{cardWith}
+use Rattle.card.specs.Cards.{cardWith, noPlace}
 use Rattle.card.specs.Fresh.{zeroCard}
 use Rattle.card.specs.declared.Phase.{Phase}
-use Rattle.records.specs.Arguments.{most32, most16, most8, onValue, valueAt}
+use Rattle.records.specs.Ascii.{ascii}
+use Rattle.records.specs.Arguments.{most32, most16, most8, onNumber, onValue, valueAt}
 use Rattle.records.specs.Colons.{onRead, phaseWord, placeWord}
 use Rattle.records.specs.declared.arguments.Reason.{Reason}
-use Rattle.records.specs.declared.arguments.Reason.the-variants.{WordsMissing, BadHex, BadPlace, BadPhase}
+use Rattle.records.specs.declared.arguments.Reason.the-variants.{WordsMissing, BadHex, BadNumber, BadPlace, BadPhase}
+use Rattle.records.specs.declared.arguments.Value.{Value}
+use Rattle.records.specs.declared.arguments.Value.the-variants as value
 use Rattle.records.specs.declared.colons.Phased.{Phased}
 use Rattle.records.specs.declared.colons.Phased.the-variants as phased
 use Rattle.records.specs.declared.PhaseRead.{PhaseRead}
 use Rattle.records.specs.declared.PhaseRead.the-variants as phaseread
+use Rattle.records.specs.declared.Pending.{Pending}
+use Rattle.records.specs.declared.Pending.the-variants as pending
 use Rattle.records.specs.declared.Memory.{Memory}
 use Rattle.records.specs.declared.Memory.the-variants as memory
 use Rattle.records.specs.declared.Head.{Head}
@@ -37,13 +46,17 @@ abbrev pub onPhase {ℓ} : {X : Type ℓ} → PhaseRead → (Reason → X) → (
 onPhase (phaseread.Wrong why) g f = g why
 onPhase (phaseread.Is phase next) g f = f phase next
 
+abbrev pub onPending {ℓ} : {X : Type ℓ} → Pending → (Reason → X) → (Phase → ℕ → ℕ → X) → X
+onPending (pending.Wrong why) g f = g why
+onPending (pending.Is phase kept next) g f = f phase kept next
+
 abbrev pub onMemory {ℓ} : {X : Type ℓ} → Memory → (Reason → X) → (ℕ → ℕ → ℕ → ℕ → X) → X
 onMemory (memory.Wrong why) g f = g why
 onMemory (memory.Is capacity volatile free next) g f = f capacity volatile free next
 
-abbrev pub onHead {ℓ} : {X : Type ℓ} → Head → (Reason → X) → (ℕ → ℕ → ℕ → ℕ → ℕ → Phase → ℕ → X) → X
+abbrev pub onHead {ℓ} : {X : Type ℓ} → Head → (Reason → X) → (ℕ → ℕ → ℕ → ℕ → ℕ → Phase → ℕ → ℕ → X) → X
 onHead (head.Wrong why) g f = g why
-onHead (head.Is capacity volatile free last fallback phase next) g f = f capacity volatile free last fallback phase next
+onHead (head.Is capacity volatile free last fallback phase kept next) g f = f capacity volatile free last fallback phase kept next
 
 abbrev pub onReading {ℓ} : {X : Type ℓ} → Reading → (Reason → X) → X → X
 onReading (reading.Wrong why) g x = g why
@@ -55,6 +68,21 @@ phaseAt s at =
     onWord (wordAt s at) (phaseread.Wrong WordsMissing) λ a e.
     onPhased (phaseWord (part s a e)) (phaseread.Wrong BadPhase) λ phase. phaseread.Is phase e
 
+-- KEPT: `-`, or the number of a place. The number that stands for none is not taken, so that none has one spelling
+unfoldable pub keptIn : List ℕ → Number
+keptIn w = pick (sameBytes w (ascii "-")) (number.Value noPlace) (decimalOf (noPlace - 1) w)
+
+unfoldable pub keptAt : List ℕ → ℕ → Value
+keptAt s at =
+    onWord (wordAt s at) (value.Wrong WordsMissing) λ a e.
+    onNumber (keptIn (part s a e)) (value.Wrong BadNumber) λ n. value.Is n e
+
+-- PHASE KEPT, the change and the listing that are open, and the place after them
+unfoldable pub pendingAt : List ℕ → ℕ → Pending
+pendingAt s at =
+    onPhase (phaseAt s at) pending.Wrong λ phase b.
+    onValue (keptAt s b) pending.Wrong λ kept next. pending.Is phase kept next
+
 -- CAPACITY VOLATILE FREE, and the place after them
 unfoldable pub memoryAt : List ℕ → ℕ → Memory
 memoryAt s at =
@@ -62,13 +90,13 @@ memoryAt s at =
     onValue (valueAt most32 s b) memory.Wrong λ volatile c.
     onValue (valueAt most32 s c) memory.Wrong λ free next. memory.Is capacity volatile free next
 
--- these, LAST FALLBACK PHASE, and the place after them
+-- these, LAST FALLBACK PHASE KEPT, and the place after them
 unfoldable pub headAt : List ℕ → ℕ → Head
 headAt s at =
     onMemory (memoryAt s at) head.Wrong λ capacity volatile free b.
     onValue (valueAt most16 s b) head.Wrong λ last c.
     onValue (valueAt most8 s c) head.Wrong λ fallback d.
-    onPhase (phaseAt s d) head.Wrong λ phase next. head.Is capacity volatile free last fallback phase next
+    onPending (pendingAt s d) head.Wrong λ phase kept next. head.Is capacity volatile free last fallback phase kept next
 
 abbrev pub notHeld : Reason → Held
 notHeld why = record { reading = reading.Wrong why; places = replicate mostPlaces vacant }
@@ -83,19 +111,19 @@ placesOn (suc n) s at before =
 abbrev pub noRecord : Reason → Record
 noRecord why = record { reading = reading.Wrong why; card = zeroCard }
 
-abbrev pub fine : List ℕ → ℕ → ℕ → ℕ → ℕ → ℕ → Phase → List Isdp → Record
-fine eid capacity volatile free last fallback phase places =
+abbrev pub fine : List ℕ → ℕ → ℕ → ℕ → ℕ → ℕ → Phase → ℕ → List Isdp → Record
+fine eid capacity volatile free last fallback phase kept places =
     record {
       reading = reading.Fine;
-      card = cardWith eid capacity volatile free last fallback phase places;
+      card = cardWith eid capacity volatile free last fallback phase kept places;
     }
 
 -- what stands after the EID
 unfoldable pub recordWith : List ℕ → ℕ → List ℕ → Record
 recordWith s at eid =
-    onHead (headAt s at) noRecord λ capacity volatile free last fallback phase next.
+    onHead (headAt s at) noRecord λ capacity volatile free last fallback phase kept next.
     onReading (placesOn mostPlaces s next [] .reading) noRecord
-    (fine eid capacity volatile free last fallback phase (placesOn mostPlaces s next [] .places))
+    (fine eid capacity volatile free last fallback phase kept (placesOn mostPlaces s next [] .places))
 
 -- the words after `card`
 unfoldable pub recordAt : List ℕ → ℕ → Record

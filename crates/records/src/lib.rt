@@ -8,6 +8,7 @@ pub use arguments::Reason;
 pub use arguments::Value;
 pub use arguments::next_bytes;
 pub use arguments::next_value;
+use byte_string::same;
 use card::Card;
 use card::Phase;
 use colons::Phased;
@@ -15,13 +16,15 @@ use colons::read_phase;
 use colons::read_place;
 use isdp::Isdp;
 use text::HexRead;
+use text::Number;
 use text::Word;
+use text::decimal;
 use text::next_word;
 use text::read_hex;
 ghost use mathlib.Core.Path.{_≡_};
 ghost use Rattle.isdp.specs.Sizes.{mostPlaces};
 ghost use mathlib.Core.List.{[]};
-ghost use Rattle.records.specs.Records.{phaseAt, memoryAt, headAt, notHeld, placesOn, noRecord, recordWith, recordAt};
+ghost use Rattle.records.specs.Records.{phaseAt, keptIn, keptAt, pendingAt, memoryAt, headAt, notHeld, placesOn, noRecord, fine, recordWith, recordAt};
 
 pub enum PhaseRead {
     Is { phase: Phase, next: usize },
@@ -38,6 +41,50 @@ fn next_phase(s: &[u8], at: usize) -> PhaseRead
         return PhaseRead::Wrong(Reason::BadPhase);
     };
     PhaseRead::Is { phase, next: to }
+}
+
+// KEPT: no number spells `Card::NO_PLACE`.
+fn kept_in(w: &[u8]) -> Number
+    ensures { λ r. ⌜ r ≡ keptIn (now (w .entry)) ⌝ }
+{
+    if same(w, b"-") {
+        return Number::Value(Card::NO_PLACE as u32);
+    }
+    decimal(w, 254)
+}
+
+fn next_kept(s: &[u8], at: usize) -> Value
+    ensures { λ r. ⌜ r ≡ keptAt (now (s .entry)) at ⌝ }
+{
+    let Word::Span { from, to } = next_word(s, at) else {
+        return Value::Wrong(Reason::WordsMissing);
+    };
+    let Number::Value(n) = kept_in(&s[from..to]) else {
+        return Value::Wrong(Reason::BadNumber);
+    };
+    Value::Is { n, next: to }
+}
+
+// The change and the listing that are open.
+pub enum Pending {
+    Is { phase: Phase, kept: u8, next: usize },
+    Wrong(Reason),
+}
+
+fn pending_at(s: &[u8], at: usize) -> Pending
+    ensures { λ r. ⌜ r ≡ pendingAt (now (s .entry)) at ⌝ }
+{
+    match next_phase(s, at) {
+        PhaseRead::Wrong(why) => Pending::Wrong(why),
+        PhaseRead::Is { phase, next: b } => match next_kept(s, b) {
+            Value::Wrong(why) => Pending::Wrong(why),
+            Value::Is { n: kept, next } => Pending::Is {
+                phase,
+                kept: kept as u8,
+                next,
+            },
+        },
+    }
 }
 
 // The figures of the card's memory, which stand after the EID.
@@ -86,6 +133,7 @@ pub enum Head {
         last: u16,
         fallback: u8,
         phase: Phase,
+        kept: u8,
         next: usize,
     },
     Wrong(Reason),
@@ -108,15 +156,16 @@ fn head_at(s: &[u8], at: usize) -> Head
                 Value::Is {
                     n: fallback,
                     next: d,
-                } => match next_phase(s, d) {
-                    PhaseRead::Wrong(why) => Head::Wrong(why),
-                    PhaseRead::Is { phase, next } => Head::Is {
+                } => match pending_at(s, d) {
+                    Pending::Wrong(why) => Head::Wrong(why),
+                    Pending::Is { phase, kept, next } => Head::Is {
                         capacity,
                         volatile,
                         free,
                         last: last as u16,
                         fallback: fallback as u8,
                         phase,
+                        kept,
                         next,
                     },
                 },
@@ -188,6 +237,36 @@ fn no_record(why: Reason) -> Record
     }
 }
 
+fn fine(
+    eid: [u8; 16],
+    capacity: u32,
+    volatile: u32,
+    free: u32,
+    last: u16,
+    fallback: u8,
+    phase: Phase,
+    kept: u8,
+    places: [Isdp; Card::PLACES],
+) -> Record
+    ensures { λ r. ⌜ r ≡ fine eid capacity volatile free last fallback phase kept places ⌝ }
+{
+    let card = Card::with(
+        eid,
+        capacity,
+        volatile,
+        free,
+        last,
+        fallback,
+        phase,
+        kept,
+        places,
+    );
+    Record {
+        reading: Reading::Fine,
+        card,
+    }
+}
+
 // What stands after the EID.
 fn record_with(s: &[u8], at: usize, eid: [u8; 16]) -> Record
     ensures { λ r. ⌜ r ≡ recordWith (now (s .entry)) at eid ⌝ }
@@ -201,6 +280,7 @@ fn record_with(s: &[u8], at: usize, eid: [u8; 16]) -> Record
             last,
             fallback,
             phase,
+            kept,
             next,
         } => {
             let held = read_places(s, next);
@@ -209,7 +289,7 @@ fn record_with(s: &[u8], at: usize, eid: [u8; 16]) -> Record
                 Reading::Wrong(why) => no_record(why),
                 Reading::Fine => {
                     let places = held.places;
-                    let card = Card::with(
+                    fine(
                         eid,
                         capacity,
                         volatile,
@@ -217,12 +297,9 @@ fn record_with(s: &[u8], at: usize, eid: [u8; 16]) -> Record
                         last,
                         fallback,
                         phase,
+                        kept,
                         places,
-                    );
-                    Record {
-                        reading: Reading::Fine,
-                        card,
-                    }
+                    )
                 }
             }
         }

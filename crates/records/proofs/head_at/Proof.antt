@@ -1,4 +1,4 @@
--- `records::head_at` meets its contract: the figures of the memory, two numbers, then the phase. The casts fit, by `value-within`.
+-- `records::head_at` meets its contract: the figures of the memory, two numbers, then what is open. The casts fit, by `value-within`.
 use mathlib.Core.Path.{refl, sym, _∙_}
 use Rattle.records.proofs.Within.{value-within}
 use Rattle.records.specs.Records.{headAt}
@@ -6,15 +6,15 @@ use borrow.Author.Needs.{needs}
 use Rattle.records.proofs.head_at.Statement.{statement}
 use Rattle.records.proofs.head_at.Tie as tie
 
-cast-t25 : tie.Need-cast-t25
-cast-t25 c =
+cast-t26 : tie.Need-cast-t26
+cast-t26 c =
     let f = c .before .before .before .before .before in
     let l = f .before .before .before .before in
     let h = value-within _ _ _ _ _ (sym (l .last .given .1) ∙ l .before .before .next-value .ensures) in
     search needs
 
-cast-t26 : tie.Need-cast-t26
-cast-t26 c =
+cast-t27 : tie.Need-cast-t27
+cast-t27 c =
     let f = c .before .before .before .before .before in
     let h = value-within _ _ _ _ _ (sym (f .fallback .given .1) ∙ f .before .before .next-value2 .ensures) in
     search needs
@@ -47,7 +47,7 @@ returns-4 c =
     let f = w .before .before .before .before in
     let l = f .before .before .before .before in
     let m = l .before .before .before .before in
-    rw (← (sym (m .capacity .given .1) ∙ m .before .before .memory-at .ensures)) (rw (← (sym (l .last .given .1) ∙ l .before .before .next-value .ensures)) (rw (← (sym (f .fallback .given .1) ∙ f .before .before .next-value2 .ensures)) (rw (← (sym (w .why4 .given .1) ∙ w .before .before .next-phase .ensures)) refl)))
+    rw (← (sym (m .capacity .given .1) ∙ m .before .before .memory-at .ensures)) (rw (← (sym (l .last .given .1) ∙ l .before .before .next-value .ensures)) (rw (← (sym (f .fallback .given .1) ∙ f .before .before .next-value2 .ensures)) (rw (← (sym (w .why4 .given .1) ∙ w .before .before .pending-at .ensures)) refl)))
 
 returns-5 : tie.Need-returns-5
 unfolding headAt
@@ -56,7 +56,7 @@ returns-5 c =
     let f = p .before .before .before .before in
     let l = f .before .before .before .before in
     let m = l .before .before .before .before in
-    rw (← (sym (m .capacity .given .1) ∙ m .before .before .memory-at .ensures)) (rw (← (sym (l .last .given .1) ∙ l .before .before .next-value .ensures)) (rw (← (sym (f .fallback .given .1) ∙ f .before .before .next-value2 .ensures)) (rw (← (sym (p .phase .given .1) ∙ p .before .before .next-phase .ensures)) refl)))
+    rw (← (sym (m .capacity .given .1) ∙ m .before .before .memory-at .ensures)) (rw (← (sym (l .last .given .1) ∙ l .before .before .next-value .ensures)) (rw (← (sym (f .fallback .given .1) ∙ f .before .before .next-value2 .ensures)) (rw (← (sym (p .phase .given .1) ∙ p .before .before .pending-at .ensures)) refl)))
 
 pub head-at-spec : {M : Type 1} → statement M
 head-at-spec =
@@ -74,8 +74,8 @@ head-at-spec =
     (λ c κs. search needs)
     (λ c. search needs)
     (λ c. search needs)
-    cast-t25
     cast-t26
+    cast-t27
     returns
     returns-2
     returns-3

@@ -29,8 +29,8 @@ no-record-requires-2 c κs = search needs
 enum-told : tie.Need-enum-told
 enum-told c = search needs
 
-with-requires : tie.Need-with-requires
-with-requires c κs = search needs
+fine-requires : tie.Need-fine-requires
+fine-requires c κs = search needs
 
 returns : tie.Need-returns
 unfolding recordWith
@@ -42,7 +42,7 @@ returns-2 c = rw (← (sym (c .before .before .before .before .before .before .c
 
 returns-3 : tie.Need-returns-3
 unfolding recordWith
-returns-3 c = rw (← (sym (c .before .before .before .before .before .before .capacity .given .1) ∙ c .before .before .before .before .before .before .before .before .head-at .ensures)) (rw (← (c .before .before .before .before .read-places .ensures)) (rw (c .before .before .enum-told .given .1, c .with .ensures) refl))
+returns-3 c = rw (← (sym (c .before .before .before .before .before .before .capacity .given .1) ∙ c .before .before .before .before .before .before .before .before .head-at .ensures)) (rw (← (c .before .before .before .before .read-places .ensures)) (rw (c .before .before .enum-told .given .1, c .fine .ensures) refl))
 
 pub record-with-spec : {M : Type 1} → statement M
 record-with-spec =
@@ -56,7 +56,7 @@ record-with-spec =
     enum-known-reading
     no-record-requires-2
     enum-told
-    with-requires
+    fine-requires
     returns
     returns-2
     returns-3)
