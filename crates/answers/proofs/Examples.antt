@@ -1,4 +1,4 @@
--- What the definitions say of small cards, each by computing it: the example of the request, a refusal, and answers for a person.
+-- What the definitions say of small cards, each by computing it: the example of the request, a refusal, a part of a listing, and answers for a person.
 use mathlib.Core.Path.{_≡_, refl}
 use Prim.Native.Nat.{ℕ}
 use mathlib.Core.List.{List, [], _∷_, _++_}
@@ -7,12 +7,12 @@ use Rattle.choice.specs.Choice.{pick, isBelow, isSame}
 use Rattle.text.specs.Hex.{glyphOf, hexText, hexWord}
 use Rattle.text.specs.Numbers.{digitsText}
 use Rattle.status.specs.declared.Status.{Status}
-use Rattle.status.specs.declared.Status.the-variants.{Done, NotHeld, Unsound}
+use Rattle.status.specs.declared.Status.the-variants.{Done, More, NotHeld, Unsound}
 use Rattle.isdp.specs.Aids.{named, padded}
 use Rattle.isdp.specs.LifeCycle.{disabled, enabled}
 use Rattle.isdp.specs.Profile.{profile}
 use Rattle.isdp.specs.Place.{vacant}
-use Rattle.card.specs.Cards.{cardWith}
+use Rattle.card.specs.Cards.{cardWith, noPlace, keeping}
 use Rattle.card.specs.Fresh.{zeroCard}
 use Rattle.card.specs.Notifications.{silent}
 use Rattle.card.specs.declared.Answer.{Answer}
@@ -23,7 +23,7 @@ use Rattle.card.specs.declared.Phase.the-variants.{Trial}
 use Rattle.profiles.specs.Letters.{text}
 use Rattle.answers.specs.Lines.{issuedWord, noticeWord, answerLine}
 use Rattle.profiles.specs.Profiles.{spaces, leadOf, columnText, stateText, yesText, provisioningText, policyText, nameCells, figureCells, roleCells, rowText, placeText, rowsText, widestOf, headText, tableText}
-use Rattle.answers.specs.Explained.{meaningOf, wordText, responseText, kindText, issuedText, noticeText, openText, trialText, phaseText, explainedText}
+use Rattle.answers.specs.Explained.{meaningOf, wordText, responseText, kindText, issuedText, noticeText, openText, trialText, phaseText, listingText, explainedText}
 
 abbrev aid-01 : List ℕ
 aid-01 = 0xA0 ∷ 0x00 ∷ 0x00 ∷ 0x00 ∷ 0x01 ∷ []
@@ -35,7 +35,7 @@ aid-02 = 0xA0 ∷ 0x00 ∷ 0x00 ∷ 0x00 ∷ 0x02 ∷ []
 -- card, with a mark of 0A, at place 3
 abbrev changed : Card
 changed =
-    cardWith (replicate 16 0) 1048576 0 979040 1 0 (Trial 0 10 1)
+    cardWith (replicate 16 0) 1048576 0 979040 1 0 (Trial 0 10 1) noPlace
     (profile (named aid-01) disabled 65536 4096 0 1 ∷ vacant ∷ profile (named aid-02) enabled 2000 0 4 0 ∷ profile (named aid-02) enabled 2000 0 4 0x0A ∷ [])
 
 abbrev answered : Status → Card → Notification → ℕ → Answer
@@ -58,6 +58,10 @@ pub response-line : answerLine (answered Done changed silent 0) (0xE3 ∷ 0x0A �
 unfolding answerLine noticeWord hexText hexWord glyphOf digitsText pick isBelow
 response-line = refl
 
+pub part-line : answerLine (answered More (keeping changed 2) silent 20) (0xE3 ∷ 0x0A ∷ []) ≡ text "6310 E30A - 20\n"
+unfolding answerLine noticeWord hexText hexWord glyphOf digitsText pick isBelow
+part-line = refl
+
 -- the same answers for a person
 pub enabled-explained : explainedText (answered Done changed first-number 20) []
     ≡ text "90 00 done\n"
@@ -69,8 +73,32 @@ pub enabled-explained : explainedText (answered Done changed first-number 20) []
     ++ text "phase trial: previous at place 0, ticks left 10, number 1\n"
     ++ text "ticks to come 20\n"
     ++ text "\n"
-unfolding explainedText wordText meaningOf responseText noticeText issuedText kindText tableText widestOf headText rowsText placeText rowText nameCells figureCells roleCells columnText leadOf spaces stateText yesText provisioningText policyText phaseText trialText openText hexText glyphOf digitsText pick isBelow isSame padded
+unfolding explainedText wordText meaningOf responseText noticeText issuedText kindText tableText widestOf headText rowsText placeText rowText nameCells figureCells roleCells columnText leadOf spaces stateText yesText provisioningText policyText phaseText trialText openText listingText hexText glyphOf digitsText pick isBelow isSame padded
 enabled-explained = refl
+
+-- a part of a listing, and the answer where none is open
+pub part-explained : explainedText (answered More (keeping changed 2) silent 20) (0xE3 ∷ 0x0A ∷ [])
+    ≡ text "63 10 done, more rows to come\n"
+    ++ text "response E30A\n"
+    ++ text "  place  AID         state           quota     used  fall-back  provisioning  policy\n"
+    ++ text "      0  A000000001  DISABLED        65536     4096  yes        yes           none\n"
+    ++ text "      2  A000000002  ENABLED          2000        0                           deleted once disabled\n"
+    ++ text "      3  A000000002  ENABLED          2000        0             0A            deleted once disabled\n"
+    ++ text "phase trial: previous at place 0, ticks left 10, number 1\n"
+    ++ text "listing open: next row at place 2\n"
+    ++ text "ticks to come 20\n"
+    ++ text "\n"
+unfolding explainedText wordText meaningOf responseText noticeText tableText widestOf headText rowsText placeText rowText nameCells figureCells roleCells columnText leadOf spaces stateText yesText provisioningText policyText phaseText trialText openText listingText hexText glyphOf digitsText pick isBelow isSame padded
+part-explained = refl
+
+pub refused-explained : explainedText (answered NotHeld zeroCard silent 0) []
+    ≡ text "6A 88 target not held, or not the outstanding number, or no listing open\n"
+    ++ text "  no profile is held\n"
+    ++ text "phase quiet\n"
+    ++ text "ticks to come 0\n"
+    ++ text "\n"
+unfolding explainedText wordText meaningOf responseText noticeText tableText widestOf headText rowsText placeText phaseText listingText hexText glyphOf digitsText pick isBelow isSame
+refused-explained = refl
 
 pub unsound-explained : explainedText (answered Unsound zeroCard silent 0) []
     ≡ text "6F 00 the card is not sound\n"
@@ -78,5 +106,5 @@ pub unsound-explained : explainedText (answered Unsound zeroCard silent 0) []
     ++ text "phase quiet\n"
     ++ text "ticks to come 0\n"
     ++ text "\n"
-unfolding explainedText wordText meaningOf responseText noticeText tableText widestOf headText rowsText placeText phaseText hexText glyphOf digitsText pick isBelow isSame
+unfolding explainedText wordText meaningOf responseText noticeText tableText widestOf headText rowsText placeText phaseText listingText hexText glyphOf digitsText pick isBelow isSame
 unsound-explained = refl

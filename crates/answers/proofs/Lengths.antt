@@ -3,9 +3,10 @@ use Prim.Native.Nat.{ℕ, _+_, _*_, _/_, _%_, _≤_}
 use native.Mathlib.Omega.{arith}
 use mathlib.Core.List.{List, [], _∷_}
 use lib.ListN.{length, length-append}
+use Rattle.choice.proofs.Branches.{each-eq}
 use Rattle.text.specs.Hex.{hexWord}
 use Rattle.status.specs.declared.Status.{Status}
-use Rattle.status.specs.declared.Status.the-variants.{Unsound, BufferShort, LengthWrong, ClassWrong, InstructionWrong, ParametersWrong, DataWrong, StateWrong, NotHeld, PolicyForbids, VerdictWrong, NoRoom, Done}
+use Rattle.status.specs.declared.Status.the-variants.{Unsound, BufferShort, LengthWrong, ClassWrong, InstructionWrong, ParametersWrong, DataWrong, StateWrong, NotHeld, PolicyForbids, VerdictWrong, NoRoom, More, Done}
 use Rattle.card.specs.Notifications.{codeOf}
 use Rattle.card.specs.declared.Answer.{Answer}
 use Rattle.card.specs.declared.Kind.{Kind}
@@ -16,7 +17,7 @@ use Rattle.card.specs.declared.Phase.the-variants.{Quiet, Trial, Back, Fallen}
 use Rattle.profiles.specs.Profiles.{tableText, mostTable}
 use Rattle.profiles.proofs.Lengths.{hex-length, decimal-length, aid-length}
 use Rattle.answers.specs.Lines.{issuedWord, noticeBy, noticeWord, answerLine, mostLine}
-use Rattle.answers.specs.Explained.{meaningOf, wordText, responseText, kindText, issuedText, noticeIn, noticeText, openText, trialText, phaseText, explainedText, mostExplained}
+use Rattle.answers.specs.Explained.{meaningOf, wordText, responseText, kindText, issuedText, noticeIn, noticeText, openText, trialText, phaseText, listingText, explainedText, mostExplained}
 
 -- the answer line
 word-length : (s : List ℕ) → length (hexWord s) ≤ length s * 2 + 1
@@ -47,7 +48,7 @@ line-length a response h =
     (omega (arith, word-length response, notice-length (a .notification) h, decimal-length (a .ticks)))
 
 -- the answer for a person: what stands above the table
-meaning-length : (s : Status) → length (meaningOf s) ≤ 61
+meaning-length : (s : Status) → length (meaningOf s) ≤ 66
 unfolding meaningOf
 meaning-length Unsound = omega arith
 meaning-length BufferShort = omega arith
@@ -61,9 +62,10 @@ meaning-length NotHeld = omega arith
 meaning-length PolicyForbids = omega arith
 meaning-length VerdictWrong = omega arith
 meaning-length NoRoom = omega arith
+meaning-length More = omega arith
 meaning-length Done = omega arith
 
-status-length : (s : Status) → length (wordText s) ≤ 68
+status-length : (s : Status) → length (wordText s) ≤ 73
 unfolding wordText
 status-length s = simp (length-append, hex-length) (omega (arith, meaning-length s))
 
@@ -107,6 +109,12 @@ phase-length (Trial previous left number) = simp length-append (omega (arith, de
 phase-length (Back left number) = simp length-append (omega (arith, open-length left number))
 phase-length (Fallen left number) = simp length-append (omega (arith, open-length left number))
 
+listing-length : (kept : ℕ) → length (listingText kept) ≤ 53
+unfolding listingText
+listing-length kept =
+    each-eq (λ (l : List ℕ). length l ≤ 53) (λ h. omega arith)
+    (λ h. simp length-append (omega (arith, decimal-length kept)))
+
 pub explained-length : (a : Answer) (response : List ℕ) → length (a .notification .aid .bytes) ≤ 16 → length (tableText (a .card)) ≤ mostTable
     → length (explainedText a response) ≤ length response * 2 + mostExplained
 unfolding explainedText
@@ -118,5 +126,6 @@ explained-length a response h k =
       response-length response,
       sentence-length (a .notification) h,
       phase-length (a .card .phase),
+      listing-length (a .card .kept),
       decimal-length (a .ticks),
     ))

@@ -1,12 +1,14 @@
 -- What the program writes of a call for a person: the word and what it means, the response and the notification where there is one,
--- the profiles as a table, the phase, and the ticks to come.
+-- the profiles as a table, the phase, where a listing goes on, and the ticks to come.
 use Prim.Native.Nat.{ℕ, _+_, _/_, _%_}
 use mathlib.Core.List.{List, [], _∷_, _++_}
+use Rattle.choice.specs.Choice.{pick, isSame}
 use Rattle.text.specs.Hex.{hexText}
 use Rattle.text.specs.Numbers.{decimalText}
 use Rattle.status.specs.StatusWords.{numberOf}
 use Rattle.status.specs.declared.Status.{Status}
-use Rattle.status.specs.declared.Status.the-variants.{Unsound, BufferShort, LengthWrong, ClassWrong, InstructionWrong, ParametersWrong, DataWrong, StateWrong, NotHeld, PolicyForbids, VerdictWrong, NoRoom, Done}
+use Rattle.status.specs.declared.Status.the-variants.{Unsound, BufferShort, LengthWrong, ClassWrong, InstructionWrong, ParametersWrong, DataWrong, StateWrong, NotHeld, PolicyForbids, VerdictWrong, NoRoom, More, Done}
+use Rattle.card.specs.Cards.{noPlace}
 use Rattle.card.specs.declared.Answer.{Answer}
 use Rattle.card.specs.declared.Kind.{Kind}
 use Rattle.card.specs.declared.Kind.the-variants.{Silent, Changed, RolledBack, FallenBack}
@@ -26,10 +28,11 @@ meaningOf InstructionWrong = text "instruction not known"
 meaningOf ParametersWrong = text "P1 or P2 wrong"
 meaningOf DataWrong = text "data field or values wrong, or AID already held"
 meaningOf StateWrong = text "a change is open, or none is, or the target's state is wrong"
-meaningOf NotHeld = text "target not held, or not the outstanding number"
+meaningOf NotHeld = text "target not held, or not the outstanding number, or no listing open"
 meaningOf PolicyForbids = text "the policy forbids it"
 meaningOf VerdictWrong = text "token verdict not 1"
 meaningOf NoRoom = text "no free place, or no room in the memory or the quota"
+meaningOf More = text "done, more rows to come"
 meaningOf Done = text "done"
 
 unfoldable pub wordText : Status → List ℕ
@@ -78,6 +81,10 @@ phaseText (Trial previous left number) = trialText previous left number
 phaseText (Back left number) = text "phase back: " ++ openText left number
 phaseText (Fallen left number) = text "phase fallen: " ++ openText left number
 
+-- a card that keeps no place has no listing open
+unfoldable pub listingText : ℕ → List ℕ
+listingText kept = pick (isSame kept noPlace) [] (text "listing open: next row at place " ++ decimalText kept ++ text "\n")
+
 -- an empty line ends what is said of a call
 unfoldable pub explainedText : Answer → List ℕ → List ℕ
 explainedText a response =
@@ -86,10 +93,11 @@ explainedText a response =
     ++ noticeText (a .notification)
     ++ tableText (a .card)
     ++ phaseText (a .card .phase)
+    ++ listingText (a .card .kept)
     ++ text "ticks to come "
     ++ decimalText (a .ticks)
     ++ text "\n\n"
 
--- beside the table and the digits of the response it has 317 bytes at the most
+-- beside the table and the digits of the response it has 375 bytes at the most
 abbrev pub mostExplained : ℕ
-mostExplained = mostTable + 317
+mostExplained = mostTable + 375

@@ -1,7 +1,8 @@
-// An answer for a person: the word and what it means, response and notification, the profiles, the phase, and the ticks to come.
+// An answer for a person: the word and what it means, response and notification, the profiles, the phase, an open listing, and the ticks to come.
 use byte_string::put_byte;
 use byte_string::put_bytes;
 use card::Answer;
+use card::Card;
 use card::Kind;
 use card::Notification;
 use card::Phase;
@@ -14,7 +15,7 @@ use text::put_hex_8;
 ghost use Prim.Native.Nat.{_+_, _*_, _≤_};
 ghost use lib.ListN.{length};
 ghost use Rattle.byte_string.specs.Put.{Wrote};
-ghost use Rattle.answers.specs.Explained.{meaningOf, wordText, responseText, kindText, issuedText, noticeText, openText, trialText, phaseText, explainedText, mostExplained};
+ghost use Rattle.answers.specs.Explained.{meaningOf, wordText, responseText, kindText, issuedText, noticeText, openText, trialText, phaseText, listingText, explainedText, mostExplained};
 
 fn put_meaning(status: Status, buf: &mut [u8], at: usize) -> usize
     ensures { λ r. ⌜ Wrote (now (buf .entry)) at (meaningOf status) r (now (buf .exit)) ⌝ }
@@ -36,7 +37,11 @@ fn put_meaning(status: Status, buf: &mut [u8], at: usize) -> usize
                 b"a change is open, or none is, or the target's state is wrong",
             )
         }
-        Status::NotHeld => put_bytes(buf, at, b"target not held, or not the outstanding number"),
+        Status::NotHeld => put_bytes(
+            buf,
+            at,
+            b"target not held, or not the outstanding number, or no listing open",
+        ),
         Status::PolicyForbids => put_bytes(buf, at, b"the policy forbids it"),
         Status::VerdictWrong => put_bytes(buf, at, b"token verdict not 1"),
         Status::NoRoom => {
@@ -46,6 +51,7 @@ fn put_meaning(status: Status, buf: &mut [u8], at: usize) -> usize
                 b"no free place, or no room in the memory or the quota",
             )
         }
+        Status::More => put_bytes(buf, at, b"done, more rows to come"),
         Status::Done => put_bytes(buf, at, b"done"),
     }
 }
@@ -152,6 +158,17 @@ fn put_phase(phase: Phase, buf: &mut [u8], at: usize) -> usize
     }
 }
 
+fn put_listing(kept: u8, buf: &mut [u8], at: usize) -> usize
+    ensures { λ r. ⌜ Wrote (now (buf .entry)) at (listingText kept) r (now (buf .exit)) ⌝ }
+{
+    if kept == Card::NO_PLACE {
+        return at;
+    }
+    let a = put_bytes(buf, at, b"listing open: next row at place ");
+    let b = put_decimal(buf, a, kept as u64);
+    put_byte(buf, b, b'\n')
+}
+
 // The answer for a person; the response is what the call left in its buffer.
 pub fn write_explained(answer: Answer, response: &[u8], buf: &mut [u8], at: usize) -> usize
     ensures { λ r. ⌜ Wrote (now (buf .entry)) at (explainedText answer (now (response .entry))) r (now (buf .exit)) × (length (explainedText answer (now (response .entry))) ≤ length (now (response .entry)) * 2 + mostExplained) ⌝ }
@@ -165,7 +182,8 @@ pub fn write_explained(answer: Answer, response: &[u8], buf: &mut [u8], at: usiz
     let c = put_notice(notification, buf, b);
     let d = put_table(card, buf, c);
     let e = put_phase(phase, buf, d);
-    let f = put_bytes(buf, e, b"ticks to come ");
-    let g = put_decimal(buf, f, answer.ticks as u64);
-    put_bytes(buf, g, b"\n\n")
+    let f = put_listing(card.kept, buf, e);
+    let g = put_bytes(buf, f, b"ticks to come ");
+    let h = put_decimal(buf, g, answer.ticks as u64);
+    put_bytes(buf, h, b"\n\n")
 }

@@ -1,5 +1,5 @@
 -- A number that was read is at most what it may be. By cases on the word and on what its digits spell.
-use Prim.Native.Nat.{ℕ, _+_, _-_, _≤_}
+use Prim.Native.Nat.{ℕ, _+_, _≤_}
 use mathlib.Core.Path.{_≡_, refl}
 use mathlib.Core.List.{List}
 use native.Mathlib.Omega.{arith}
@@ -53,7 +53,7 @@ unfolding keptIn
 place-within w m =
     each (λ (r : Number). number.Value m ≡ r → m ≤ noPlace) (sameBytes w (ascii "-"))
     (λ h q. let i : m ≡ noPlace = cc in omega arith)
-    (λ h q. let i = decimal-within (noPlace - 1) m w q in omega arith)
+    (λ h q. let i = decimal-within _ m w q in omega arith)
 
 pub kept-within : (s : List ℕ) (at n k : ℕ) → value.Is n k ≡ keptAt s at → n ≤ noPlace
 unfolding keptAt

@@ -26,6 +26,9 @@ put-table-requires c κs = search needs
 put-phase-requires : tie.Need-put-phase-requires
 put-phase-requires c κs = search needs
 
+put-listing-requires : tie.Need-put-listing-requires
+put-listing-requires c κs = search needs
+
 slice-aggregate-put-bytes : tie.Need-slice-aggregate-put-bytes
 slice-aggregate-put-bytes c = search needs
 
@@ -45,13 +48,33 @@ put-bytes-requires-2 : tie.Need-put-bytes-requires-2
 put-bytes-requires-2 c κs = search needs
 
 same-length : tie.Need-same-length
-same-length c = wrote-size (wrote-then (wrote-then (wrote-then (wrote-then (wrote-then (wrote-then (wrote-then (c .before .before .before .before .before .before .before .before .before .before .before .before .before .before .before .before .before .before .before .before .before .before .before .before .before .before .before .before .before .before .before .before .before .put-word .ensures) (c .before .before .before .before .before .before .before .before .before .before .before .before .before .before .before .before .before .before .before .before .before .before .before .before .before .before .before .before .before .put-response .ensures)) (c .before .before .before .before .before .before .before .before .before .before .before .before .before .before .before .before .before .before .before .before .before .before .before .before .before .put-notice .ensures)) (c .before .before .before .before .before .before .before .before .before .before .before .before .before .before .before .before .before .before .before .before .before .put-table .ensures .0)) (c .before .before .before .before .before .before .before .before .before .before .before .before .before .before .before .before .before .put-phase .ensures)) (c .before .before .before .before .before .before .before .before .before .before .before .before .put-bytes .ensures)) (c .before .before .before .before .before .before .before .put-decimal .ensures)) (c .before .before .put-bytes2 .ensures))
+same-length c =
+    let e = c .before .before in
+    let d = e .before .before .before .before .before in
+    let k = d .before .before .before .before .before in
+    let l = k .before .before .before .before .before in
+    let p = l .before .before .before .before in
+    let t = p .before .before .before .before in
+    let n = t .before .before .before .before in
+    let r = n .before .before .before .before in
+    let w = r .before .before .before .before in
+    wrote-size (wrote-then (wrote-then (wrote-then (wrote-then (wrote-then (wrote-then (wrote-then (wrote-then (w .put-word .ensures) (r .put-response .ensures)) (n .put-notice .ensures)) (t .put-table .ensures .0)) (p .put-phase .ensures)) (l .put-listing .ensures)) (k .put-bytes .ensures)) (d .put-decimal .ensures)) (e .put-bytes2 .ensures))
 
 returns : tie.Need-returns
 unfolding explainedText
-returns c = let s = c .before .before .before .before .before .before .before .before .before .before .before .before .before .before .before .before .before .before .before .before .before .before .before .before .before .before .before .before .before .before .before .before .before .before .before .before .before .before .before in
-    let n : length (s .args .answer .notification .aid .bytes) ≡ 16 = wide (s .args .answer) _ (s .good .0) in
-    (wrote-then (wrote-then (wrote-then (wrote-then (wrote-then (wrote-then (wrote-then (c .before .before .before .before .before .before .before .before .before .before .before .before .before .before .before .before .before .before .before .before .before .before .before .before .before .before .before .before .before .before .before .before .before .put-word .ensures) (c .before .before .before .before .before .before .before .before .before .before .before .before .before .before .before .before .before .before .before .before .before .before .before .before .before .before .before .before .before .put-response .ensures)) (c .before .before .before .before .before .before .before .before .before .before .before .before .before .before .before .before .before .before .before .before .before .before .before .before .before .put-notice .ensures)) (c .before .before .before .before .before .before .before .before .before .before .before .before .before .before .before .before .before .before .before .before .before .put-table .ensures .0)) (c .before .before .before .before .before .before .before .before .before .before .before .before .before .before .before .before .before .put-phase .ensures)) (c .before .before .before .before .before .before .before .before .before .before .before .before .put-bytes .ensures)) (c .before .before .before .before .before .before .before .put-decimal .ensures)) (c .before .before .put-bytes2 .ensures), explained-length (s .args .answer) _ (omega arith) (c .before .before .before .before .before .before .before .before .before .before .before .before .before .before .before .before .before .before .before .before .before .put-table .ensures .1))
+returns c =
+    let e = c .before .before in
+    let d = e .before .before .before .before .before in
+    let k = d .before .before .before .before .before in
+    let l = k .before .before .before .before .before in
+    let p = l .before .before .before .before in
+    let t = p .before .before .before .before in
+    let n = t .before .before .before .before in
+    let r = n .before .before .before .before in
+    let w = r .before .before .before .before in
+    let s = w .before .before .before .before .before .before in
+    let h : length (s .args .answer .notification .aid .bytes) ≡ 16 = wide (s .args .answer) _ (s .good .0) in
+    (wrote-then (wrote-then (wrote-then (wrote-then (wrote-then (wrote-then (wrote-then (wrote-then (w .put-word .ensures) (r .put-response .ensures)) (n .put-notice .ensures)) (t .put-table .ensures .0)) (p .put-phase .ensures)) (l .put-listing .ensures)) (k .put-bytes .ensures)) (d .put-decimal .ensures)) (e .put-bytes2 .ensures), explained-length (s .args .answer) _ (omega arith) (t .put-table .ensures .1))
 
 pub write-explained-spec : {M : Type 1} → statement M
 write-explained-spec =
@@ -62,6 +85,7 @@ write-explained-spec =
     put-notice-requires
     put-table-requires
     put-phase-requires
+    put-listing-requires
     slice-aggregate-put-bytes
     put-bytes-requires
     cast-put-decimal
