@@ -1,14 +1,17 @@
 -- Lines of each kind and of each fault, by computing.
+use Prim.Native.Nat.{ℕ, _+_, _-_}
 use Prim.Native.String.{String}
 use mathlib.Core.Path.{_≡_, refl}
-use mathlib.Core.List.{List, [], _∷_, map}
+use mathlib.Core.List.{List, [], _∷_, _++_, map}
 use lib.ListN.{replicate}
 use Rattle.choice.specs.Choice.{pick, atMost, isBelow, isSame}
 use Rattle.byte_string.specs.Bytes.{sameBytes}
 use Rattle.text.specs.Words.{before, leading, wordsOn, wordsOf, wordFrom, wordAt}
 use Rattle.text.specs.Numbers.{digitsOn, decimalOf}
 use Rattle.text.specs.Hex.{nibbleOf, pairsOf, isHex}
+use Rattle.isdp.specs.Sizes.{mostPlaces}
 use Rattle.records.specs.Ascii.{ascii}
+use Rattle.records.proofs.Examples.{dashes}
 use Rattle.records.specs.Arguments.{bytesAt, valueAt}
 use Rattle.script.specs.Orders.{verbOf, counted, inner, valueOr, freshWith, freshAt, commandAt, keyedAt, storedAt, finishedAt, orderBy, orderOf}
 use Rattle.records.specs.declared.arguments.Reason.the-variants.{TooLong, UnknownWord, WordsMissing, TooManyWords, BadHex, BadNumber}
@@ -43,13 +46,19 @@ examples =
     ∷ record { line = "stored A0F 4294967296"; says = Wrong BadHex }
     ∷ record { line = "stored A0 4294967296"; says = Wrong BadNumber }
     ∷ record { line = "command 0 80 1025"; says = Wrong BadNumber }
-    ∷ record { line = "card 89 0 0 0 0 0 Q - - - - - - -"; says = Wrong WordsMissing }
-    ∷ record { line = "card 89 0 0 0 0 0 Q - - - - - - - -"; says = Record 4 }
     ∷ []
 
 says-so : map (λ (e : Example). orderOf (ascii (e .line))) examples ≡ map (λ (e : Example). e .says) examples
 unfolding orderOf orderBy verbOf counted freshWith freshAt commandAt keyedAt storedAt finishedAt bytesAt valueAt valueOr pick atMost isBelow isSame before leading sameBytes wordsOn wordsOf wordFrom wordAt digitsOn decimalOf nibbleOf pairsOf isHex
 says-so = refl
+
+-- a `card` line with so many words for its places
+abbrev card-line : ℕ → Order
+card-line n = orderOf (ascii "card 89 0 0 0 0 0 Q -" ++ dashes n)
+
+card-lines : (card-line (mostPlaces - 1) ∷ card-line mostPlaces ∷ card-line (mostPlaces + 1) ∷ []) ≡ Wrong WordsMissing ∷ Record 4 ∷ Wrong TooManyWords ∷ []
+unfolding orderOf orderBy verbOf counted pick atMost isBelow isSame before leading sameBytes wordsOn wordsOf wordFrom wordAt
+card-lines = refl
 
 -- a line of 4,096 bytes at the most
 too-long : orderOf (replicate 4097 32) ≡ Wrong TooLong

@@ -86,9 +86,9 @@ finishedAt s at =
     onValue (valueAt most8 s b) order.Wrong λ policy c.
     onValue (valueOr 1 most8 s c) order.Wrong λ mark e. inner (call.Finished aid policy mark)
 
--- `card` EID CAPACITY VOLATILE LAST FALLBACK PHASE, and a word for each place
+-- `card` EID CAPACITY VOLATILE FREE LAST FALLBACK PHASE KEPT, and a word for each place
 abbrev pub recordWords : ℕ
-recordWords = 8 + mostPlaces
+recordWords = 9 + mostPlaces
 
 -- by the first word, which ends at `at`, of n words
 unfoldable pub orderBy : Verb → ℕ → List ℕ → ℕ → Order

@@ -37,8 +37,8 @@ pub enum Order {
     Wrong(Reason),
 }
 
-// The words of a `card` line: seven, and one for each place.
-const RECORD: usize = 8 + Card::PLACES;
+// The words of a `card` line: nine, and one for each place.
+const RECORD: usize = 9 + Card::PLACES;
 
 pub enum Verb {
     Fresh,

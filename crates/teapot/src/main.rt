@@ -22,9 +22,9 @@ ghost use Rattle.replies.specs.Replies.{mostText};
 
 // The bytes collected before they are written out, and the room that is kept for the answer of one line: no answer is longer, which
 // `make_room` promises.
-const OUT: usize = 16384;
+const OUT: usize = 32768;
 
-const ANSWER: usize = 4096;
+const ANSWER: usize = 16384;
 
 struct State {
     window: Window,
@@ -62,7 +62,7 @@ fn write_out(out: &[u8], n: usize) -> usize
 
 // The same where the room for one more answer is short: after it the longest answer has room.
 fn make_room(out: &[u8], n: usize) -> usize
-    requires { ⌜ (n ≤ length (now out)) × (length (now out) ≡ 16384) ⌝ }
+    requires { ⌜ (n ≤ length (now out)) × (length (now out) ≡ 32768) ⌝ }
     ensures { λ r. ⌜ r + mostText ≤ length (now (out .entry)) ⌝ }
 {
     if OUT - ANSWER < n {
@@ -99,7 +99,7 @@ fn more(state: State, fd: i32, buf: &mut [u8]) -> State {
 
 // The next line, or more of the script. A line that is too long is told by as many bytes as no line may have.
 fn seek(state: State, fd: i32, buf: &mut [u8], out: &[u8], filled: usize) -> Step
-    requires { ⌜ (4096 < length (now buf)) × ((filled ≤ length (now out)) × (length (now out) ≡ 16384)) ⌝ }
+    requires { ⌜ (4096 < length (now buf)) × ((filled ≤ length (now out)) × (length (now out) ≡ 32768)) ⌝ }
     ensures { λ r. ⌜ (r .from ≤ r .to) × ((r .to ≤ length (now (buf .exit))) × (r .filled + mostText ≤ length (now (out .entry)))) ⌝ }
 {
     let window = state.window;

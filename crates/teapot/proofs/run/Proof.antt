@@ -9,7 +9,7 @@ use Rattle.teapot.proofs.run.Statement.{statement}
 use Rattle.teapot.proofs.run.Tie as tie
 
 abbrev Inv-loop : tie.InvT-loop
-Inv-loop fd options buf₀ out₀ bytes₀ response₀ turn₀ state₀ turns₀ buf out bytes response turn state turns = (16384 ≡ length buf) × ((16384 ≡ length out) × (turn .filled ≤ 16384))
+Inv-loop fd options buf₀ out₀ bytes₀ response₀ turn₀ state₀ turns₀ buf out bytes response turn state turns = (16384 ≡ length buf) × ((32768 ≡ length out) × (turn .filled ≤ 32768))
 
 abbrev μ-loop : tie.MeasureT-loop
 μ-loop fd options buf₀ out₀ bytes₀ response₀ turn₀ state₀ turns₀ buf out bytes response turn state turns = turns
