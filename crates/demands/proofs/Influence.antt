@@ -7,9 +7,9 @@ use mathlib.Core.Bool.{Bool, true, false, not, cond, false≢true}
 use lib.ListN.{set}
 use borrow.Author.Tests.{not-true}
 use Rattle.status.specs.StatusWords.{isDone}
-use Rattle.status.specs.Rows.{Row, row, wordOf}
+use Rattle.status.specs.Rows.{Row, row}
 use Rattle.status.specs.declared.Status.{Status}
-use Rattle.status.specs.declared.Status.the-variants.{Unsound, BufferShort, LengthWrong, ClassWrong, InstructionWrong, ParametersWrong, DataWrong, Done}
+use Rattle.status.specs.declared.Status.the-variants.{Unsound, BufferShort, LengthWrong, ClassWrong, InstructionWrong, ParametersWrong, DataWrong}
 use Rattle.isdp.specs.LifeCycle.{withUsed}
 use Rattle.isdp.specs.Place.{isFor, clash}
 use Rattle.isdp.specs.declared.Isdp.{Isdp}

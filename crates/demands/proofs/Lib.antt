@@ -31,6 +31,8 @@ pub mod Free
 pub mod Provisioning
 pub mod Room
 pub mod RoomMet
+pub mod Listing
+pub mod ListingMet
 pub mod Summed
 pub mod InfluenceMet
 pub mod Notified

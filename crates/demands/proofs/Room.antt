@@ -9,7 +9,6 @@ use lib.ListN.{length}
 use lib.Dec.{eqb}
 use borrow.Author.Tests.{eqb-true, eq-eqb, le-leb}
 use Rattle.status.specs.StatusWords.{isDone}
-use Rattle.status.specs.declared.Status.the-variants.{Done}
 use Rattle.isdp.specs.Aids.{aidOk, aidOf, bytesOf}
 use Rattle.isdp.specs.LifeCycle.{selectable, enabled, isCreated}
 use Rattle.isdp.specs.Place.{vacant, held, placeOk}
@@ -38,7 +37,6 @@ use Rattle.demands.specs.Engines.{reached, reachedBy}
 use Rattle.demands.specs.Room.{Inner, Inner.keyed, Inner.stored, Inner.finished, innerCall, innerCalls, Writes.commands, NoRoomLost}
 use Rattle.demands.proofs.Words.{done-as}
 use Rattle.demands.proofs.Frames.{taken-sound}
-use Rattle.demands.proofs.Taken.{takes-step}
 use Rattle.demands.proofs.Demand1.{refusals}
 use Rattle.demands.proofs.CallLaws.{every-call}
 

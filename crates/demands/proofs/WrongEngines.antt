@@ -12,7 +12,7 @@ use Rattle.status.specs.StatusWords.{isDone}
 use Rattle.status.specs.declared.Status.{Status}
 use Rattle.status.specs.declared.Status.the-variants.{StateWrong, NotHeld, Done}
 use Rattle.status.specs.Rows.{wordOf}
-use Rattle.isdp.specs.Aids.{padded, noAid}
+use Rattle.isdp.specs.Aids.{padded}
 use Rattle.isdp.specs.Place.{isFor, clash, zeros, placeOk}
 use Rattle.places.specs.Places.{seek, quotas, allOf, anyOf, countOf, distinct, allOff, enableAt}
 use Rattle.card.specs.Cards.{noPlace, keeping, isQuiet}
@@ -21,7 +21,7 @@ use Rattle.card.proofs.Counts.{steps-are, steps-unique}
 use Rattle.card.proofs.Freshness.{fresh-sound}
 use Rattle.card.specs.Sound.{phaseOk, sound}
 use Rattle.card.specs.Clock.{tickOf, lostOf, confirmOf}
-use Rattle.card.specs.Steps.{stepTo, tickStep, lostStep, confirmStep}
+use Rattle.card.specs.Steps.{tickStep, lostStep, confirmStep}
 use Rattle.card.specs.Notifications.{noticeSince}
 use Rattle.card.specs.Ticks.{stepsIn, ticksToCome}
 use Rattle.card.specs.Answers.{Outcome, refused, accepted}
@@ -38,11 +38,10 @@ use Rattle.install.specs.Install.{prefixedOf, prefixedAt, namesAt, rightsAt, in
 use Rattle.command.specs.Framing.{lengthWrong, classRight, classWrong, instructionWrong, parametersRight, parametersWrong, shapeRight, shapeWrong}
 use Rattle.command.specs.Requests.{fieldOf, dataWrong}
 use Rattle.responses.specs.Responses.{statusBody, statusRow, rowOf, partFrom, leftFrom, partGiven, leftAfter, oneStatus, dataResponse, deletedResponse}
-use Rattle.steps.specs.Steps.{responseOf}
-use Rattle.manager.specs.Calls.{Call, Call.Keyed, asked}
+use Rattle.manager.specs.Calls.{Call, Call.Keyed}
 use Rattle.manager.proofs.Kept.{step-sound, run-sound}
 use Rattle.manager.specs.Manager.{step, run}
-use Rattle.demands.specs.Change.{isTick, confirms, ticksAmong, staysOpen, Opens, Opens.enables, tableWord}
+use Rattle.demands.specs.Change.{isTick, confirms, ticksAmong, staysOpen, Opens, Opens.enables}
 use Rattle.demands.specs.Inputs.{freshOf}
 use Rattle.demands.specs.Examples.{aid, inputs, getStatus, setFallBack, enable, confirm, create, loadWith, load, ticks}
 use Rattle.demands.specs.Engines.{Engine, reached, remembered, cardAfter, answerAfter, Answered, MeetsDemand3}

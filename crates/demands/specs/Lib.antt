@@ -23,6 +23,7 @@ pub mod Others
 pub mod Free
 pub mod Provisioning
 pub mod Room
+pub mod Listing
 pub mod Summed
 pub mod Notified
 pub mod SilentEngines

@@ -5,10 +5,10 @@ use mathlib.Core.List.{List}
 use Rattle.isdp.specs.Aids.{padded}
 use Rattle.places.specs.Places.{quotas, countOf}
 use Rattle.responses.specs.Responses.{statusBody, statusRow, rowOf, partFrom, leftFrom, partGiven, leftAfter, oneStatus, dataResponse, deletedResponse}
-use Rattle.responses.specs.Worked.{Worked}
+use Rattle.responses.specs.Worked.{lengthsFrom, Worked}
 
 pub worked : (eid : List ℕ) (figure : ℕ) → Worked eid figure
-unfolding partGiven leftAfter oneStatus partFrom leftFrom rowOf statusRow statusBody padded dataResponse countOf quotas deletedResponse
+unfolding lengthsFrom partGiven leftAfter oneStatus partFrom leftFrom rowOf statusRow statusBody padded dataResponse countOf quotas deletedResponse
 worked eid figure =
     record {
       example-1 = refl;
@@ -17,6 +17,11 @@ worked eid figure =
       two-rows = refl;
       named-row = refl;
       data-figures = refl;
+      five-bytes = refl;
+      sixteen-bytes = refl;
+      aids-only = refl;
+      just-fits = refl;
+      one-too-many = refl;
       nothing-deleted = refl;
       one-deleted = refl;
     }

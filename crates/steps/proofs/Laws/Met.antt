@@ -7,10 +7,11 @@ use Rattle.isdp.specs.Place.{isFor, clash, zeros, placeOk}
 use Rattle.places.specs.Places.{seek, quotas, allOf, anyOf, countOf, distinct}
 use Rattle.card.specs.Sound.{phaseOk, sound}
 use Rattle.card.specs.Answers.{accepted}
+use Rattle.responses.specs.Responses.{leftFrom, leftAfter}
 use Rattle.steps.specs.Laws.Met.{LawsMet}
 
 pub laws-met : LawsMet
-unfolding wordOf sameBytes padded isFor clash zeros placeOk seek quotas allOf anyOf countOf distinct phaseOk sound accepted
+unfolding wordOf sameBytes padded isFor clash zeros placeOk seek quotas allOf anyOf countOf distinct phaseOk sound leftFrom leftAfter accepted
 laws-met =
     record {
       quiet-sound = refl;
@@ -30,5 +31,7 @@ laws-met =
       confirms-trial = refl;
       confirms-back = refl;
       confirms-fallen = refl;
+      keeps-sound = refl;
+      lists-on = refl;
       tells-status = λ life attribute. refl;
     }

@@ -8,13 +8,13 @@ use Rattle.status.specs.declared.Status.the-variants.{Done}
 use Rattle.isdp.specs.Sizes.{mostPlaces, eidSize}
 use Rattle.isdp.specs.LifeCycle.{selectable, personalized, disabled, enabled, withMark}
 use Rattle.isdp.specs.Place.{vacant, made}
-use Rattle.card.specs.Cards.{noPlace, cardWith}
+use Rattle.card.specs.Cards.{noPlace, cardWith, keeping}
 use Rattle.card.specs.Sound.{sound}
 use Rattle.card.specs.Answers.{outcome}
 use Rattle.card.specs.declared.Card.{Card}
 use Rattle.card.specs.declared.Phase.{Phase}
 use Rattle.card.specs.declared.Phase.the-variants.{Quiet, Trial, Back, Fallen}
-use Rattle.steps.specs.Asked.{Act, Act.enable, Act.disable, Act.delete, Act.masterDelete, Act.setFallBack, Act.status, Act.keyed, Act.stored, Act.finished, Asked, Asked.create, Asked.on, Asked.confirm}
+use Rattle.steps.specs.Asked.{Act, Act.enable, Act.disable, Act.delete, Act.masterDelete, Act.setFallBack, Act.status, Act.keyed, Act.stored, Act.finished, Asked, Asked.create, Asked.on, Asked.confirm, Asked.statusOfAll}
 use Rattle.steps.specs.Steps.{askedWork, innerWork}
 
 abbrev pub aidEnding : ℕ → List ℕ
@@ -63,4 +63,7 @@ pub record LawsMet : Type 0 where
   pub confirms-trial : Accepts (on02 1 (Trial 0 10 1)) (confirm 1)
   pub confirms-back : Accepts (on01 2 (Back 10 2)) (confirm 2)
   pub confirms-fallen : Accepts (on01 3 (Fallen 10 3)) (confirm 3)
+  -- a listing goes on at a kept place
+  pub keeps-sound : sound (keeping (on01 0 Quiet) 2) ≡ true
+  pub lists-on : Accepts (keeping (on01 0 Quiet) 2) (statusOfAll true true true)
   pub tells-status : (life attribute : Bool) → Accepts (on01 0 Quiet) (on (aidEnding 2) (status life attribute))
