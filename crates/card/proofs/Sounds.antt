@@ -1,9 +1,9 @@
 -- The parts of a sound card by name, in the four groups of the definition, and that tick and lost keep them. Two builders do every
 -- step: only the phase is new (`rephased`), or a place that has a life cycle is enabled and a phase opens (`moves`). Assumes nothing.
-use mathlib.Core.Path.{_≡_, refl, _∙_}
+use mathlib.Core.Path.{_≡_, refl, sym, _∙_}
 use Prim.Native.Nat.{ℕ, suc, _+_, _-_, _≤_}
 use native.Mathlib.Omega.{arith}
-use mathlib.Core.Bool.{Bool, true, false, cond, false≢true}
+use mathlib.Core.Bool.{Bool, true, false, cond, _||_, false≢true}
 use mathlib.Core.List.{List}
 use lib.ListN.{length}
 use lib.Dec.{ltb, leb, eqb}
@@ -17,7 +17,7 @@ use Rattle.isdp.proofs.Bools.{and-l, and-r, both}
 use Rattle.places.specs.Places.{at, quotas, allOf, countOf, distinct, enableAt}
 use Rattle.places.proofs.Lives.{enable-lives, lives-length, lives-quotas, lives-distinct, enable-one, enable-at, enable-ok, enable-resort, within}
 use Rattle.card.specs.Cards.{isQuiet, freeIn, onFallback, noPlace, keeping, forgotten, inState, withPhase}
-use Rattle.card.specs.Sound.{sized, sizesOk, placesOk, keptOk, rolesOk, openOk, phaseIn, phaseOk, sound, FallBackMarked}
+use Rattle.card.specs.Sound.{sized, sizesOk, placesOk, keptOk, rolesOk, openOk, phaseIn, phaseOk, sound, KeptHeld, FallBackMarked}
 use Rattle.card.specs.Clock.{nextOf, moved, tickIn, tickOf, lostOf}
 use Rattle.card.specs.declared.Card.{Card}
 use Rattle.card.specs.declared.Phase.{Phase}
@@ -210,6 +210,13 @@ done-nonzero v d z = false≢true (rw z at d)
 -- the fall-back is DISABLED or ENABLED and has the mark; so it has a life cycle
 pub resort-done : (c : Card) → Sound c → isFinished (at (c .places) (c .fallback) .life) ≡ true
 resort-done c s = and-l _ _ (s .roles .resort)
+
+held-there : (a b : Bool) → (a || b) ≡ true → a ≡ false → b ≡ true
+held-there true b e n = absurd (false≢true (sym n))
+held-there false b e n = e
+
+pub kept-held : KeptHeld
+kept-held c e n = held-there (eqb (c .kept) noPlace) _ (parts c e .roles .listing) (ne-eqb (c .kept) noPlace n)
 
 pub fall-back-marked : FallBackMarked
 fall-back-marked c e = eqb-true _ _ (and-r (isFinished (at (c .places) (c .fallback) .life)) _ (parts c e .roles .resort))

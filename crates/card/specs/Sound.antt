@@ -62,6 +62,10 @@ phaseOk c = phaseIn (c .phase) c
 unfoldable pub sound : Card → Bool
 sound c = sizesOk c && (placesOk c && (rolesOk c && phaseOk c))
 
+-- "that kept place, a held one"
+abbrev pub KeptHeld : Type 0
+KeptHeld = (c : Card) → sound c ≡ true → (c .kept ≡ noPlace → ⊥) → held (at (c .places) (c .kept)) ≡ true
+
 -- "a sound card's fall-back has it"
 abbrev pub FallBackMarked : Type 0
 FallBackMarked = (c : Card) → sound c ≡ true → at (c .places) (c .fallback) .mark ≡ 1

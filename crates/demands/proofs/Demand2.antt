@@ -21,7 +21,7 @@ use Rattle.card.specs.Notifications.{noticeSince}
 use Rattle.card.specs.Answers.{refused, accepted}
 use Rattle.card.specs.Fresh.{freshOutcome}
 use Rattle.card.specs.declared.Card.{Card}
-use Rattle.card.proofs.Sounds.{parts, resort-done, fall-back-marked, resort-nonzero}
+use Rattle.card.proofs.Sounds.{parts, kept-held, resort-done, fall-back-marked, resort-nonzero}
 use Rattle.card.proofs.Freshness.{fresh-sound}
 use Rattle.steps.specs.Steps.{successOf}
 use Rattle.steps.proofs.Successes.{success-done}
@@ -88,10 +88,6 @@ answered c before call after = rw (run-parts c before (call ∷ [])) (answers-pa
 pub makes : Makes
 makes eid aid capacity quota used volatile e = fresh-sound eid aid capacity quota used volatile (ap isDone e)
 
-or-other : (a b : Bool) → (a || b) ≡ true → a ≡ false → b ≡ true
-or-other true b e n = absurd (false≢true (sym n))
-or-other false b e n = e
-
 -- what a sound card has
 pub standing : (c : Card) → sound c ≡ true → Standing c
 standing c s =
@@ -105,7 +101,7 @@ standing c s =
       fallback-held = placed (c .capacity) (at (c .places) (c .fallback)) (ne-eqb _ _ n) (all-at (placeOk (c .capacity)) (c .places) (c .fallback) k (w .placed .each)) .there;
       fallback-finished = resort-done c w;
       fallback-marked = fall-back-marked c s;
-      kept-held = λ n. or-other (eqb (c .kept) noPlace) _ (w .roles .listing) (ne-eqb (c .kept) noPlace n);
+      kept-held = kept-held c s;
     }
 
 pub from-fresh : FromFresh
