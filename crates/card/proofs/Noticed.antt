@@ -16,7 +16,7 @@ use Rattle.isdp.specs.declared.Isdp.{Isdp}
 use Rattle.places.specs.Places.{at, seek}
 use Rattle.card.specs.Cards.{isQuiet, onFallback, enabledAid, forgotten, withPhase, cleared}
 use Rattle.card.specs.Clock.{nextOf, moved, opened, fallen, tickIn, tickOf, lostOf, dropped, confirmIn, confirmOf}
-use Rattle.card.specs.Notifications.{kindOf, noticeSince}
+use Rattle.card.specs.Notifications.{silent, kindOf, noticeSince}
 use Rattle.card.specs.Noticed.{Entered, JustOpened, Noticed, Noticed.silently, Noticed.told, StepsNoticed}
 use Rattle.card.specs.Steps.{stepTo, tickStep, lostStep, goneIn, confirmStep}
 use Rattle.card.specs.declared.Card.{Card}
@@ -47,6 +47,11 @@ unfolding seek
 found-kept x n [] i e = refl
 found-kept x n (p ∷ ps) zero e = skip-case x p ps (isEnabled x) (isEnabled p) refl n refl e
 found-kept x n (p ∷ ps) (suc i) e = step-case p ps (set ps i x) (isEnabled p) (found-kept x n ps i e)
+
+-- no number, no notification
+pub unissued : (last : ℕ) (d : Card) → d .last ≡ last → noticeSince last d ≡ silent
+unfolding noticeSince
+unissued last d n = rw (eq-eqb (d .last) last n)
 
 -- the same number, and the same profile enabled
 pub unmoved : (c d : Card) (gone : Aid) → d .last ≡ c .last → enabledAid d ≡ enabledAid c → Noticed c (stepTo c d gone)

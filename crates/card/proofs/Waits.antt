@@ -16,3 +16,7 @@ waited-case c (Fallen left number) e h = rw h
 pub waited-on : (c : Card) → waits (c .phase) ≡ true → withPhase c (shorter (c .phase)) ≡ tickOf c
 unfolding tickOf
 waited-on c h = waited-case c (c .phase) refl h
+
+-- so no number is issued
+pub waited-last : (c : Card) → waits (c .phase) ≡ true → tickOf c .last ≡ c .last
+waited-last c h = ap (λ (d : Card). d .last) (sym (waited-on c h))

@@ -49,6 +49,10 @@ abbrev pub answerAt : ℕ → Status → Step → ℕ → Answer
 answerAt ticks word s n =
     record { status = word; card = s .card; length = n; notification = s .notification; ticks = ticks }
 
+-- an answer without a notification: a refusal has no response either, a success that issues no number may have one
+abbrev pub silentAt : ℕ → Status → Card → ℕ → Answer
+silentAt ticks word c n = record { status = word; card = c; length = n; notification = silent; ticks = ticks }
+
 -- the ticks are counted by the tick rule, and 6F 00 carries 0
 unfoldable pub refused : Card → Status → Outcome
 refused c word = refusedAt (cond (sound c) (ticksToCome c) 0) c word

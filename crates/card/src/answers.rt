@@ -8,23 +8,42 @@ use status::Status;
 ghost use mathlib.Core.Path.{_≡_};
 ghost use lib.ListN.{length};
 ghost use Rattle.card.specs.Ticks.{ticksByPhase};
-ghost use Rattle.card.specs.Answers.{handed, refusedAt, answerAt};
-ghost use Rattle.status.specs.declared.Status.the-variants.{Unsound};
+ghost use Rattle.card.specs.Answers.{handed, refusedAt, answerAt, silentAt};
+ghost use Rattle.card.specs.Steps.{tickStep};
+ghost use Rattle.status.specs.declared.Status.the-variants.{Unsound, Done};
 
 impl Card {
-    // A refusal of a card known to be sound: the card as it was, and its ticks.
-    pub fn refused(self, status: Status) -> Answer
-        ensures { λ r. ⌜ r ≡ handed (refusedAt (ticksByPhase self) self status) ⌝ }
+    // An answer without a notification, of a card known to be sound, and no step between.
+    pub fn silently(self, word: Status, length: usize) -> Answer
+        ensures { λ r. ⌜ r ≡ silentAt (ticksByPhase self) word self length ⌝ }
     {
         let notification = Notification::silent();
         let ticks = self.ticks_to_come();
         Answer {
-            status,
+            status: word,
             card: self,
-            length: 0,
+            length,
             notification,
             ticks,
         }
+    }
+
+    // A refusal of a card known to be sound: the card as it was, and its ticks.
+    pub fn refused(self, status: Status) -> Answer
+        ensures { λ r. ⌜ r ≡ handed (refusedAt (ticksByPhase self) self status) ⌝ }
+    {
+        self.silently(status, 0)
+    }
+
+    // The answer of a tick. Most leave their phase open and issue no number: these have a way of their own.
+    pub fn ticked(self) -> Answer
+        ensures { λ r. ⌜ r ≡ answerAt (ticksByPhase (tickStep self .card)) Done (tickStep self) 0 ⌝ }
+    {
+        let phase = self.phase;
+        if phase.waits() {
+            return self.waited().silently(Status::Done, 0);
+        }
+        self.tick().answer(Status::Done, 0)
     }
 
     // The refusal of a card that is not sound.

@@ -178,11 +178,13 @@ fn command(card: Card, verdict: u8, bytes: &[u8], buf: &mut [u8]) -> Answer
     if buf.len() < BUFFER {
         return card.refused(Status::BufferShort);
     }
+    // the copy that `serve` takes is made here, and not where the door is entered
+    let kept = card;
     let reading = read(bytes, card.capacity);
     let Reading::Read(request) = reading else {
-        return card.refused(reading.word());
+        return kept.refused(reading.word());
     };
-    serve(card, verdict, request, bytes, buf)
+    serve(kept, verdict, request, bytes, buf)
 }
 
 // A call on a card known to be sound, with the bytes it came in and the buffer lent for its response.
@@ -199,7 +201,7 @@ pub fn answer_on_sound(card: Card, call: Call, bytes: &[u8], buf: &mut [u8]) -> 
         Call::Finished { aid, policy, mark } => {
             calls::finished(card, part_of(bytes, aid), policy, mark)
         }
-        Call::Tick => card.tick().answer(Status::Done, 0),
+        Call::Tick => card.ticked(),
         Call::Lost => card.lost().answer(Status::Done, 0),
     }
 }

@@ -143,7 +143,9 @@ fn write_text(explain: bool, answer: Answer, response: &[u8], out: &mut [u8], at
     ensures { λ r. ⌜ Wrote (now (out .entry)) at (answerText explain answer (now (response .entry))) r (now (out .exit)) × (length (answerText explain answer (now (response .entry))) ≤ length (now (response .entry)) * 2 + mostExplained) ⌝ }
 {
     if explain {
-        return write_explained(answer, response, out, at);
+        // only this arm hands the card on, so that only it copies it
+        let shown = answer;
+        return write_explained(shown, response, out, at);
     }
     write_answer(answer, response, out, at)
 }

@@ -41,16 +41,16 @@ returns-4 c =
 returns-5 : tie.Need-returns-5
 unfolding onSound wordOf
 returns-5 c =
-    let o = c .before .before in
+    let o = c .before in
     let s = start (o .before .before) in
-    rw (o .enum-told .given .1) (none-served (s .args .card) (askedWork (s .args .card) tick) _ refl (rw (c .answer .ensures, c .before .tick .ensures)))
+    rw (o .enum-told .given .1) (none-served (s .args .card) (askedWork (s .args .card) tick) _ refl (c .ticked .ensures))
 
 returns-6 : tie.Need-returns-6
 unfolding onSound wordOf
 returns-6 c =
     let o = c .before .before in
     let s = start (o .before .before) in
-    rw (o .enum-told2 .given .1) (none-served (s .args .card) (askedWork (s .args .card) lost) _ refl (rw (c .answer2 .ensures, c .before .lost .ensures)))
+    rw (o .enum-told2 .given .1) (none-served (s .args .card) (askedWork (s .args .card) lost) _ refl (rw (c .answer .ensures, c .before .lost .ensures)))
 
 pub answer-on-sound-spec : {M : Type 1} → statement M
 answer-on-sound-spec =
@@ -69,7 +69,6 @@ answer-on-sound-spec =
     (λ c κs. search needs)
     (λ c κs. search needs)
     (λ c. search needs)
-    (λ c κs. search needs)
     (λ c κs. search needs)
     (λ c. search needs)
     (λ c κs. search needs)

@@ -33,6 +33,7 @@ use Rattle.card.specs.declared.Card.{Card}
 use Rattle.card.specs.declared.Phase.{Phase}
 use Rattle.card.specs.declared.Phase.the-variants.{Quiet, Trial, Back, Fallen}
 use Rattle.card.proofs.Counts.{counted}
+use Rattle.card.proofs.Noticed.{unissued}
 use Rattle.card.proofs.Outcomes.{took}
 use Rattle.card.proofs.Sounds.{Sound, parts, whole, keeps-place}
 use Rattle.steps.specs.Asked.{Act, Asked, Asked.on}
@@ -105,8 +106,7 @@ held-passes c aid act h change state policy verdict room =
 
 -- no number, no notification
 pub no-notice : (c d : Card) → d .last ≡ c .last → noticeSince (c .last) d ≡ silent
-unfolding noticeSince
-no-notice c d e = rw (eq-eqb (d .last) (c .last) e)
+no-notice c d e = unissued (c .last) d e
 
 -- in Quiet nothing is to come
 pub none-to-come : (c : Card) → c .phase ≡ Quiet → ticksToCome c ≡ 0
