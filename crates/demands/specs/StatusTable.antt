@@ -13,6 +13,7 @@ use Rattle.isdp.specs.Sizes.{mostPlaces}
 use Rattle.isdp.specs.LifeCycle.{selectable, personalized, disabled, enabled, withPolicy, withMark}
 use Rattle.isdp.specs.Place.{vacant, made}
 use Rattle.isdp.specs.declared.Isdp.{Isdp}
+use Rattle.card.specs.Cards.{keeping}
 use Rattle.card.specs.Fresh.{zeroCard}
 use Rattle.card.specs.Free.{withFree}
 use Rattle.card.specs.declared.Card.{Card}
@@ -38,6 +39,17 @@ pub record Case : Type 0 where
 -- GET STATUS of all, with this class and this last byte
 abbrev pub listing : ℕ → ℕ → List ℕ
 listing class le = class ∷ 0xF2 ∷ 0x40 ∷ 0x02 ∷ 0x02 ∷ 0x4F ∷ 0x00 ∷ le ∷ []
+
+-- GET STATUS of the next rows; the same with an AID named
+abbrev pub next : List ℕ
+next = 0x80 ∷ 0xF2 ∷ 0x40 ∷ 0x03 ∷ 0x02 ∷ 0x4F ∷ 0x00 ∷ 0x00 ∷ []
+
+abbrev pub nextOf : ℕ → Call
+nextOf n = command (0x80 ∷ 0xF2 ∷ 0x40 ∷ 0x03 ∷ 0x07 ∷ 0x4F ∷ 0x05 ∷ aid n)
+
+-- a command of no byte
+abbrev pub empty : Call
+empty = command []
 
 -- set fall-back of 02, with this P1
 abbrev pub marking : ℕ → Call
@@ -99,6 +111,25 @@ cases =
     ∷ case 1 0x6F00 (handedIn 1 (made (aid 2) disabled 901 5)) [] Tick
     ∷ case 16 0x9000 (withFree fresh 900) [] Tick
     ∷ case 16 0x9000 (handedIn 1 (made (aid 2) disabled 900 5)) [] Tick
+    -- request 2026-05: for a kept place that is not held, the last of them, and past the last
+    ∷ case 1 0x6F00 (keeping fresh 1) [] Tick
+    ∷ case 1 0x6F00 (keeping fresh 31) [] getStatus
+    ∷ case 1 0x6F00 (keeping fresh 32) [] (command next)
+    ∷ case 16 0x9000 (keeping fresh 0) [] Tick
+    -- P2 03 passes 6A 86, and 01 and 04 do not; with an AID named it is 6A 80, held or not, whatever is kept; with none kept 6A 88, also in an open
+    -- change; where a place is kept it is taken, and forgotten by the last part
+    ∷ case 6 0x6A86 (keeping fresh 0) [] (command (0x80 ∷ 0xF2 ∷ 0x40 ∷ 0x01 ∷ 0x02 ∷ 0x4F ∷ 0x00 ∷ []))
+    ∷ case 6 0x6A86 (keeping fresh 0) [] (command (0x80 ∷ 0xF2 ∷ 0x40 ∷ 0x04 ∷ 0x02 ∷ 0x4F ∷ 0x00 ∷ []))
+    ∷ case 7 0x6700 (keeping fresh 0) [] (command (0x80 ∷ 0xF2 ∷ 0x40 ∷ 0x03 ∷ []))
+    ∷ case 8 0x6A80 (keeping fresh 0) [] (nextOf 1)
+    ∷ case 8 0x6A80 fresh [] (nextOf 1)
+    ∷ case 8 0x6A80 fresh [] (nextOf 9)
+    ∷ case 10 0x6A88 fresh [] (command next)
+    ∷ case 10 0x6A88 quiet opening (command next)
+    ∷ case 16 0x9000 (keeping fresh 0) [] (command next)
+    ∷ case 10 0x6A88 (keeping fresh 0) (command next ∷ []) (command next)
+    ∷ case 16 0x9000 (keeping fresh 0) (empty ∷ nextOf 1 ∷ []) (command next)
+    ∷ case 10 0x6A88 (keeping fresh 0) (Tick ∷ []) (command next)
     -- 6F 02, also before 67 00
     ∷ case 2 0x6F02 fresh [] (Command 0 (0x80 ∷ 0xF2 ∷ 0x40 ∷ []) 255)
     ∷ case 2 0x6F02 fresh [] (Command 0 (listing 0x80 0) 255)
