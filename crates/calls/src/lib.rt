@@ -167,9 +167,7 @@ pub fn keyed(card: Card, aid: &[u8]) -> Answer
         return card.refused(Status::StateWrong);
     }
     let after = card.rewritten(t, p.with_life(Isdp::PERSONALIZED));
-    after
-        .step_since(card.last, Aid::none())
-        .answer(Status::Done, 0)
+    after.silently(Status::Done, 0)
 }
 
 // n bytes more in a PERSONALIZED profile.
@@ -191,9 +189,7 @@ pub fn stored(card: Card, aid: &[u8], n: u32) -> Answer
     }
     let used = p.used + n;
     let after = card.rewritten(t, p.with_used(used));
-    after
-        .step_since(card.last, Aid::none())
-        .answer(Status::Done, 0)
+    after.silently(Status::Done, 0)
 }
 
 // PERSONALIZED to DISABLED, with its policy and its mark.
@@ -212,7 +208,5 @@ pub fn finished(card: Card, aid: &[u8], policy: u8, mark: u8) -> Answer
         return card.refused(Status::StateWrong);
     }
     let after = card.rewritten(t, p.finish(policy, mark));
-    after
-        .step_since(card.last, Aid::none())
-        .answer(Status::Done, 0)
+    after.silently(Status::Done, 0)
 }

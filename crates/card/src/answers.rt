@@ -43,7 +43,8 @@ impl Card {
         if phase.waits() {
             return self.waited().silently(Status::Done, 0);
         }
-        self.tick().answer(Status::Done, 0)
+        let late = self;
+        late.tick().answer(Status::Done, 0)
     }
 
     // The refusal of a card that is not sound.

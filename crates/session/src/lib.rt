@@ -273,7 +273,7 @@ pub fn take_line(
             turn.filled,
         ),
         Order::Call { call, room } => {
-            call_reply(turn, explain, call, room, s, bytes, response, out)
+            return call_reply(turn, explain, call, room, s, bytes, response, out);
         }
         Order::Record(at) => record_reply(turn, explain, number, s, at, out),
         Order::Wrong(reason) => stopped(turn, write_reason(number, reason, out, turn.filled)),

@@ -1,5 +1,5 @@
 -- `calls::finished`: the rows of the values, the target and its state, each passed or stopped at.
-use mathlib.Core.Path.{_≡_, _∙_}
+use mathlib.Core.Path.{_≡_, ap, _∙_}
 use mathlib.Core.Bool.{Bool, true, false, _&&_}
 use lib.Dec.{ltb, eqb}
 use borrow.Author.Tests.{not-true, not-false}
@@ -10,10 +10,11 @@ use Rattle.isdp.specs.Provisioning.{markOk}
 use Rattle.isdp.specs.LifeCycle.{personalized}
 use Rattle.isdp.specs.declared.Isdp.{Isdp}
 use Rattle.card.specs.Cards.{profileOf}
+use Rattle.card.specs.declared.Card.{Card}
 use Rattle.steps.specs.Asked.{Act.finished}
 use Rattle.steps.specs.Steps.{innerWork}
 use Rattle.steps.proofs.Targets.{Target, absent, found, read}
-use Rattle.calls.proofs.Accepted.{accepts}
+use Rattle.calls.proofs.Accepted.{silent-accepts}
 use borrow.Author.Needs.{needs}
 use Rattle.calls.proofs.finished.Statement.{statement}
 use Rattle.calls.proofs.finished.Tie as tie
@@ -66,18 +67,17 @@ returns-3 c =
 returns-4 : tie.Need-returns-4
 unfolding wordOf
 returns-4 c =
-    let a = c .before .before .before in
+    let a = c .before in
     let e = a .before .before in
     let p = e .before .before .before in
     let k = p .before in
     let y : finishable (p .profile .result) ≡ true = not-false _ (e .if2 .left) in
     let s = start (asking k) .args in
-    accepts (s .card) (innerWork (s .card) (s .aid .now) (finished (s .policy) (s .mark)))
+    silent-accepts (s .card) (innerWork (s .card) (s .aid .now) (finished (s .policy) (s .mark)))
     (rw (right (asking k), target k .there, profile p, y))
     (rw (a .rewritten .ensures, a .before .finish .ensures, profile p, target k .place))
-    (c .before .before .none .ensures)
-    (c .before .step-since .ensures)
-    (c .answer .ensures)
+    (ap (λ (d : Card). d .last) (a .rewritten .ensures))
+    (c .silently .ensures)
 
 pub finished-spec : {M : Type 1} → statement M
 finished-spec =
@@ -96,8 +96,6 @@ finished-spec =
     (λ c κs. search needs)
     (λ c κs. search needs)
     returns-3
-    (λ c κs. search needs)
-    (λ c κs. search needs)
     (λ c κs. search needs)
     (λ c κs. search needs)
     (λ c κs. search needs)

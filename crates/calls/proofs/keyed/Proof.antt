@@ -1,15 +1,16 @@
 -- `calls::keyed`: the rows of the AID, the target and its state, each passed or stopped at.
-use mathlib.Core.Path.{_≡_, sym, _∙_}
+use mathlib.Core.Path.{_≡_, ap, sym, _∙_}
 use mathlib.Core.Bool.{true}
 use borrow.Author.Tests.{eq-eqb, ne-eqb, not-true, not-false}
 use Rattle.status.specs.Rows.{wordOf}
 use Rattle.isdp.specs.Aids.{aidOk}
 use Rattle.isdp.specs.LifeCycle.{selectable}
 use Rattle.card.specs.Cards.{profileOf}
+use Rattle.card.specs.declared.Card.{Card}
 use Rattle.steps.specs.Asked.{Act.keyed}
 use Rattle.steps.specs.Steps.{innerWork}
 use Rattle.steps.proofs.Targets.{Target, absent, found, read}
-use Rattle.calls.proofs.Accepted.{accepts}
+use Rattle.calls.proofs.Accepted.{silent-accepts}
 use borrow.Author.Needs.{needs}
 use Rattle.calls.proofs.keyed.Statement.{statement}
 use Rattle.calls.proofs.keyed.Tie as tie
@@ -50,17 +51,16 @@ returns-3 c =
 returns-4 : tie.Need-returns-4
 unfolding wordOf
 returns-4 c =
-    let a = c .before .before .before in
+    let a = c .before in
     let e = a .before .before in
     let p = e .before .before in
     let k = p .before in
     let s = start (asking k) .args in
-    accepts (s .card) (innerWork (s .card) (s .aid .now) keyed)
+    silent-accepts (s .card) (innerWork (s .card) (s .aid .now) keyed)
     (rw (named (asking k), target k .there, profile p, eq-eqb _ selectable (e .if2 .left)))
     (rw (a .rewritten .ensures, a .before .with-life .ensures, profile p, target k .place))
-    (c .before .before .none .ensures)
-    (c .before .step-since .ensures)
-    (c .answer .ensures)
+    (ap (λ (d : Card). d .last) (a .rewritten .ensures))
+    (c .silently .ensures)
 
 pub keyed-spec : {M : Type 1} → statement M
 keyed-spec =
@@ -77,8 +77,6 @@ keyed-spec =
     (λ c κs. search needs)
     (λ c κs. search needs)
     returns-3
-    (λ c κs. search needs)
-    (λ c κs. search needs)
     (λ c κs. search needs)
     (λ c κs. search needs)
     (λ c κs. search needs)

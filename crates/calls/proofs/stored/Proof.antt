@@ -1,7 +1,7 @@
 -- `calls::stored`: the rows of the AID, the target, its state and its room, each passed or stopped at; the sum fits because the quota does.
 use mir.Val.{Fits}
 use mir.Syntax.{w32}
-use mathlib.Core.Path.{_≡_, sym, _∙_}
+use mathlib.Core.Path.{_≡_, ap, sym, _∙_}
 use mathlib.Core.Bool.{true}
 use Prim.Native.Nat.{_+_, _≤_}
 use native.Mathlib.Omega.{arith}
@@ -10,10 +10,11 @@ use Rattle.status.specs.Rows.{wordOf}
 use Rattle.isdp.specs.Aids.{aidOk}
 use Rattle.isdp.specs.LifeCycle.{personalized}
 use Rattle.card.specs.Cards.{profileOf}
+use Rattle.card.specs.declared.Card.{Card}
 use Rattle.steps.specs.Asked.{Act.stored}
 use Rattle.steps.specs.Steps.{innerWork}
 use Rattle.steps.proofs.Targets.{Target, absent, found, read}
-use Rattle.calls.proofs.Accepted.{accepts}
+use Rattle.calls.proofs.Accepted.{silent-accepts}
 use borrow.Author.Needs.{needs}
 use Rattle.calls.proofs.stored.Statement.{statement}
 use Rattle.calls.proofs.stored.Tie as tie
@@ -74,18 +75,17 @@ add-used c =
 returns-5 : tie.Need-returns-5
 unfolding wordOf
 returns-5 c =
-    let a = c .before .before .before in
+    let a = c .before in
     let e = a .before .before .before in
     let h = e .before in
     let p = reading h in
     let k = p .before in
     let s = start (asking k) .args in
-    accepts (s .card) (innerWork (s .card) (s .aid .now) (stored (s .n)))
+    silent-accepts (s .card) (innerWork (s .card) (s .aid .now) (stored (s .n)))
     (rw (named (asking k), target k .there, profile p, eq-eqb _ personalized (h .before .if2 .left), sym (h .has-room .ensures) ∙ not-false _ (e .if3 .left)))
     (rw (a .rewritten .ensures, a .before .with-used .ensures, profile p, target k .place))
-    (c .before .before .none .ensures)
-    (c .before .step-since .ensures)
-    (c .answer .ensures)
+    (ap (λ (d : Card). d .last) (a .rewritten .ensures))
+    (c .silently .ensures)
 
 pub stored-spec : {M : Type 1} → statement M
 stored-spec =
@@ -106,8 +106,6 @@ stored-spec =
     (λ c κs. search needs)
     returns-4
     add-used
-    (λ c κs. search needs)
-    (λ c κs. search needs)
     (λ c κs. search needs)
     (λ c κs. search needs)
     (λ c κs. search needs)

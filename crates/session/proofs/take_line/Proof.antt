@@ -35,6 +35,13 @@ enum-known-order-2 c = search needs
 call-reply-requires : tie.Need-call-reply-requires
 call-reply-requires c κs = (orders-fit _ _ (sym (c .before .before .before .before .order2 .given .1) ∙ c .before .before .before .before .before .before .read-line .ensures) .1, search needs)
 
+same-length : tie.Need-same-length
+same-length c = search needs
+
+returns : tie.Need-returns
+returns c = let a = c .before .before .before .before .before .before .before .before .before .before .before .before .args in
+    as-ordered (a .turn .card) (a .turn .sound) (a .explain) (a .number) (now (a .s)) _ (sym (c .before .before .before .before .before .before .before .order2 .given .1) ∙ c .before .before .before .before .before .before .before .before .before .read-line .ensures) (c .before .before .call-reply .ensures)
+
 enum-known-order-3 : tie.Need-enum-known-order-3
 enum-known-order-3 c = search needs
 
@@ -50,26 +57,19 @@ write-reason-requires c κs = search needs
 stopped-requires : tie.Need-stopped-requires
 stopped-requires c κs = search needs
 
-returns : tie.Need-returns
-returns c = let a = c .before .before .before .before .before .before .args in
+returns-2 : tie.Need-returns-2
+returns-2 c = let a = c .before .before .before .before .before .before .args in
     let e = c .passed-over .ensures in
     as-ordered (a .turn .card) (a .turn .sound) (a .explain) (a .number) (now (a .s)) _ (sym (c .before .enum-told .given .1) ∙ c .before .before .before .read-line .ensures)
     (record { same-card = ap (λ (t : Turn). t .card) e; same-sound = ap (λ (t : Turn). t .sound) e; same-goes = ap (λ (t : Turn). t .goes) e; wrote = rw e (wrote-none _ (a .turn .filled)); short = omega arith }, unused _ _ _ refl refl)
-
-same-length : tie.Need-same-length
-same-length c = search needs
-
-returns-2 : tie.Need-returns-2
-returns-2 c = let a = c .before .before .before .before .before .before .before .before .before .before .before .args in
-    as-ordered (a .turn .card) (a .turn .sound) (a .explain) (a .number) (now (a .s)) _ (sym (c .before .before .before .before .before .before .order .given .1) ∙ c .before .before .before .before .before .before .before .before .read-line .ensures)
-    (first-replied (a .explain) _ (fresh-silent _ _ _ _ _ _) (c .before .before .before .before .fresh .ensures) (c .before .before .first-reply .ensures), unused _ _ _ refl (fresh-silent _ _ _ _ _ _))
 
 same-length-2 : tie.Need-same-length-2
 same-length-2 c = search needs
 
 returns-3 : tie.Need-returns-3
-returns-3 c = let a = c .before .before .before .before .before .before .before .before .before .before .before .before .args in
-    as-ordered (a .turn .card) (a .turn .sound) (a .explain) (a .number) (now (a .s)) _ (sym (c .before .before .before .before .before .before .before .order2 .given .1) ∙ c .before .before .before .before .before .before .before .before .before .read-line .ensures) (c .before .before .call-reply .ensures)
+returns-3 c = let a = c .before .before .before .before .before .before .before .before .before .before .before .args in
+    as-ordered (a .turn .card) (a .turn .sound) (a .explain) (a .number) (now (a .s)) _ (sym (c .before .before .before .before .before .before .order .given .1) ∙ c .before .before .before .before .before .before .before .before .read-line .ensures)
+    (first-replied (a .explain) _ (fresh-silent _ _ _ _ _ _) (c .before .before .before .before .fresh .ensures) (c .before .before .first-reply .ensures), unused _ _ _ refl (fresh-silent _ _ _ _ _ _))
 
 same-length-3 : tie.Need-same-length-3
 same-length-3 c = search needs
@@ -102,13 +102,13 @@ take-line-spec =
     first-reply-requires
     enum-known-order-2
     call-reply-requires
+    same-length
+    returns
     enum-known-order-3
     record-reply-requires
     enum-known-order-4
     write-reason-requires
     stopped-requires
-    returns
-    same-length
     returns-2
     same-length-2
     returns-3
