@@ -1,19 +1,19 @@
 -- Laws of hex. Those on a loop take its equation first, so that a proof finds the numbers by it; then they say which way the next
 -- pair of digits, or the end, decides.
 use mathlib.Core.Path.{_≡_, refl, ap, sym, _∙_}
-use Prim.Native.Nat.{ℕ, _+_, _-_, _/_, _≤_, _<_}
+use Prim.Native.Nat.{ℕ, _+_, _-_, _*_, _/_, _≤_, _<_}
 use native.Mathlib.Omega.{arith}
 use mathlib.Core.List.{List, [], _∷_}
 use mathlib.Core.Bool.{Bool, true, false}
 use lib.ListN.{length, getD, set, drop, length-drop}
 use Rattle.choice.specs.Choice.{pick, isBelow}
 use Rattle.byte_string.specs.Bytes.{sameBytes}
-use Rattle.text.specs.Hex.{nibbleOf, pairsOf, isHex, byteOf, spelled, spelledIn, hexByteOf, hexReadOf, hexLeft, hexText, hexWord}
+use Rattle.text.specs.Hex.{nibbleOf, pairsOf, isHex, byteOf, spelled, spelledIn, hexByteOf, hexReadOf, hexLeft, glyphOf, hexText, hexWord}
 use Rattle.text.specs.declared.hex.Byte.the-variants as byte
 use Rattle.text.specs.declared.hex.HexRead.the-variants.{Bytes, NoRoom, Wrong}
-use Rattle.byte_string.specs.Put.{put}
+use Rattle.byte_string.specs.Put.{put, Wrote}
 use Rattle.choice.proofs.Branches.{each, yes!, no!, lt!, nlt! }
-use Rattle.byte_string.proofs.PutLaws.{put-none, put-cons}
+use Rattle.byte_string.proofs.PutLaws.{put-none, put-cons, after-fits}
 use Rattle.byte_string.proofs.Rest.{rest, rest-one, rest-two, rest-end}
 
 module _ (s : List ℕ) (i : ℕ) (o : Bool) (q : pairsOf (rest s i) ≡ o) where
@@ -63,6 +63,36 @@ module _ (s : List ℕ) (i k : ℕ) (l o : List ℕ) (q : put l k (spelled (rest
 
   pub spell-end : length s ≤ i + 1 → l ≡ o
   spell-end h = sym (put-none l k) ∙ ap (put l k) (sym (pair-none h)) ∙ q
+
+-- two digits a byte, written pair by pair
+pub text-length : (s : List ℕ) → length (hexText s) ≡ length s * 2
+unfolding hexText
+text-length [] = refl
+text-length (b ∷ bs) = let e = text-length bs in omega arith
+
+module _ (s : List ℕ) (at i : ℕ) (l o : List ℕ) (q : put l (at + i * 2) (hexText (rest s i)) ≡ o) where
+  pub fill-next : (u v : ℕ) → u ≡ glyphOf (getD s i 0 / 16) → v ≡ glyphOf (getD s i 0) → i < length s
+      → put (set (set l (at + i * 2) u) (at + i * 2 + 1) v) (at + (i + 1) * 2) (hexText (rest s (i + 1))) ≡ o
+  unfolding hexText
+  fill-next u v e f h =
+      let k = at + i * 2 in
+      let vs = hexText (rest s (i + 1)) in
+      let j : at + (i + 1) * 2 ≡ k + 1 + 1 = omega arith in
+      ap (λ (n : ℕ). put (set (set l k u) (k + 1) v) n vs) j
+      ∙ sym (put-cons (set l k u) (k + 1) v vs)
+      ∙ sym (put-cons l k u (v ∷ vs))
+      ∙ ap (λ (n : ℕ). put l k (n ∷ v ∷ vs)) e
+      ∙ ap (λ (n : ℕ). put l k (glyphOf (getD s i 0 / 16) ∷ n ∷ vs)) f
+      ∙ (rw (rest-one s i h) at q)
+
+  pub fill-end : length s ≤ i → l ≡ o
+  unfolding hexText
+  fill-end h = sym (put-none l (at + i * 2)) ∙ (rw (rest-end s i h) at q)
+
+pub text-fits : (l m s : List ℕ) (at : ℕ) → at + length s * 2 ≤ length l → m ≡ put l at (hexText s) → Wrote l at (hexText s) (at + length s * 2) m
+text-fits l m s at h e =
+    let n = text-length s in
+    record { place = ap (_+_ at) (sym n) ∙ sym (after-fits (length l) at (length (hexText s)) (omega arith)); content = e }
 
 -- two digits that are a byte
 pub byte-not : (s : List ℕ) → (length s ≡ 2 → ⊥) → byte.Wrong ≡ hexByteOf s

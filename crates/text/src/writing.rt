@@ -3,8 +3,9 @@
 use byte_string::put_byte;
 ghost use mathlib.Core.Path.{_≡_};
 ghost use mathlib.Core.List.{_∷_, []};
-ghost use Prim.Native.Nat.{_/_, _%_};
-ghost use Rattle.byte_string.specs.Put.{Wrote};
+ghost use Prim.Native.Nat.{_+_, _*_, _/_, _%_, _≤_};
+ghost use lib.ListN.{length};
+ghost use Rattle.byte_string.specs.Put.{put, Wrote};
 ghost use Rattle.text.specs.Numbers.{digitsText, decimalText};
 ghost use Rattle.text.specs.Hex.{glyphOf, hexText, hexWord};
 
@@ -37,8 +38,22 @@ pub fn put_hex_16(buf: &mut [u8], at: usize, n: u16) -> usize
     put_hex_8(buf, k, low)
 }
 
-// A byte string in hex, two digits a byte.
-pub fn put_hex(buf: &mut [u8], at: usize, s: &[u8]) -> usize
+// The digits of all bytes, where there is room for them from a place on: no digit is asked for its room.
+fn fill_hex(buf: &mut [u8], at: usize, s: &[u8])
+    requires { ⌜ at + length (now s) * 2 ≤ length (now buf) ⌝ }
+    ensures { λ _. ⌜ now (buf .exit) ≡ put (now (buf .entry)) at (hexText (now (s .entry))) ⌝ }
+{
+    let mut i = 0;
+    while i < s.len() {
+        let n = s[i];
+        buf[at + i * 2] = glyph(n / 16);
+        buf[at + i * 2 + 1] = glyph(n);
+        i += 1;
+    }
+}
+
+// The digits of all bytes, or as many as there is room for.
+fn put_hex_cut(buf: &mut [u8], at: usize, s: &[u8]) -> usize
     ensures { λ r. ⌜ Wrote (now (buf .entry)) at (hexText (now (s .entry))) r (now (buf .exit)) ⌝ }
 {
     let mut i = 0;
@@ -48,6 +63,19 @@ pub fn put_hex(buf: &mut [u8], at: usize, s: &[u8]) -> usize
         i += 1;
     }
     k
+}
+
+// A byte string in hex, two digits a byte. Room is asked for once, as almost every text has it.
+pub fn put_hex(buf: &mut [u8], at: usize, s: &[u8]) -> usize
+    ensures { λ r. ⌜ Wrote (now (buf .entry)) at (hexText (now (s .entry))) r (now (buf .exit)) ⌝ }
+{
+    if at <= buf.len() {
+        if s.len() <= (buf.len() - at) / 2 {
+            fill_hex(buf, at, s);
+            return at + s.len() * 2;
+        }
+    }
+    put_hex_cut(buf, at, s)
 }
 
 // The same as a word: `-` where there is no byte.

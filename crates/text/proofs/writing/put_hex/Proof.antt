@@ -1,58 +1,47 @@
--- `writing::put_hex` meets its contract. The loop keeps: writing what is left, from here on, leaves what writing all leaves.
+-- `writing::put_hex` meets its contract: where all digits have room they are filled in, which leaves what writing them leaves.
 use borrow.Author.Needs.{needs}
 use native.Mathlib.Omega.{arith}
-use Prim.Native.Nat.{_-_, _≤_}
-use mathlib.Core.Path.{sym, ap}
-use lib.ListN.{length}
-use Rattle.text.specs.Hex.{hexText}
-use Rattle.byte_string.proofs.Rest.{rest, rest-all, rest-one, rest-end}
-use Rattle.byte_string.proofs.PutLaws.{Writing, writing-starts, writing-goes, writing-ends, writing-as}
+use Rattle.text.proofs.HexLaws.{text-fits}
 use Rattle.text.proofs.writing.put_hex.Statement.{statement}
 use Rattle.text.proofs.writing.put_hex.Tie as tie
 
-abbrev Inv-loop : tie.InvT-loop
-Inv-loop buf₀ at s i₀ k₀ buf i k = (i ≤ length s) × Writing buf₀ at (hexText s) buf k (hexText (rest s i))
+sub-if2 : tie.Need-sub-if2
+sub-if2 c = search needs
 
-abbrev μ-loop : tie.MeasureT-loop
-μ-loop buf₀ at s i₀ k₀ buf i k = length s - i
+fill-hex-requires : tie.Need-fill-hex-requires
+fill-hex-requires c κs = search needs
 
-loop-holds : tie.Need-loop-holds Inv-loop μ-loop
-loop-holds c = (omega arith, writing-as _ (ap hexText (sym (rest-all _))) (writing-starts _ _ _))
+mul-result : tie.Need-mul-result
+mul-result c = search needs
 
-shared-slice-read-put-hex-8 : tie.Need-shared-slice-read-put-hex-8 Inv-loop μ-loop
-shared-slice-read-put-hex-8 c = search needs
+add-result : tie.Need-add-result
+add-result c = search needs
 
-put-hex-8-requires : tie.Need-put-hex-8-requires Inv-loop μ-loop
-put-hex-8-requires c κs = search needs
+same-length : tie.Need-same-length
+same-length c = search needs
 
-add-i : tie.Need-add-i Inv-loop μ-loop
-add-i c = search needs
+returns : tie.Need-returns
+returns c = text-fits _ _ _ _ (omega arith) (c .before .before .fill-hex .ensures)
 
-loop-less : tie.Need-loop-less Inv-loop μ-loop
-loop-less c = search needs
+put-hex-cut-requires : tie.Need-put-hex-cut-requires
+put-hex-cut-requires c κs = search needs
 
-loop-again : tie.Need-loop-again Inv-loop μ-loop
-unfolding hexText
-loop-again c = (omega arith, writing-goes _ (writing-as _ (ap hexText (rest-one _ _ (omega arith))) (c .before .before .before .before .before .before .loop .inv .1)) (c .before .before .put-hex-8 .ensures))
+same-length-2 : tie.Need-same-length-2
+same-length-2 c = search needs
 
-same-length : tie.Need-same-length Inv-loop μ-loop
-same-length c = c .before .loop .inv .1 .size
-
-returns : tie.Need-returns Inv-loop μ-loop
-unfolding hexText
-returns c = writing-ends (writing-as _ (ap hexText (rest-end _ _ (omega arith))) (c .before .loop .inv .1))
+returns-2 : tie.Need-returns-2
+returns-2 c = search needs
 
 pub put-hex-spec : {M : Type 1} → statement M
 put-hex-spec =
     tie.close
     (tie.spec
-    Inv-loop
-    μ-loop
-    loop-holds
-    shared-slice-read-put-hex-8
-    put-hex-8-requires
-    add-i
-    loop-less
-    loop-again
+    sub-if2
+    fill-hex-requires
+    mul-result
+    add-result
     same-length
-    returns)
+    returns
+    put-hex-cut-requires
+    same-length-2
+    returns-2)
