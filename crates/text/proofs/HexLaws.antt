@@ -52,16 +52,24 @@ none-of [] h = refl
 none-of (a ∷ []) h = refl
 none-of (a ∷ b ∷ r) h = absurd (omega arith)
 
-module _ (s : List ℕ) (i k : ℕ) (l o : List ℕ) (q : put l k (spelled (rest s i)) ≡ o) where
-  pub spell-next : (v : ℕ) → v ≡ byteOf (getD s i 0) (getD s (i + 1) 0) → i + 1 < length s → put (set l k v) (k + 1) (spelled (rest s (i + 2))) ≡ o
+module _ (s : List ℕ) (k : ℕ) (l o : List ℕ) (q : put l k (spelled (rest s (k * 2))) ≡ o) where
+  pub spell-next : (v : ℕ) → v ≡ byteOf (getD s (k * 2) 0) (getD s (k * 2 + 1) 0) → k < length s / 2
+      → put (set l k v) (k + 1) (spelled (rest s ((k + 1) * 2))) ≡ o
   unfolding spelled
-  spell-next v e h = sym (put-cons l k v (spelled (rest s (i + 2)))) ∙ ap (λ (u : ℕ). put l k (u ∷ spelled (rest s (i + 2)))) e ∙ (rw (rest-two s i h) at q)
+  spell-next v e h =
+      let i = k * 2 in
+      let j : (k + 1) * 2 ≡ i + 2 = omega arith in
+      let p : i + 1 < length s = omega arith in
+      ap (λ (n : ℕ). put (set l k v) (k + 1) (spelled (rest s n))) j
+      ∙ sym (put-cons l k v (spelled (rest s (i + 2))))
+      ∙ ap (λ (u : ℕ). put l k (u ∷ spelled (rest s (i + 2)))) e
+      ∙ (rw (rest-two s i p) at q)
 
-  pair-none : length s ≤ i + 1 → spelled (rest s i) ≡ []
+  pair-none : length s / 2 ≤ k → spelled (rest s (k * 2)) ≡ []
   unfolding rest
-  pair-none h = none-of (drop i s) (simp length-drop (omega arith))
+  pair-none h = none-of (drop (k * 2) s) (simp length-drop (omega arith))
 
-  pub spell-end : length s ≤ i + 1 → l ≡ o
+  pub spell-end : length s / 2 ≤ k → l ≡ o
   spell-end h = sym (put-none l k) ∙ ap (put l k) (sym (pair-none h)) ∙ q
 
 -- two digits a byte, written pair by pair

@@ -97,11 +97,10 @@ fn spell(s: &[u8], out: &mut [u8])
     requires { ⌜ length (now s) ≤ length (now out) * 2 + 1 ⌝ }
     ensures { λ _. ⌜ now (out .exit) ≡ put (now (out .entry)) 0 (spelled (now (s .entry))) ⌝ }
 {
-    let mut i = 0;
+    let n = s.len() / 2;
     let mut k = 0;
-    while i + 1 < s.len() {
-        out[k] = byte_of(s[i], s[i + 1]);
-        i += 2;
+    while k < n {
+        out[k] = byte_of(s[k * 2], s[k * 2 + 1]);
         k += 1;
     }
 }
