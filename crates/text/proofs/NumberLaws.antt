@@ -1,6 +1,6 @@
 -- Laws of numbers. Each law on reading takes the loop's equation first, so that a proof finds the numbers by it; then it says
 -- which way the next byte, or the end, decides.
-use mathlib.Core.Path.{_≡_, refl}
+use mathlib.Core.Path.{_≡_, refl, ap, _∙_}
 use Prim.Native.Nat.{ℕ, zero, suc, _+_, _-_, _*_, _/_, _%_, _≤_, _<_}
 use native.Mathlib.Omega.{arith}
 use mathlib.Core.List.{List, [], _∷_, _++_}
@@ -49,6 +49,9 @@ pub text-small : (k n : ℕ) → n < 10 → (48 + n % 10) ∷ [] ≡ digitsText 
 unfolding digitsText
 text-small zero n h = refl
 text-small (suc k) n h = lt! _ h refl
+
+pub text-one : (k n : ℕ) → n < 10 → (48 + n) ∷ [] ≡ digitsText k n
+text-one k n h = let e : n ≡ n % 10 = omega arith in ap (λ (d : ℕ). (48 + d) ∷ []) e ∙ text-small k n h
 
 pub text-last : (k n : ℕ) → k ≡ 0 → (48 + n % 10) ∷ [] ≡ digitsText k n
 unfolding digitsText

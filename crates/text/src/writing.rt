@@ -103,8 +103,12 @@ fn put_digits(buf: &mut [u8], at: usize, n: u64, left: usize) -> usize
     put_byte(buf, k, last)
 }
 
+// A number in decimal. One digit is put at once, as the recursion costs more than the byte.
 pub fn put_decimal(buf: &mut [u8], at: usize, n: u64) -> usize
     ensures { λ r. ⌜ Wrote (now (buf .entry)) at (decimalText n) r (now (buf .exit)) ⌝ }
 {
+    if n < 10 {
+        return put_byte(buf, at, 48 + n as u8);
+    }
     put_digits(buf, at, n, 19)
 }
