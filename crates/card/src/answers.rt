@@ -43,6 +43,7 @@ impl Card {
         if phase.waits() {
             return self.waited().silently(Status::Done, 0);
         }
+        // copied where the phase runs out, and not where the tick comes in
         let late = self;
         late.tick().answer(Status::Done, 0)
     }

@@ -179,12 +179,12 @@ fn command(card: Card, verdict: u8, bytes: &[u8], buf: &mut [u8]) -> Answer
         return card.refused(Status::BufferShort);
     }
     // the copy that `serve` takes is made here, and not where the door is entered
-    let kept = card;
+    let served = card;
     let reading = read(bytes, card.capacity);
     let Reading::Read(request) = reading else {
-        return kept.refused(reading.word());
+        return served.refused(reading.word());
     };
-    serve(kept, verdict, request, bytes, buf)
+    serve(served, verdict, request, bytes, buf)
 }
 
 // A call on a card known to be sound, with the bytes it came in and the buffer lent for its response.
