@@ -15,7 +15,8 @@ use Rattle.card.specs.declared.Notification.{Notification}
 use Rattle.card.specs.declared.Phase.{Phase}
 use Rattle.card.specs.declared.Phase.the-variants.{Quiet, Trial, Back, Fallen}
 use Rattle.profiles.specs.Profiles.{tableText, mostTable}
-use Rattle.profiles.proofs.Lengths.{hex-length, decimal-length, aid-length}
+use Rattle.text.proofs.HexLaws.{hex-length}
+use Rattle.profiles.proofs.Lengths.{decimal-length, aid-length}
 use Rattle.answers.specs.Lines.{issuedWord, noticeBy, noticeWord, answerLine, mostLine}
 use Rattle.answers.specs.Explained.{meaningOf, wordText, responseText, kindText, issuedText, noticeIn, noticeText, openText, trialText, phaseText, listingText, explainedText, mostExplained}
 

@@ -12,7 +12,8 @@ use Rattle.text.proofs.NumberLaws.{text-small}
 use Rattle.choice.proofs.Branches.{by-lt, by-eq}
 use Rattle.isdp.specs.LifeCycle.{selectable, personalized, disabled, enabled}
 use Rattle.profiles.specs.Profiles.{leadOf, columnText, stateText, nameCells, figureCells, roleCells, rowText, Aligned}
-use Rattle.profiles.proofs.Lengths.{hex-length, spaces-length, yes-wide, provisioning-wide}
+use Rattle.text.proofs.HexLaws.{hex-length}
+use Rattle.profiles.proofs.Lengths.{spaces-length, yes-wide, provisioning-wide}
 
 -- how many digits a number has
 one-digit : (k n : ℕ) → n < 10 → length (digitsText k n) ≡ 1

@@ -1,28 +1,23 @@
 -- How long the table is, so that a caller's buffer is known to be enough. A number counts as one of 20 digits, as 64 bits have,
 -- and an AID as one of 16 bytes, as every record of the code has. Assumes nothing.
-use mathlib.Core.Path.{_≡_, refl}
+use mathlib.Core.Path.{_≡_}
 use Prim.Native.Nat.{ℕ, zero, suc, _+_, _*_, _/_, _≤_}
 use native.Mathlib.Omega.{arith}
 use mathlib.Core.List.{List, [], _∷_}
 use mathlib.Core.Bool.{Bool}
 use lib.ListN.{length, length-append, length-take, length-replicate}
 use lib.Dec.{eqb}
-use Rattle.text.specs.Hex.{hexText}
 use Rattle.text.specs.Numbers.{digitsText, decimalText}
 use Rattle.choice.proofs.Branches.{each, by-lt, by-eq}
 use Rattle.isdp.specs.Aids.{aidOf}
 use Rattle.isdp.specs.LifeCycle.{selectable, personalized, disabled, enabled}
+use Rattle.text.proofs.HexLaws.{hex-length}
 use Rattle.isdp.specs.declared.Aid.{Aid}
 use Rattle.isdp.specs.declared.Isdp.{Isdp}
 use Rattle.card.specs.declared.Card.{Card}
 use Rattle.profiles.specs.Profiles.{aidText, spaces, leadOf, columnText, stateText, yesText, provisioningText, policyText, nameCells, figureCells, roleCells, rowText, placeText, rowsText, widestOf, headText, tableText, mostRow}
 
 -- the pieces
-pub hex-length : (s : List ℕ) → length (hexText s) ≡ length s * 2
-unfolding hexText
-hex-length [] = refl
-hex-length (b ∷ bs) = let e = hex-length bs in omega arith
-
 digits-length : (k n : ℕ) → length (digitsText k n) ≤ k + 1
 unfolding digitsText
 digits-length zero n = omega arith

@@ -73,10 +73,10 @@ module _ (s : List ℕ) (k : ℕ) (l o : List ℕ) (q : put l k (spelled (rest s
   spell-end h = sym (put-none l k) ∙ ap (put l k) (sym (pair-none h)) ∙ q
 
 -- two digits a byte, written pair by pair
-pub text-length : (s : List ℕ) → length (hexText s) ≡ length s * 2
+pub hex-length : (s : List ℕ) → length (hexText s) ≡ length s * 2
 unfolding hexText
-text-length [] = refl
-text-length (b ∷ bs) = let e = text-length bs in omega arith
+hex-length [] = refl
+hex-length (b ∷ bs) = let e = hex-length bs in omega arith
 
 module _ (s : List ℕ) (at i : ℕ) (l o : List ℕ) (q : put l (at + i * 2) (hexText (rest s i)) ≡ o) where
   pub fill-next : (u v : ℕ) → u ≡ glyphOf (getD s i 0 / 16) → v ≡ glyphOf (getD s i 0) → i < length s
@@ -99,7 +99,7 @@ module _ (s : List ℕ) (at i : ℕ) (l o : List ℕ) (q : put l (at + i * 2) (h
 
 pub text-fits : (l m s : List ℕ) (at : ℕ) → at + length s * 2 ≤ length l → m ≡ put l at (hexText s) → Wrote l at (hexText s) (at + length s * 2) m
 text-fits l m s at h e =
-    let n = text-length s in
+    let n = hex-length s in
     record { place = ap (_+_ at) (sym n) ∙ sym (after-fits (length l) at (length (hexText s)) (omega arith)); content = e }
 
 -- two digits that are a byte

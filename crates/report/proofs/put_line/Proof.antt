@@ -5,7 +5,7 @@ use native.Mathlib.Omega.{arith}
 use lib.ListN.{length}
 use Rattle.byte_string.proofs.PutLaws.{wrote-then, wrote-as}
 use Rattle.isdp.specs.Aids.{bytesOf}
-use Rattle.profiles.proofs.Lengths.{hex-length}
+use Rattle.text.proofs.HexLaws.{hex-length}
 use Rattle.report.proofs.Lengths.{aid-line-length}
 use Rattle.report.specs.Report.{minutesText, aidLine}
 use borrow.Author.Needs.{needs}

@@ -56,7 +56,7 @@ pub data PartAnswers (c : Card) (life attribute : Bool) (from : ℕ) (o : Outcom
   to-the-last : Listed c Done noPlace (statusFrom c life attribute from (length (c .places) - from)) o → PartAnswers c life attribute from o
   up-to : (n : ℕ) → from + n < length (c .places) → held (profileAt c (from + n)) ≡ true → 255 < length (statusFrom c life attribute from n) + length (statusAt c life attribute (from + n)) → Listed c More (from + n) (statusFrom c life attribute from n) o → PartAnswers c life attribute from o
 
--- P2 02 "always begins anew", whatever is kept; P2 03 is accepted exactly where a place is kept, and goes on there
+-- P2 02 begins anew, whatever is kept; P2 03 is accepted exactly where a place is kept, and goes on there
 abbrev pub StatusOfAllAnswers : Card → Bool → Bool → Outcome → Type 0
 StatusOfAllAnswers c life attribute = PartAnswers c life attribute 0
 
