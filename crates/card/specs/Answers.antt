@@ -69,7 +69,7 @@ abbrev pub soundRow : Card → Row
 soundRow c = row (not (sound c)) Unsound
 
 -- what a call does on a card: its rows of the table after 6F 00, and where none of them refuses its word of success
--- (one that `isDone` takes: 90 00), its step and its response
+-- (one that `isDone` takes), its step and its response
 pub record Work : Type 0 where
   pub rows : List Row
   pub success : Status

@@ -1,4 +1,4 @@
--- Demand 1: a refusal's word is not 90 00, so the answer is the refusal of the card as given. One law for every call and for fresh.
+-- Demand 1: a refusal's word is no success, so the answer is the refusal of the card as given. One law for every call and for fresh.
 use mathlib.Core.Path.{sym, ap, _∙_}
 use mathlib.Core.List.{[], _∷_}
 use mathlib.Core.Bool.{false, not}

@@ -14,6 +14,6 @@ pub word-is : (c : Card) (call : Call) → step c call .status ≡ tableWord c c
 unfolding step
 word-is c call = decided c (tableWord c call) (stepOf c (asked c call)) (responseOf c (asked c call))
 
--- whether it is 90 00
+-- whether it is a success
 pub done-as : (c : Card) (call : Call) (b : Bool) → isDone (step c call .status) ≡ b → isDone (tableWord c call) ≡ b
 done-as c call b e = sym (ap isDone (word-is c call)) ∙ e

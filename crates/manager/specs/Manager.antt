@@ -1,5 +1,5 @@
 -- Document 01, 'What is bought': what the manager answers to a call, and what a run of calls makes of a card.
--- The status is the word of the table; "Otherwise 90 00" the step is taken and its response given.
+-- The status is the word of the table; "Otherwise 90 00", or of a listing 63 10, the step is taken and its response given.
 use Prim.Native.Nat.{ℕ, _≤_}
 use mathlib.Core.List.{List, [], _∷_}
 use lib.ListN.{length}
