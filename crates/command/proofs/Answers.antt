@@ -13,7 +13,7 @@ use Rattle.fields.specs.declared.request.Request.{Request}
 use Rattle.fields.specs.declared.request.Field.{Field}
 use Rattle.fields.specs.declared.request.Field.the-variants as field
 use Rattle.command.specs.declared.Reading.the-variants as reading
-use Rattle.command.specs.Framing.{lengthWrong, classWrong, instructionWrong, parametersWrong, shapeWrong}
+use Rattle.framing.specs.Framing.{lengthWrong, classWrong, instructionWrong, parametersWrong, shapeWrong}
 use Rattle.command.specs.Requests.{fieldOf, dataWrong, isWrong}
 use Rattle.command.specs.Reading.{readingRows, accepted, readOf}
 

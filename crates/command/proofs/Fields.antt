@@ -15,7 +15,7 @@ use Rattle.install.specs.Install.{installOf}
 use Rattle.fields.specs.declared.request.Request.the-variants as request
 use Rattle.fields.specs.declared.request.Field.{Field}
 use Rattle.fields.specs.declared.request.Field.the-variants as field
-use Rattle.command.specs.Framing.{dataEnd}
+use Rattle.framing.specs.Framing.{dataEnd}
 use Rattle.command.specs.Requests.{goesOn, fieldOf, isWrong}
 use Rattle.command.specs.Reading.{accepted}
 use Rattle.command.specs.Grammar.{readAs}

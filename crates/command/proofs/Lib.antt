@@ -1,5 +1,4 @@
 -- Laws about reading a command.
-pub mod Frames
 pub mod Answers
 pub mod Within
 pub mod Examples

@@ -19,12 +19,12 @@ use Rattle.fields.proofs.DeletionGrammar.{deletion-back}
 use Rattle.fields.proofs.ListingGrammar.{listing-back}
 use Rattle.install.specs.Grammar.{EncodesCreated}
 use Rattle.install.proofs.ReadBack.{install-back}
-use Rattle.command.specs.Framing.{lengthWrong, classRight, classWrong, instructionWrong, parametersRight, parametersWrong, shapeRight, shapeWrong, dataEnd}
-use Rattle.command.specs.Frame.{leOf, framed}
+use Rattle.framing.specs.Framing.{lengthWrong, classRight, classWrong, instructionWrong, parametersRight, parametersWrong, shapeRight, shapeWrong, dataEnd}
+use Rattle.framing.specs.Frame.{leOf, framed, Framed}
 use Rattle.command.specs.Requests.{fieldOf, dataWrong}
 use Rattle.command.specs.Reading.{readOf}
-use Rattle.command.specs.Grammar.{readAs, Framed, Bare, secondOf, CommandBack}
-use Rattle.command.proofs.Frames.{five, framed-length, framed-shape}
+use Rattle.command.specs.Grammar.{readAs, Bare, secondOf, CommandBack}
+use Rattle.framing.proofs.Frames.{five, framed-length, framed-shape}
 use Rattle.command.proofs.Answers.{Passes, passes-done}
 use Rattle.command.proofs.Fields.{accepted-as, right-as, field-create, field-deletion, field-store-data, field-listing, field-get-data}
 

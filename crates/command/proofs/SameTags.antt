@@ -7,7 +7,7 @@ use mathlib.Core.Bool.{Bool, true, false}
 use lib.ListN.{length}
 use Rattle.tlv.specs.Encoding.{window}
 use Rattle.fields.specs.Grammar.{asked, getStatus, all, EncodesListed}
-use Rattle.command.specs.Framing.{classRight, parametersRight, dataEnd}
+use Rattle.framing.specs.Framing.{classRight, parametersRight, dataEnd}
 use Rattle.command.specs.Grammar.{secondOf, listingOf, Listing, SameTags}
 use Rattle.command.proofs.ReadBack.{field-window, command-back}
 use Rattle.command.proofs.Written.{command-written}

@@ -19,7 +19,7 @@ use Rattle.reader.proofs.Alone.{alone-expected}
 use Rattle.fields.proofs.Cases.{each-dgi, each-filled, each-shown}
 use Rattle.tlv.proofs.Branches.{each-found}
 use Rattle.install.proofs.Inside.{install-inside}
-use Rattle.command.specs.Framing.{dataEnd}
+use Rattle.framing.specs.Framing.{dataEnd}
 use Rattle.command.specs.Requests.{goesOn, fieldOf}
 use Rattle.command.specs.Grammar.{ReadInside}
 use Rattle.fields.specs.Places.{Placed, FieldIn}

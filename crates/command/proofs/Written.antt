@@ -23,12 +23,12 @@ use Rattle.fields.specs.declared.request.Field.{Field}
 use Rattle.fields.specs.declared.request.Field.the-variants as field
 use Rattle.command.specs.declared.Reading.{Reading}
 use Rattle.command.specs.declared.Reading.the-variants as reading
-use Rattle.command.specs.Framing.{classRight, classWrong, instructionWrong, parametersRight, parametersWrong, shapeRight, shapeWrong, isBare, dataEnd}
-use Rattle.command.specs.Frame.{framed, dataField, hasLe}
+use Rattle.framing.specs.Framing.{classRight, classWrong, instructionWrong, parametersRight, parametersWrong, shapeRight, shapeWrong, isBare, dataEnd}
+use Rattle.framing.specs.Frame.{framed, dataField, hasLe, Framed}
 use Rattle.command.specs.Requests.{goesOn, fieldOf}
 use Rattle.command.specs.Reading.{readOf}
-use Rattle.command.specs.Grammar.{readAs, Framed, Bare, secondOf, Listing, Encodes, CommandWritten}
-use Rattle.command.proofs.Frames.{and-l, and-r, five, framed-whole, field-length}
+use Rattle.command.specs.Grammar.{readAs, Bare, secondOf, Listing, Encodes, CommandWritten}
+use Rattle.framing.proofs.Frames.{and-l, and-r, five, framed-whole, field-length}
 use Rattle.command.proofs.Answers.{Passes, read-passes, read-done}
 
 read-as : (s : List ℕ) (r : Reading) (v : Wanted) → readAs s r ≡ some v → (q : Request) × ((reading.Read q ≡ r) × (some (wantedOf s q) ≡ some v))

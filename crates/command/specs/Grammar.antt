@@ -13,27 +13,13 @@ use Rattle.install.specs.Grammar.{EncodesCreated}
 use Rattle.fields.specs.declared.request.Request.{Request}
 use Rattle.command.specs.declared.Reading.{Reading}
 use Rattle.command.specs.declared.Reading.the-variants as reading
-use Rattle.command.specs.Framing.{classRight, parametersRight}
-use Rattle.command.specs.Frame.{framed}
+use Rattle.framing.specs.Framing.{classRight, parametersRight}
+use Rattle.framing.specs.Frame.{framed, Framed}
 use Rattle.command.specs.Reading.{readOf}
 
 abbrev pub readAs : List ℕ → Reading → Option Wanted
 readAs s (reading.Read r) = some (wantedOf s r)
 readAs s (reading.Refused word) = none
-
--- a command with a data field that is so encoded
-pub record Framed (instruction : ℕ) (Encoded : List ℕ → Type 0) (s : List ℕ) : Type 0 where
-  pub class : ℕ
-  pub p1 : ℕ
-  pub p2 : ℕ
-  pub field : List ℕ
-  pub withLe : Bool
-  pub rightClass : classRight class ≡ true
-  pub rightParameters : parametersRight instruction p1 p2 ≡ true
-  pub least : 1 ≤ length field
-  pub most : length field ≤ 255
-  pub encoded : Encoded field
-  pub written : s ≡ framed class instruction p1 p2 field withLe
 
 pub record Bare (s : List ℕ) : Type 0 where
   pub class : ℕ

@@ -1,6 +1,4 @@
 -- Document 01, 'Reading a command'.
-pub mod Framing
-pub mod Frame
 pub mod Requests
 pub mod Reading
 pub mod Grammar

@@ -1,27 +1,22 @@
 -- Document 01, 'Status words': the rows that a command meets while it is read, in the order of the table.
 use Prim.Native.Nat.{ℕ}
-use mathlib.Core.List.{List, [], _∷_}
+use mathlib.Core.List.{List}
 use mathlib.Core.Bool.{cond}
 use Rattle.status.specs.StatusWords.{isDone}
-use Rattle.status.specs.Rows.{Row, row, wordOf}
+use Rattle.status.specs.Rows.{Row, wordOf}
 use Rattle.status.specs.declared.Status.{Status}
 use Rattle.status.specs.declared.Status.the-variants as status
 use Rattle.fields.specs.declared.request.Field.{Field}
 use Rattle.fields.specs.declared.request.Field.the-variants as field
 use Rattle.command.specs.declared.Reading.{Reading}
 use Rattle.command.specs.declared.Reading.the-variants as reading
-use Rattle.command.specs.Framing.{lengthWrong, classWrong, instructionWrong, parametersWrong, shapeWrong}
+use Rattle.framing.specs.Framing.{lengthWrong, classWrong, instructionWrong, parametersWrong, shapeWrong}
+use Rattle.framing.specs.Rows.{rowsBy}
 use Rattle.command.specs.Requests.{fieldOf, dataWrong}
 
 abbrev pub readingRows : List ℕ → ℕ → List Row
 readingRows s capacity =
-    row (lengthWrong s) status.LengthWrong
-    ∷ row (classWrong s) status.ClassWrong
-    ∷ row (instructionWrong s) status.InstructionWrong
-    ∷ row (parametersWrong s) status.ParametersWrong
-    ∷ row (shapeWrong s) status.LengthWrong
-    ∷ row (dataWrong s capacity) status.DataWrong
-    ∷ []
+    rowsBy (lengthWrong s) (classWrong s) (instructionWrong s) (parametersWrong s) (shapeWrong s) (dataWrong s capacity)
 
 -- the request of a field that no row refuses; a wrong one never comes here
 abbrev pub accepted : Field → Reading

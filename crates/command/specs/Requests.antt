@@ -13,7 +13,7 @@ use Rattle.fields.specs.declared.request.Field.{Field}
 use Rattle.fields.specs.declared.request.Field.the-variants as field
 use Rattle.install.specs.Install.{installOf}
 use Rattle.byte_string.specs.Bytes.{byte}
-use Rattle.command.specs.Framing.{dataEnd}
+use Rattle.framing.specs.Framing.{dataEnd}
 
 -- P2 03 of a GET STATUS: the listing goes on from the kept place (request 2026-05; 000, Table 26: "Get next occurrence(s)")
 abbrev pub goesOn : List ℕ → Bool

@@ -1,6 +1,4 @@
 // Reading a command: from a byte string of any length to a request, or to the word of its refusal.
-mod framing;
-
 use byte_string::byte_at;
 pub use fields::Field;
 pub use fields::Request;

@@ -25,7 +25,7 @@ use Rattle.fields.specs.declared.request.Request.{Request}
 use Rattle.fields.specs.declared.request.Request.the-variants as request
 use Rattle.fields.specs.declared.request.Field.{Field}
 use Rattle.fields.specs.declared.request.Field.the-variants as field
-use Rattle.command.specs.Framing.{lengthWrong, classWrong, instructionWrong, parametersWrong, shapeWrong}
+use Rattle.framing.specs.Framing.{lengthWrong, classWrong, instructionWrong, parametersWrong, shapeWrong}
 use Rattle.command.specs.Requests.{fieldOf}
 use Rattle.steps.specs.Asked.{Asked}
 use Rattle.steps.specs.Conditions.{cardRows}

@@ -21,7 +21,7 @@ use Rattle.fields.specs.Delete.{verificationAt, deletionAt}
 use Rattle.fields.specs.GetStatus.{noted, listedWithin, listedAt, tagsAt, listingAt}
 use Rattle.install.specs.Parameters.{protocolsWithin, protocolsAt, numberAt, grantOf, memoryAt, parametersAt}
 use Rattle.install.specs.Install.{prefixedOf, prefixedAt, namesAt, rightsAt, installOf}
-use Rattle.command.specs.Framing.{lengthWrong, classRight, classWrong, instructionWrong, parametersRight, parametersWrong, shapeRight, shapeWrong}
+use Rattle.framing.specs.Framing.{lengthWrong, classRight, classWrong, instructionWrong, parametersRight, parametersWrong, shapeRight, shapeWrong}
 use Rattle.command.specs.Requests.{fieldOf, dataWrong}
 use Rattle.responses.specs.Responses.{statusBody, statusRow, rowOf, partFrom, leftFrom, partGiven, leftAfter, oneStatus, dataResponse, deletedResponse}
 use Rattle.manager.specs.Manager.{step, run}

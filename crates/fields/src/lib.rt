@@ -27,7 +27,7 @@ pub enum Dgi {
     Wrong,
 }
 
-fn read_dgi(s: &[u8], at: usize, end: usize) -> Dgi
+pub fn read_dgi(s: &[u8], at: usize, end: usize) -> Dgi
     ensures { λ r. ⌜ r ≡ dgiAt (now (s .entry)) at end ⌝ }
 {
     if s.len() < end {

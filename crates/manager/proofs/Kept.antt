@@ -20,7 +20,7 @@ use Rattle.card.specs.declared.Card.{Card}
 use Rattle.card.proofs.Outcomes.{decide-card, checked}
 use Rattle.byte_string.specs.Bytes.{partOf}
 use Rattle.byte_string.specs.declared.Part.{Part}
-use Rattle.command.specs.Framing.{lengthWrong, classWrong, instructionWrong, parametersWrong, shapeWrong}
+use Rattle.framing.specs.Framing.{lengthWrong, classWrong, instructionWrong, parametersWrong, shapeWrong}
 use Rattle.command.specs.Requests.{fieldOf}
 use Rattle.fields.specs.Places.{Placed, RequestIn, FieldIn}
 use Rattle.fields.specs.declared.request.Request.{Request}

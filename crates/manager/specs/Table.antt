@@ -8,7 +8,7 @@ use Rattle.status.specs.Rows.{Row, row}
 use Rattle.status.specs.declared.Status.the-variants.{BufferShort, LengthWrong, ClassWrong, InstructionWrong, ParametersWrong, DataWrong, StateWrong, NotHeld, PolicyForbids, VerdictWrong, NoRoom}
 use Rattle.card.specs.Answers.{soundRow}
 use Rattle.card.specs.declared.Card.{Card}
-use Rattle.command.specs.Framing.{lengthWrong, classWrong, instructionWrong, parametersWrong, shapeWrong}
+use Rattle.framing.specs.Framing.{lengthWrong, classWrong, instructionWrong, parametersWrong, shapeWrong}
 use Rattle.command.specs.Requests.{dataWrong}
 use Rattle.steps.specs.Asked.{Act.keyed, Act.stored, Act.finished}
 use Rattle.steps.specs.Conditions.{innerWrong, changeWrong, targetMissing, alreadyHeld, stateWrong, policyForbids, verdictWrong, noRoom}

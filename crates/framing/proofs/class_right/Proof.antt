@@ -1,8 +1,8 @@
 -- `class_right` meets its contract by its definition.
 use mathlib.Core.Path.{refl}
-use Rattle.command.specs.Framing.{classRight}
-use Rattle.command.proofs.framing.class_right.Statement.{statement}
-use Rattle.command.proofs.framing.class_right.Tie as tie
+use Rattle.framing.specs.Framing.{classRight}
+use Rattle.framing.proofs.class_right.Statement.{statement}
+use Rattle.framing.proofs.class_right.Tie as tie
 
 returns : tie.Need-returns
 unfolding classRight

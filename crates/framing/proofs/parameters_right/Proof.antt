@@ -1,8 +1,8 @@
 -- `parameters_right` meets its contract by its definition.
 use mathlib.Core.Path.{refl}
-use Rattle.command.specs.Framing.{parametersRight}
-use Rattle.command.proofs.framing.parameters_right.Statement.{statement}
-use Rattle.command.proofs.framing.parameters_right.Tie as tie
+use Rattle.framing.specs.Framing.{parametersRight}
+use Rattle.framing.proofs.parameters_right.Statement.{statement}
+use Rattle.framing.proofs.parameters_right.Tie as tie
 
 returns : tie.Need-returns
 unfolding parametersRight

@@ -10,8 +10,8 @@ use lib.Seq.{getD-append-seam, length-take-le, drop-cons}
 use lib.Dec.{eqb}
 use borrow.Author.Tests.{eq-eqb, ne-eqb, eqb-true, eqb-false, not-true}
 use Rattle.byte_string.specs.Bytes.{byte}
-use Rattle.command.specs.Framing.{shapeRight, isFilled, dataEnd}
-use Rattle.command.specs.Frame.{leOf, framed, dataField, hasLe}
+use Rattle.framing.specs.Framing.{shapeRight, isFilled, dataEnd}
+use Rattle.framing.specs.Frame.{leOf, framed, dataField, hasLe}
 
 -- a place past the header, counted from there
 pub five : (n : ℕ) → 5 + n ≡ suc (suc (suc (suc (suc n))))

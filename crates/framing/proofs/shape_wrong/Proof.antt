@@ -1,9 +1,9 @@
 -- `shape_wrong` meets its contract, by what its bytes are.
 use borrow.Author.Needs.{needs}
 use mathlib.Core.Path.{refl}
-use Rattle.command.specs.Framing.{shapeWrong, shapeRight}
-use Rattle.command.proofs.framing.shape_wrong.Statement.{statement}
-use Rattle.command.proofs.framing.shape_wrong.Tie as tie
+use Rattle.framing.specs.Framing.{shapeWrong, shapeRight}
+use Rattle.framing.proofs.shape_wrong.Statement.{statement}
+use Rattle.framing.proofs.shape_wrong.Tie as tie
 
 byte-at-requires : tie.Need-byte-at-requires
 byte-at-requires c κs = search needs

@@ -2,7 +2,7 @@
 // a byte that is not there reads as 00, so that a row can be asked whatever the rows before it say.
 use byte_string::byte_at;
 ghost use mathlib.Core.Path.{_≡_};
-ghost use Rattle.command.specs.Framing.{lengthWrong, classRight, classWrong, instructionWrong, parametersRight, parametersWrong, dataEnd, shapeWrong};
+ghost use Rattle.framing.specs.Framing.{lengthWrong, classRight, classWrong, instructionWrong, parametersRight, parametersWrong, dataEnd, shapeWrong};
 
 pub const INSTALL: u8 = 0xE6;
 

@@ -1,9 +1,9 @@
 -- `parameters_wrong` meets its contract, by what its bytes are.
 use borrow.Author.Needs.{needs}
 use mathlib.Core.Path.{refl}
-use Rattle.command.specs.Framing.{parametersWrong}
-use Rattle.command.proofs.framing.parameters_wrong.Statement.{statement}
-use Rattle.command.proofs.framing.parameters_wrong.Tie as tie
+use Rattle.framing.specs.Framing.{parametersWrong}
+use Rattle.framing.proofs.parameters_wrong.Statement.{statement}
+use Rattle.framing.proofs.parameters_wrong.Tie as tie
 
 byte-at-requires : tie.Need-byte-at-requires
 byte-at-requires c κs = search needs

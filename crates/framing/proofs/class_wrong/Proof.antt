@@ -1,9 +1,9 @@
 -- `class_wrong` meets its contract, by what the class test ensures.
 use borrow.Author.Needs.{needs}
 use mathlib.Core.Path.{refl}
-use Rattle.command.specs.Framing.{classWrong}
-use Rattle.command.proofs.framing.class_wrong.Statement.{statement}
-use Rattle.command.proofs.framing.class_wrong.Tie as tie
+use Rattle.framing.specs.Framing.{classWrong}
+use Rattle.framing.proofs.class_wrong.Statement.{statement}
+use Rattle.framing.proofs.class_wrong.Tie as tie
 
 byte-at-requires : tie.Need-byte-at-requires
 byte-at-requires c κs = search needs

@@ -1,9 +1,9 @@
 -- `instruction_wrong` meets its contract, by what its byte is.
 use borrow.Author.Needs.{needs}
 use mathlib.Core.Path.{refl}
-use Rattle.command.specs.Framing.{instructionWrong}
-use Rattle.command.proofs.framing.instruction_wrong.Statement.{statement}
-use Rattle.command.proofs.framing.instruction_wrong.Tie as tie
+use Rattle.framing.specs.Framing.{instructionWrong}
+use Rattle.framing.proofs.instruction_wrong.Statement.{statement}
+use Rattle.framing.proofs.instruction_wrong.Tie as tie
 
 byte-at-requires : tie.Need-byte-at-requires
 byte-at-requires c κs = search needs

@@ -1,8 +1,8 @@
 -- `length_wrong` meets its contract by its definition.
 use mathlib.Core.Path.{refl}
-use Rattle.command.specs.Framing.{lengthWrong}
-use Rattle.command.proofs.framing.length_wrong.Statement.{statement}
-use Rattle.command.proofs.framing.length_wrong.Tie as tie
+use Rattle.framing.specs.Framing.{lengthWrong}
+use Rattle.framing.proofs.length_wrong.Statement.{statement}
+use Rattle.framing.proofs.length_wrong.Tie as tie
 
 returns : tie.Need-returns
 unfolding lengthWrong

@@ -1,0 +1,4 @@
+-- Document 01, 'Reading a command', first two paragraphs: what a command is before its data field is read.
+pub mod Framing
+pub mod Frame
+pub mod Rows
