@@ -1,5 +1,6 @@
 // What each call does on a card known to be sound, once it is read: create, enable, disable, delete, master delete, set fall-back, and
-// keyed, stored and finished by the download part. (Tick, lost and confirmation are the card's.)
+// keyed, stored and finished by the download part, and the policy update of an operator's domain. (Tick, lost and confirmation are the
+// card's.)
 // No buffer is seen here; a response of one byte 00 is told by its length, and the manager writes it.
 use card::Answer;
 use card::Card;
@@ -14,7 +15,7 @@ use places::Found;
 use status::Status;
 ghost use mathlib.Core.Path.{_≡_};
 ghost use Rattle.card.specs.Answers.{handed, known};
-ghost use Rattle.steps.specs.Asked.{Act.enable, Act.disable, Act.delete, Act.masterDelete, Act.setFallBack, Act.keyed, Act.stored, Act.finished, Asked.create, Asked.on};
+ghost use Rattle.steps.specs.Asked.{Act.enable, Act.disable, Act.delete, Act.masterDelete, Act.setFallBack, Act.keyed, Act.stored, Act.finished, Act.setPolicy, Asked.create, Asked.on};
 ghost use Rattle.steps.specs.Steps.{askedWork, innerWork};
 
 pub fn create(card: Card, aid: &[u8], quota: u32) -> Answer
@@ -208,5 +209,27 @@ pub fn finished(card: Card, aid: &[u8], policy: u8, mark: u8) -> Answer
         return card.refused(Status::StateWrong);
     }
     let after = card.rewritten(t, p.finish(policy, mark));
+    after.silently(Status::Done, 0)
+}
+
+// The policy of the enabled profile, set by its operator's domain; the old one is not asked.
+pub fn set_policy(card: Card, speaker: &[u8], policy: u8) -> Answer
+    ensures { λ r. ⌜ r ≡ handed (known card (innerWork card (now (speaker .entry)) (setPolicy policy))) ⌝ }
+{
+    if !(aid_ok(speaker) & policy_ok(policy)) {
+        return card.refused(Status::DataWrong);
+    }
+    let phase = card.phase;
+    if !phase.is_quiet() {
+        return card.refused(Status::StateWrong);
+    }
+    let Found::At(t) = card.place_of(speaker) else {
+        return card.refused(Status::NotHeld);
+    };
+    let p = card.profile(t);
+    if p.life != Isdp::ENABLED {
+        return card.refused(Status::StateWrong);
+    }
+    let after = card.rewritten(t, p.with_policy(policy));
     after.silently(Status::Done, 0)
 }

@@ -1,6 +1,6 @@
 -- One place set anew keeps a card sound (`sets`), by what is asked of the new profile. So do a Created profile (neither DISABLED nor
--- ENABLED) rewritten with its AID and quota, and a deletion of a profile that may be deleted; another fall-back
--- does. Then the confirmation, which closes and may delete. Assumes nothing.
+-- ENABLED) rewritten with its AID and quota, any profile rewritten in Quiet with its life cycle and mark too, and a deletion of a profile
+-- that may be deleted; another fall-back does. Then the confirmation, which closes and may delete. Assumes nothing.
 use mathlib.Core.Path.{_≡_, refl, sym, _∙_}
 use Prim.Native.Nat.{ℕ, _+_}
 use mathlib.Core.List.{List}
@@ -16,7 +16,7 @@ use Rattle.isdp.specs.declared.Isdp.{Isdp}
 use Rattle.isdp.proofs.Bools.{and-r}
 use Rattle.isdp.proofs.Placed.{none-ok}
 use Rattle.places.specs.Places.{at, quotas, distinct}
-use Rattle.places.proofs.Sets.{set-all, set-count, set-alike, clear-distinct}
+use Rattle.places.proofs.Sets.{set-all, set-count, set-alike, set-unseen, clear-distinct}
 use Rattle.card.specs.Cards.{mayBeDeleted, withRoom, withPhase, withFallback, cleared, rewritten}
 use Rattle.card.specs.Sound.{sound}
 use Rattle.card.specs.Clock.{dropped, confirmIn, confirmOf}
@@ -64,6 +64,14 @@ module _ (c : Card) (i : ℕ) (x : Isdp) (s : Sound c) (d : isFinished (at (c .p
       (rewriting i x c q (s .placed .room))
       (rw (other (c .fallback) (resort-done c s)) (s .roles .resort))
       (phase-kept (c .phase) (s .phased))
+
+-- a profile rewritten with its AID, quota, life cycle and mark, where no change is open: it may be the enabled one
+pub restates : (c : Card) (i : ℕ) (x : Isdp) → Sound c → c .phase ≡ Quiet → placeOk (c .capacity) x ≡ true → x .aid ≡ at (c .places) i .aid → x .quota ≡ at (c .places) i .quota → x .life ≡ at (c .places) i .life → x .mark ≡ at (c .places) i .mark → Sound (rewritten c i x)
+restates c i x s o k a q v m =
+    sets c i x (c .free) s k (rw v) (set-alike x (c .places) i a ∙ s .placed .apart)
+    (rewriting i x c q (s .placed .room))
+    (set-unseen mayBeFallBack x (c .places) i (rw (v, m)) (c .fallback) ∙ s .roles .resort)
+    (rw o tt)
 
 -- deletion of a profile that may be deleted, where no change is open
 pub deletes : (c : Card) (i : ℕ) → Sound c → c .phase ≡ Quiet → mayBeDeleted c i ≡ true → Sound (cleared c i)

@@ -26,7 +26,7 @@ use Rattle.card.specs.Steps.{tickStep, lostStep, confirmStep, goneIn}
 use Rattle.card.specs.declared.Card.{Card}
 use Rattle.card.specs.declared.Phase.{Phase}
 use Rattle.card.specs.declared.Phase.the-variants.{Quiet, Trial, Back, Fallen}
-use Rattle.steps.specs.Asked.{Act, Act.enable, Act.disable, Act.delete, Act.masterDelete, Act.setFallBack, Act.status, Act.keyed, Act.stored, Act.finished, Asked, Asked.unread, Asked.create, Asked.on, Asked.confirm, Asked.statusOfAll, Asked.getData, Asked.tick, Asked.lost}
+use Rattle.steps.specs.Asked.{Act, Act.enable, Act.disable, Act.delete, Act.masterDelete, Act.setFallBack, Act.status, Act.keyed, Act.stored, Act.finished, Act.setPolicy, Asked, Asked.unread, Asked.create, Asked.on, Asked.confirm, Asked.statusOfAll, Asked.getData, Asked.tick, Asked.lost}
 use Rattle.steps.specs.Conditions.{cardRows}
 use Rattle.steps.specs.Steps.{beginsAt, partWord, successOf, stepOf, actStep, responseOf, actResponse}
 use Rattle.steps.proofs.Laws.Places.{held-within}

@@ -11,7 +11,7 @@ use Rattle.card.specs.Answers.{Outcome, outcome}
 use Rattle.card.specs.declared.Card.{Card}
 use Rattle.fields.specs.Grammar as field
 use Rattle.fields.specs.Grammar.{Wanted}
-use Rattle.steps.specs.Asked.{Act.keyed, Act.stored, Act.finished, Asked.tick, Asked.lost}
+use Rattle.steps.specs.Asked.{Act.keyed, Act.stored, Act.finished, Act.setPolicy, Asked.tick, Asked.lost}
 use Rattle.steps.specs.Steps.{askedWork, innerWork}
 use Rattle.steps.specs.Laws.Create.{CreateAnswers}
 use Rattle.steps.specs.Laws.Loading.{KeyedAnswers, StoredAnswers, FinishedAnswers}

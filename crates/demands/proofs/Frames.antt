@@ -13,7 +13,7 @@ use Rattle.isdp.specs.Place.{vacant}
 use Rattle.isdp.specs.declared.Isdp.{Isdp}
 use Rattle.isdp.proofs.Bools.{and-l, or-l, or-r}
 use Rattle.places.specs.Places.{at}
-use Rattle.places.proofs.Sets.{set-enabled}
+use Rattle.places.proofs.Sets.{set-unseen}
 use Rattle.card.specs.Cards.{noPlace, keeping, forgotten, isQuiet, placeOf, profileOf, withPlaces, withPhase}
 use Rattle.card.specs.Sound.{sound}
 use Rattle.card.specs.Clock.{outstanding, dropped, tickOf, lostOf, confirmIn, confirmOf}
@@ -30,7 +30,7 @@ use Rattle.fields.specs.declared.request.Field.{Field}
 use Rattle.fields.specs.declared.request.Field.the-variants as field
 use Rattle.command.specs.Requests.{fieldOf}
 use Rattle.steps.proofs.Rows.{Passed}
-use Rattle.steps.specs.Asked.{Act, Act.enable, Act.disable, Act.delete, Act.masterDelete, Act.setFallBack, Act.status, Act.keyed, Act.stored, Act.finished, Asked, Asked.unread, Asked.create, Asked.on, Asked.confirm, Asked.statusOfAll, Asked.getData, Asked.tick, Asked.lost}
+use Rattle.steps.specs.Asked.{Act, Act.enable, Act.disable, Act.delete, Act.masterDelete, Act.setFallBack, Act.status, Act.keyed, Act.stored, Act.finished, Act.setPolicy, Asked, Asked.unread, Asked.create, Asked.on, Asked.confirm, Asked.statusOfAll, Asked.getData, Asked.tick, Asked.lost}
 use Rattle.steps.specs.Steps.{goesOnAt, stepOf, responseOf}
 use Rattle.manager.proofs.Kept.{rows-accepted}
 use Rattle.manager.specs.Calls.{Call, Call.Command, Call.Keyed, Call.Stored, Call.Finished, Call.Tick, Call.Lost, asked, requestAsks, fieldAsks}
@@ -63,7 +63,7 @@ set-named x (p ∷ ps) (suc i) e (suc j) = set-named x ps i e j
 
 rewritten-same : (c : Card) (i : ℕ) (x : Isdp) → isEnabled x ≡ isEnabled (at (c .places) i) → x .aid ≡ at (c .places) i .aid → Unmoved c (withPlaces c (set (c .places) i x))
 rewritten-same c i x e n =
-    record { phase = refl; enabled = set-enabled x (c .places) i e; named = set-named x (c .places) i n; fallback = refl; last = refl }
+    record { phase = refl; enabled = set-unseen isEnabled x (c .places) i e; named = set-named x (c .places) i n; fallback = refl; last = refl }
 
 open-row : (c : Card) → isQuiet (c .phase) ≡ false → not (isQuiet (c .phase)) ≡ false → ⊥
 open-row c o h = false≢true (sym o ∙ not-false _ h)
@@ -172,7 +172,7 @@ confirm-closes : (c : Card) (p : Phase) → Phased p c → Closed c (confirmIn p
 confirm-closes c Quiet h = calm c
 confirm-closes c (Trial q l m) h =
     choose (Closed c) (dropped c q) _ _
-    (λ b. record { quiet = refl; enabled = set-enabled vacant (c .places) q (rw (h .1)); named = enabled-named vacant refl (c .places) q; fallback = refl; last = refl })
+    (λ b. record { quiet = refl; enabled = set-unseen isEnabled vacant (c .places) q (rw (h .1)); named = enabled-named vacant refl (c .places) q; fallback = refl; last = refl })
     (λ b. calm c)
 confirm-closes c (Back l m) h = calm c
 confirm-closes c (Fallen l m) h = calm c

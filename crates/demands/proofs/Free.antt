@@ -37,7 +37,7 @@ use Rattle.card.proofs.Outcomes.{took, accepted-card}
 use Rattle.card.proofs.Freshness.{fresh-sound}
 use Rattle.responses.specs.Responses.{deletedResponse}
 use Rattle.steps.proofs.Rows.{Passed}
-use Rattle.steps.specs.Asked.{Act, Act.enable, Act.disable, Act.delete, Act.masterDelete, Act.setFallBack, Act.status, Act.keyed, Act.stored, Act.finished, Asked, Asked.unread, Asked.create, Asked.on, Asked.confirm, Asked.statusOfAll, Asked.getData, Asked.tick, Asked.lost}
+use Rattle.steps.specs.Asked.{Act, Act.enable, Act.disable, Act.delete, Act.masterDelete, Act.setFallBack, Act.status, Act.keyed, Act.stored, Act.finished, Act.setPolicy, Asked, Asked.unread, Asked.create, Asked.on, Asked.confirm, Asked.statusOfAll, Asked.getData, Asked.tick, Asked.lost}
 use Rattle.steps.specs.Steps.{stepOf, actStep, responseOf, successOf}
 use Rattle.steps.proofs.Kept.{Legal}
 use Rattle.steps.proofs.Laws.Places.{held-within}

@@ -35,7 +35,7 @@ use Rattle.card.proofs.Deletions.{deletable, by-delete-too}
 use Rattle.card.proofs.Noticed.{found-kept, unmoved, steps-noticed}
 use Rattle.card.proofs.Freshness.{fresh-sound}
 use Rattle.steps.proofs.Rows.{Passed}
-use Rattle.steps.specs.Asked.{Act, Act.enable, Act.disable, Act.delete, Act.masterDelete, Act.setFallBack, Act.status, Act.keyed, Act.stored, Act.finished, Asked, Asked.unread, Asked.create, Asked.on, Asked.confirm, Asked.statusOfAll, Asked.getData, Asked.tick, Asked.lost}
+use Rattle.steps.specs.Asked.{Act, Act.enable, Act.disable, Act.delete, Act.masterDelete, Act.setFallBack, Act.status, Act.keyed, Act.stored, Act.finished, Act.setPolicy, Asked, Asked.unread, Asked.create, Asked.on, Asked.confirm, Asked.statusOfAll, Asked.getData, Asked.tick, Asked.lost}
 use Rattle.steps.specs.Steps.{goesOnAt, stepOf, responseOf}
 use Rattle.manager.specs.Calls.{Call, asked}
 use Rattle.manager.specs.Manager.{step, run}

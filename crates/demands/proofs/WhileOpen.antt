@@ -11,7 +11,7 @@ use Rattle.card.specs.declared.Card.{Card}
 use Rattle.card.specs.declared.Phase.the-variants.{Quiet}
 use Rattle.card.proofs.Sounds.{parts, whole}
 use Rattle.framing.specs.Framing.{lengthWrong, classWrong, instructionWrong, parametersWrong, shapeWrong}
-use Rattle.steps.specs.Asked.{Act.status, Act.keyed, Act.stored, Act.finished, Asked, Asked.on, Asked.statusOfAll, Asked.getData, Asked.tick, Asked.lost}
+use Rattle.steps.specs.Asked.{Act.status, Act.keyed, Act.stored, Act.finished, Act.setPolicy, Asked, Asked.on, Asked.statusOfAll, Asked.getData, Asked.tick, Asked.lost}
 use Rattle.responses.specs.Responses.{leftAfter}
 use Rattle.steps.specs.Conditions.{cardRows}
 use Rattle.steps.specs.Steps.{goesOnAt, partWord, successOf}

@@ -8,7 +8,7 @@ use lib.ListN.{drop}
 use Rattle.byte_string.specs.Bytes.{sameBytes}
 use Rattle.status.specs.StatusWords.{isDone}
 use Rattle.card.specs.Cards.{freeIn}
-use Rattle.steps.specs.Asked.{Act, Act.enable, Act.disable, Act.delete, Act.masterDelete, Act.setFallBack, Act.status, Act.keyed, Act.stored, Act.finished, Asked, Asked.unread, Asked.create, Asked.on, Asked.confirm, Asked.statusOfAll, Asked.getData, Asked.tick, Asked.lost}
+use Rattle.steps.specs.Asked.{Act, Act.enable, Act.disable, Act.delete, Act.masterDelete, Act.setFallBack, Act.status, Act.keyed, Act.stored, Act.finished, Act.setPolicy, Asked, Asked.unread, Asked.create, Asked.on, Asked.confirm, Asked.statusOfAll, Asked.getData, Asked.tick, Asked.lost}
 use Rattle.manager.specs.Calls.{Call, askedOf}
 use Rattle.manager.specs.Manager.{run}
 use Rattle.demands.specs.Inputs.{Inputs, freshOf}

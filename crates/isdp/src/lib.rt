@@ -9,7 +9,7 @@ ghost use lib.Dec.{leb, ltb, eqb};
 ghost use Rattle.isdp.specs.Sizes.{mostAid};
 ghost use Rattle.isdp.specs.Aids.{aidOk, padded, named, noAid, bytesOf};
 ghost use Rattle.isdp.specs.Policy.{policyOk, forbidsDisabling, forbidsDeletion, onceDisabled};
-ghost use Rattle.isdp.specs.LifeCycle.{isEnabled, withLife, withUsed, withMark, finish, off};
+ghost use Rattle.isdp.specs.LifeCycle.{isEnabled, withLife, withUsed, withPolicy, withMark, finish, off};
 ghost use Rattle.isdp.specs.Provisioning.{markOk, mayBeFallBack};
 ghost use Rattle.isdp.specs.Place.{vacant, made, isFor, zeros, lifeOk, emptyOk, heldOk, placeOk, clash};
 
@@ -250,6 +250,14 @@ impl Isdp {
     {
         let mut p = self;
         p.used = used;
+        p
+    }
+
+    pub fn with_policy(self, policy: u8) -> Isdp
+        ensures { λ r. ⌜ r ≡ withPolicy self policy ⌝ }
+    {
+        let mut p = self;
+        p.policy = policy;
         p
     }
 

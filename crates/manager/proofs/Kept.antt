@@ -20,7 +20,7 @@ use Rattle.card.specs.declared.Card.{Card}
 use Rattle.card.proofs.Outcomes.{decide-card, checked}
 use Rattle.byte_string.specs.Bytes.{partOf}
 use Rattle.byte_string.specs.declared.Part.{Part}
-use Rattle.framing.specs.Framing.{lengthWrong, classWrong, instructionWrong, parametersWrong, shapeWrong}
+use Rattle.framing.specs.Framing.{lengthWrong, classWrong, parametersWrong, shapeWrong}
 use Rattle.command.specs.Requests.{fieldOf}
 use Rattle.fields.specs.Places.{Placed, RequestIn, FieldIn}
 use Rattle.fields.specs.declared.request.Request.{Request}
@@ -28,11 +28,14 @@ use Rattle.fields.specs.declared.request.Request.the-variants as request
 use Rattle.fields.specs.declared.request.Field.{Field}
 use Rattle.fields.specs.declared.request.Field.the-variants as field
 use Rattle.command.proofs.Within.{field-in}
+use Rattle.operator.specs.Field.{policyOf}
+use Rattle.operator.specs.declared.Policy as operator
+use Rattle.operator.specs.declared.Policy.the-variants as update
 use Rattle.steps.specs.Steps.{stepOf, responseOf}
 use Rattle.steps.proofs.Rows.{Passed, named}
 use Rattle.steps.proofs.Kept.{Legal, step-kept}
-use Rattle.manager.specs.Calls.{Call, Call.Command, Call.Keyed, Call.Stored, Call.Finished, Call.Tick, Call.Lost, requestAsks, fieldAsks, asked}
-use Rattle.manager.specs.Table.{bufferShort, inCommand, valuesWrong, rowsAfter, table}
+use Rattle.manager.specs.Calls.{Call, Call.Command, Call.Keyed, Call.Stored, Call.Finished, Call.Tick, Call.Lost, Call.Policy, requestAsks, fieldAsks, policyAsks, asked}
+use Rattle.manager.specs.Table.{bufferShort, inCommand, instructionUnknown, updateWrong, valuesWrong, rowsAfter, table}
 use Rattle.manager.specs.Manager.{work, step, onSound, run}
 use Rattle.manager.specs.Statements.{OnSoundAgrees}
 
@@ -63,6 +66,10 @@ field-legal : (c : Card) (verdict : ℕ) (s : List ℕ) (f : Field) → FieldIn 
 field-legal c verdict s field.Wrong h = tt
 field-legal c verdict s (field.Found r) h = request-legal c verdict s r h
 
+update-legal : (c : Card) (speaker : List ℕ) (p : operator.Policy) → updateWrong speaker p ≡ false → Legal c (policyAsks speaker p)
+update-legal c speaker update.Wrong e = tt
+update-legal c speaker (update.Found p) e = and-r (aidOk speaker) _ (not-false _ e)
+
 -- what a call asks is legal once its values are right
 pub legal : (c : Card) (call : Call) → valuesWrong c call ≡ false → Legal c (asked c call)
 legal c (Command verdict s room) e = field-legal c verdict s (fieldOf s (c .capacity)) (field-in s (c .capacity))
@@ -71,6 +78,7 @@ legal c (Stored aid n) e = tt
 legal c (Finished aid policy mark) e = and-r (aidOk aid) _ (not-false _ e)
 legal c Tick e = tt
 legal c Lost e = tt
+legal c (Policy speaker s room) e = update-legal c speaker (policyOf s) e
 
 -- the rows of the table by name: where a call is accepted each of them was passed
 pub record Accepted (c : Card) (call : Call) : Type 0 where
@@ -78,7 +86,7 @@ pub record Accepted (c : Card) (call : Call) : Type 0 where
   pub buffer : bufferShort call ≡ false
   pub length : inCommand lengthWrong call ≡ false
   pub class : inCommand classWrong call ≡ false
-  pub instruction : inCommand instructionWrong call ≡ false
+  pub instruction : instructionUnknown call ≡ false
   pub parameters : inCommand parametersWrong call ≡ false
   pub shape : inCommand shapeWrong call ≡ false
   pub values : valuesWrong c call ≡ false

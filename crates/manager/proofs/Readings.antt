@@ -22,6 +22,7 @@ use Rattle.manager.specs.Calls.{Call, Call.Command, requestAsks, fieldAs
 use Rattle.manager.specs.Table.{leastBuffer, rowsAfter}
 use Rattle.manager.specs.Manager.{work, onSound}
 use Rattle.manager.specs.Statements.{TableParts}
+use Rattle.manager.proofs.Updates.{policy-refused, policy-read}
 
 module _ (c : Card) (verdict : ℕ) (s : List ℕ) (room : ℕ) (h : leastBuffer ≤ room) where
   abbrev call : Call
@@ -64,4 +65,6 @@ table-parts c success =
       finished-rows = λ aid policy mark. refl;
       tick-rows = refl;
       lost-rows = refl;
+      policy-refused = λ speaker s room. policy-refused c success speaker s room;
+      policy-read = λ speaker s room. policy-read c success speaker s room;
     }

@@ -24,7 +24,7 @@ use Rattle.card.specs.declared.Phase.{Phase}
 use Rattle.card.specs.declared.Phase.the-variants.{Quiet, Trial, Back, Fallen}
 use Rattle.responses.proofs.Lengths.{aidFits, all-at, sound-fits, one-length, data-length, deleted-length}
 use Rattle.responses.proofs.Parts.{part-short}
-use Rattle.steps.specs.Asked.{Act, Act.enable, Act.disable, Act.delete, Act.masterDelete, Act.setFallBack, Act.status, Act.keyed, Act.stored, Act.finished, Asked, Asked.unread, Asked.create, Asked.on, Asked.confirm, Asked.statusOfAll, Asked.getData, Asked.tick, Asked.lost}
+use Rattle.steps.specs.Asked.{Act, Act.enable, Act.disable, Act.delete, Act.masterDelete, Act.setFallBack, Act.status, Act.keyed, Act.stored, Act.finished, Act.setPolicy, Asked, Asked.unread, Asked.create, Asked.on, Asked.confirm, Asked.statusOfAll, Asked.getData, Asked.tick, Asked.lost}
 use Rattle.card.specs.Cards.{placeOf}
 use Rattle.steps.specs.Steps.{stepOf, beginsAt, actResponse, responseOf}
 use Rattle.manager.specs.Calls.{asked}
@@ -57,6 +57,7 @@ act-most c aid (status life fallback) s = omega (arith, one-length c (placeOf c 
 act-most c aid keyed s = omega arith
 act-most c aid (stored n) s = omega arith
 act-most c aid (finished policy mark) s = omega arith
+act-most c aid (setPolicy policy) s = omega arith
 
 asked-most : (c : Card) (a : Asked) → sound c ≡ true → length (responseOf c a) ≤ 255
 unfolding confirmStep

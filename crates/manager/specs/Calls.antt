@@ -7,7 +7,10 @@ use Rattle.fields.specs.declared.request.Request.{Request}
 use Rattle.fields.specs.declared.request.Request.the-variants as request
 use Rattle.fields.specs.declared.request.Field.{Field}
 use Rattle.fields.specs.declared.request.Field.the-variants as field
-use Rattle.steps.specs.Asked.{Act.enable, Act.disable, Act.delete, Act.masterDelete, Act.setFallBack, Act.status, Act.keyed, Act.stored, Act.finished, Asked, Asked.unread, Asked.create, Asked.on, Asked.confirm, Asked.statusOfAll, Asked.getData, Asked.tick, Asked.lost}
+use Rattle.operator.specs.Field.{policyOf}
+use Rattle.operator.specs.declared.Policy as operator
+use Rattle.operator.specs.declared.Policy.the-variants as policy
+use Rattle.steps.specs.Asked.{Act.enable, Act.disable, Act.delete, Act.masterDelete, Act.setFallBack, Act.status, Act.keyed, Act.stored, Act.finished, Act.setPolicy, Asked, Asked.unread, Asked.create, Asked.on, Asked.confirm, Asked.statusOfAll, Asked.getData, Asked.tick, Asked.lost}
 use Rattle.card.specs.declared.Card.{Card}
 use Rattle.manager.specs.declared.Call as declared
 use Rattle.manager.specs.declared.Call.the-variants as code
@@ -21,6 +24,8 @@ pub data Call : Type 0 where
   Finished : List ℕ → ℕ → ℕ → Call
   Tick : Call
   Lost : Call
+  -- a policy update: the AID of the profile whose domain speaks, the bytes that it was sent, and how many bytes the lent response buffer has
+  Policy : List ℕ → List ℕ → ℕ → Call
 
 -- the call that the code's value names over the bytes it came in, with a response buffer of so many bytes lent
 abbrev pub callOf : List ℕ → ℕ → declared.Call → Call
@@ -30,6 +35,7 @@ callOf s room (code.Stored aid n) = Stored (partOf s aid) n
 callOf s room (code.Finished aid policy mark) = Finished (partOf s aid) policy mark
 callOf s room code.Tick = Tick
 callOf s room code.Lost = Lost
+callOf s room (code.Policy speaker bytes) = Policy (partOf s speaker) (partOf s bytes) room
 
 abbrev pub requestAsks : ℕ → List ℕ → Request → Asked
 requestAsks verdict s (request.Create aid quota) = create (partOf s aid) quota
@@ -47,6 +53,10 @@ abbrev pub fieldAsks : ℕ → List ℕ → Field → Asked
 fieldAsks verdict s field.Wrong = unread
 fieldAsks verdict s (field.Found r) = requestAsks verdict s r
 
+abbrev pub policyAsks : List ℕ → operator.Policy → Asked
+policyAsks speaker policy.Wrong = unread
+policyAsks speaker (policy.Found p) = on speaker (setPolicy p)
+
 -- what a call asks; of the card a reader needs the capacity
 abbrev pub askedOf : ℕ → Call → Asked
 askedOf capacity (Command verdict s room) = fieldAsks verdict s (fieldOf s capacity)
@@ -55,6 +65,7 @@ askedOf capacity (Stored aid n) = on aid (stored n)
 askedOf capacity (Finished aid policy mark) = on aid (finished policy mark)
 askedOf capacity Tick = tick
 askedOf capacity Lost = lost
+askedOf capacity (Policy speaker s room) = policyAsks speaker (policyOf s)
 
 abbrev pub asked : Card → Call → Asked
 asked c call = askedOf (c .capacity) call

@@ -2,8 +2,9 @@
 use Prim.Native.Nat.{ℕ, _≤_}
 use mathlib.Core.Path.{_≡_}
 use mathlib.Core.List.{List, _∷_, _++_}
-use mathlib.Core.Bool.{true}
+use mathlib.Core.Bool.{true, cond}
 use lib.ListN.{length}
+use lib.Dec.{ltb}
 use Rattle.status.specs.Rows.{row, wordOf}
 use Rattle.status.specs.declared.Status.{Status}
 use Rattle.status.specs.declared.Status.the-variants.{BufferShort}
@@ -11,11 +12,13 @@ use Rattle.card.specs.Sound.{sound}
 use Rattle.card.specs.Answers.{soundRow}
 use Rattle.card.specs.declared.Card.{Card}
 use Rattle.command.specs.Reading.{readingRows}
-use Rattle.steps.specs.Asked.{Act.keyed, Act.stored, Act.finished, Asked.tick, Asked.lost}
+use Rattle.operator.specs.Reading.{updateOf}
+use Rattle.operator.specs.declared.Update.the-variants as update
+use Rattle.steps.specs.Asked.{Act.keyed, Act.stored, Act.finished, Act.setPolicy, Asked.tick, Asked.lost}
 use Rattle.steps.specs.Conditions.{cardRows}
 use Rattle.steps.specs.Steps.{innerWork}
-use Rattle.manager.specs.Calls.{Call, Call.Command, Call.Keyed, Call.Stored, Call.Finished, Call.Tick, Call.Lost, asked}
-use Rattle.manager.specs.Table.{bufferShort, rowsAfter, table}
+use Rattle.manager.specs.Calls.{Call, Call.Command, Call.Keyed, Call.Stored, Call.Finished, Call.Tick, Call.Lost, Call.Policy, asked}
+use Rattle.manager.specs.Table.{leastBuffer, bufferShort, rowsAfter, table}
 use Rattle.manager.specs.Manager.{step, onSound}
 
 -- on a sound card nothing depends on whether soundness is asked
@@ -35,3 +38,6 @@ pub record TableParts (c : Card) (success : Status) : Type 0 where
   pub finished-rows : (aid : List ℕ) (policy mark : ℕ) → wordOf success (rowsAfter c (Finished aid policy mark)) ≡ wordOf success (innerWork c aid (finished policy mark) .rows)
   pub tick-rows : wordOf success (rowsAfter c Tick) ≡ wordOf success (cardRows c tick)
   pub lost-rows : wordOf success (rowsAfter c Lost) ≡ wordOf success (cardRows c lost)
+  -- of a policy update: the buffer's row, then the word of its reader, or once it is read the row of its values and the card's rows
+  pub policy-refused : (speaker s : List ℕ) (room : ℕ) (word : Status) → update.Refused word ≡ updateOf s → wordOf success (rowsAfter c (Policy speaker s room)) ≡ cond (ltb room leastBuffer) BufferShort word
+  pub policy-read : (speaker s : List ℕ) (room policy : ℕ) → update.Read policy ≡ updateOf s → wordOf success (rowsAfter c (Policy speaker s room)) ≡ cond (ltb room leastBuffer) BufferShort (wordOf success (innerWork c speaker (setPolicy policy) .rows))

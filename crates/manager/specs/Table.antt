@@ -10,15 +10,19 @@ use Rattle.card.specs.Answers.{soundRow}
 use Rattle.card.specs.declared.Card.{Card}
 use Rattle.framing.specs.Framing.{lengthWrong, classWrong, instructionWrong, parametersWrong, shapeWrong}
 use Rattle.command.specs.Requests.{dataWrong}
-use Rattle.steps.specs.Asked.{Act.keyed, Act.stored, Act.finished}
+use Rattle.operator.specs.Field.{policyOf}
+use Rattle.operator.specs.Reading.{notStoreData}
+use Rattle.operator.specs.declared.Policy as operator
+use Rattle.operator.specs.declared.Policy.the-variants as update
+use Rattle.steps.specs.Asked.{Act.keyed, Act.stored, Act.finished, Act.setPolicy}
 use Rattle.steps.specs.Conditions.{innerWrong, changeWrong, targetMissing, alreadyHeld, stateWrong, policyForbids, verdictWrong, noRoom}
-use Rattle.manager.specs.Calls.{Call, Call.Command, Call.Keyed, Call.Stored, Call.Finished, Call.Tick, Call.Lost, asked}
+use Rattle.manager.specs.Calls.{Call, Call.Command, Call.Keyed, Call.Stored, Call.Finished, Call.Tick, Call.Lost, Call.Policy, asked}
 
 -- a lent response buffer has at least so many bytes
 abbrev pub leastBuffer : ℕ
 leastBuffer = 256
 
--- "response buffer under 256 bytes (commands only)"
+-- "response buffer under 256 bytes (commands only)"; request 2026-06: of the policy update's command too
 abbrev pub bufferShort : Call → Bool
 bufferShort (Command verdict s room) = ltb room leastBuffer
 bufferShort (Keyed aid) = false
@@ -26,8 +30,9 @@ bufferShort (Stored aid n) = false
 bufferShort (Finished aid policy mark) = false
 bufferShort Tick = false
 bufferShort Lost = false
+bufferShort (Policy speaker s room) = ltb room leastBuffer
 
--- a test of a command's bytes; no other call meets it
+-- a test of a command's bytes, the operator's too; no other call meets it
 abbrev pub inCommand : (List ℕ → Bool) → Call → Bool
 inCommand test (Command verdict s room) = test s
 inCommand test (Keyed aid) = false
@@ -35,6 +40,22 @@ inCommand test (Stored aid n) = false
 inCommand test (Finished aid policy mark) = false
 inCommand test Tick = false
 inCommand test Lost = false
+inCommand test (Policy speaker s room) = test s
+
+-- "INS not E6, E4, E2, F2, CA"; of a policy update not E2
+abbrev pub instructionUnknown : Call → Bool
+instructionUnknown (Command verdict s room) = instructionWrong s
+instructionUnknown (Keyed aid) = false
+instructionUnknown (Stored aid n) = false
+instructionUnknown (Finished aid policy mark) = false
+instructionUnknown Tick = false
+instructionUnknown Lost = false
+instructionUnknown (Policy speaker s room) = notStoreData s
+
+-- a policy update's data field, or else its speaker and its policy
+abbrev pub updateWrong : List ℕ → operator.Policy → Bool
+updateWrong speaker update.Wrong = true
+updateWrong speaker (update.Found p) = innerWrong speaker (setPolicy p)
 
 -- "data field, DGI, or inner call's values wrong"
 abbrev pub valuesWrong : Card → Call → Bool
@@ -44,6 +65,7 @@ valuesWrong c (Stored aid n) = innerWrong aid (stored n)
 valuesWrong c (Finished aid policy mark) = innerWrong aid (finished policy mark)
 valuesWrong c Tick = false
 valuesWrong c Lost = false
+valuesWrong c (Policy speaker s room) = updateWrong speaker (policyOf s)
 
 -- the rows after the first
 abbrev pub rowsAfter : Card → Call → List Row
@@ -51,7 +73,7 @@ rowsAfter c call =
     row (bufferShort call) BufferShort
     ∷ row (inCommand lengthWrong call) LengthWrong
     ∷ row (inCommand classWrong call) ClassWrong
-    ∷ row (inCommand instructionWrong call) InstructionWrong
+    ∷ row (instructionUnknown call) InstructionWrong
     ∷ row (inCommand parametersWrong call) ParametersWrong
     ∷ row (inCommand shapeWrong call) LengthWrong
     ∷ row (valuesWrong c call) DataWrong

@@ -9,6 +9,7 @@ use command::Reading;
 use command::Request;
 use command::read;
 use isdp::Aid;
+use operator::Update;
 use places::Found;
 use responses::Information;
 use responses::write_deleted;
@@ -26,7 +27,7 @@ ghost use Rattle.card.specs.Answers.{handed, known};
 ghost use Rattle.card.specs.Fresh.{freshOutcome};
 ghost use Rattle.steps.specs.Asked.{Act.status, Asked.on, Asked.confirm, Asked.statusOfAll, Asked.getData};
 ghost use Rattle.steps.specs.Steps.{partWord, askedWork};
-ghost use Rattle.manager.specs.Calls.{Call.Command, callOf, requestAsks};
+ghost use Rattle.manager.specs.Calls.{Call.Command, Call.Policy, callOf, requestAsks};
 ghost use Rattle.manager.specs.Table.{leastBuffer};
 ghost use Rattle.manager.specs.Manager.{step, onSound, Served};
 
@@ -40,6 +41,8 @@ pub enum Call {
     Finished { aid: Part, policy: u8, mark: u8 },
     Tick,
     Lost,
+    // of an operator's domain: the AID of the profile that it belongs to, and the command that it was sent
+    Policy { speaker: Part, bytes: Part },
 }
 
 // A lent response buffer has at least so many bytes.
@@ -187,6 +190,20 @@ fn command(card: Card, verdict: u8, bytes: &[u8], buf: &mut [u8]) -> Answer
     serve(served, verdict, request, bytes, buf)
 }
 
+// A policy update: it is read, and what it asks is done for the profile whose domain speaks.
+fn policy(card: Card, speaker: &[u8], bytes: &[u8], buf: &mut [u8]) -> Answer
+    ensures { λ r. ⌜ Served (now (buf .entry)) (onSound card (Policy (now (speaker .entry)) (now (bytes .entry)) (length (now (buf .entry))))) r (now (buf .exit)) ⌝ }
+{
+    if buf.len() < BUFFER {
+        return card.refused(Status::BufferShort);
+    }
+    let update = operator::read(bytes);
+    let Update::Read(policy) = update else {
+        return card.refused(update.word());
+    };
+    calls::set_policy(card, speaker, policy)
+}
+
 // A call on a card known to be sound, with the bytes it came in and the buffer lent for its response.
 pub fn answer_on_sound(card: Card, call: Call, bytes: &[u8], buf: &mut [u8]) -> Answer
     ensures { λ r. ⌜ Served (now (buf .entry)) (onSound card (callOf (now (bytes .entry)) (length (now (buf .entry))) call)) r (now (buf .exit)) ⌝ }
@@ -203,6 +220,10 @@ pub fn answer_on_sound(card: Card, call: Call, bytes: &[u8], buf: &mut [u8]) -> 
         }
         Call::Tick => card.ticked(),
         Call::Lost => card.lost().answer(Status::Done, 0),
+        Call::Policy {
+            speaker,
+            bytes: part,
+        } => { policy(card, part_of(bytes, speaker), part_of(bytes, part), buf) }
     }
 }
 

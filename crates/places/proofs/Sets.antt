@@ -7,7 +7,6 @@ use mathlib.Core.List.{List, [], _∷_}
 use mathlib.Core.Bool.{Bool, true, false, not}
 use lib.ListN.{length, set}
 use borrow.Author.Tests.{not-true}
-use Rattle.isdp.specs.LifeCycle.{isEnabled}
 use Rattle.isdp.specs.Place.{vacant, clash}
 use Rattle.isdp.specs.declared.Isdp.{Isdp}
 use Rattle.isdp.proofs.Bools.{and-l, and-r, both, or-l, or-r}
@@ -72,13 +71,13 @@ set-alike x [] i e = refl
 set-alike x (p ∷ ps) zero e = rw (any-same (clash x) (clash p) (clash-left x p e) ps)
 set-alike x (p ∷ ps) (suc i) e = rw (any-alike p x ps i e, set-alike x ps i e)
 
--- where neither the old nor the new one is enabled, nothing is seen of it by that test
-pub set-enabled : (x : Isdp) (l : List Isdp) (i : ℕ) → isEnabled x ≡ isEnabled (at l i) → (j : ℕ) → isEnabled (at (set l i x) j) ≡ isEnabled (at l j)
-set-enabled x [] i e j = refl
-set-enabled x (p ∷ ps) zero e zero = e
-set-enabled x (p ∷ ps) zero e (suc j) = refl
-set-enabled x (p ∷ ps) (suc i) e zero = refl
-set-enabled x (p ∷ ps) (suc i) e (suc j) = set-enabled x ps i e j
+-- where a test says the same of the old and the new one, it sees nothing of the change at any place
+pub set-unseen : (t : Isdp → Bool) (x : Isdp) (l : List Isdp) (i : ℕ) → t x ≡ t (at l i) → (j : ℕ) → t (at (set l i x) j) ≡ t (at l j)
+set-unseen t x [] i e j = refl
+set-unseen t x (p ∷ ps) zero e zero = e
+set-unseen t x (p ∷ ps) zero e (suc j) = refl
+set-unseen t x (p ∷ ps) (suc i) e zero = refl
+set-unseen t x (p ∷ ps) (suc i) e (suc j) = set-unseen t x ps i e j
 
 -- a deleted place
 any-never : (t : Isdp → Bool) → ((q : Isdp) → t q ≡ false) → (l : List Isdp) → anyOf t l ≡ false

@@ -1,5 +1,5 @@
--- Keyed, stored and finished write a Created profile anew, with the same AID and quota: the card stays sound. The profile's state is
--- what the rows that were passed say of it. Assumes nothing.
+-- Keyed, stored and finished write a Created profile anew, with the same AID and quota, and the policy update the enabled one, in Quiet: the
+-- card stays sound. The profile's state is what the rows that were passed say of it. Assumes nothing.
 use mathlib.Core.Path.{_≡_, refl, sym, _∙_}
 use Prim.Native.Nat.{ℕ}
 use mathlib.Core.Bool.{true, false}
@@ -7,7 +7,7 @@ use lib.Dec.{leb, eqb}
 use borrow.Author.Tests.{eqb-false, ne-eqb}
 use Rattle.isdp.specs.Policy.{policyOk}
 use Rattle.isdp.specs.Provisioning.{markOk}
-use Rattle.isdp.specs.LifeCycle.{selectable, personalized, isEnabled, isFinished, withLife, withUsed, finish}
+use Rattle.isdp.specs.LifeCycle.{selectable, personalized, enabled, isEnabled, isFinished, withLife, withUsed, withPolicy, finish}
 use Rattle.isdp.specs.Place.{lifeOk, placeOk}
 use Rattle.isdp.specs.declared.Isdp.{Isdp}
 use Rattle.isdp.proofs.Placed.{Placed, placed, placed-ok, relife}
@@ -17,9 +17,10 @@ use Rattle.places.proofs.Sets.{all-at}
 use Rattle.card.specs.Cards.{rewritten}
 use Rattle.card.specs.declared.Card.{Card}
 use Rattle.card.proofs.Sounds.{Sound}
-use Rattle.card.proofs.Rewrites.{rewrites}
+use Rattle.card.specs.declared.Phase.the-variants.{Quiet}
+use Rattle.card.proofs.Rewrites.{rewrites, restates}
 
--- a held profile of a sound card, and what the three calls make of it
+-- a held profile of a sound card, and what the four calls make of it
 module _ (c : Card) (i v : ℕ) (s : Sound c) (e : at (c .places) i .life ≡ v) (n : eqb v 0 ≡ false) where
   abbrev p : Isdp
   p = at (c .places) i
@@ -48,6 +49,12 @@ module _ (c : Card) (i v : ℕ) (s : Sound c) (e : at (c .places) i .life ≡ v)
       placed-ok (c .capacity) (finish p b m) refl
       (record { wide = k .wide; there = k .there; five = k .five; sixteen = k .sixteen; some = k .some; most = k .most; fits = k .fits; rule = l; mark = o; ended = k .ended })
 
+  ruled : (b : ℕ) → lifeOk v ≡ true → policyOk b ≡ true → placeOk (c .capacity) (withPolicy p b) ≡ true
+  ruled b q l =
+      let k = parted in
+      placed-ok (c .capacity) (withPolicy p b) (rw e q)
+      (record { wide = k .wide; there = k .there; five = k .five; sixteen = k .sixteen; some = k .some; most = k .most; fits = k .fits; rule = l; mark = k .mark; ended = k .ended })
+
 pub keyed-at : (c : Card) (i : ℕ) → Sound c → at (c .places) i .life ≡ selectable → Sound (rewritten c i (withLife (at (c .places) i) personalized))
 keyed-at c i s e =
     let d : isFinished (at (c .places) i .life) ≡ false = rw e in
@@ -63,3 +70,7 @@ pub finished-at : (c : Card) (i b m : ℕ) → Sound c → at (c .places) i .lif
 finished-at c i b m s e l o =
     let d : isFinished (at (c .places) i .life) ≡ false = rw e in
     rewrites c i (finish (at (c .places) i) b m) s d refl (finisher c i personalized s e refl b m l o) refl refl
+
+pub policy-at : (c : Card) (i b : ℕ) → Sound c → c .phase ≡ Quiet → at (c .places) i .life ≡ enabled → policyOk b ≡ true → Sound (rewritten c i (withPolicy (at (c .places) i) b))
+policy-at c i b s o e l =
+    restates c i (withPolicy (at (c .places) i) b) s o (ruled c i enabled s e refl b refl l) refl refl refl refl

@@ -24,12 +24,12 @@ use Rattle.card.specs.declared.Phase.the-variants.{Quiet, Trial, Back, Fallen}
 use Rattle.card.proofs.Sounds.{parts, whole, keeps-place, forgets, tick-sound, lost-sound}
 use Rattle.card.proofs.Deletions.{by-delete-too}
 use Rattle.card.proofs.Rewrites.{deletes, refalls, confirm-sound}
-use Rattle.steps.specs.Asked.{Act, Act.enable, Act.disable, Act.delete, Act.masterDelete, Act.setFallBack, Act.status, Act.keyed, Act.stored, Act.finished, Asked, Asked.unread, Asked.create, Asked.on, Asked.confirm, Asked.statusOfAll, Asked.getData, Asked.tick, Asked.lost}
+use Rattle.steps.specs.Asked.{Act, Act.enable, Act.disable, Act.delete, Act.masterDelete, Act.setFallBack, Act.status, Act.keyed, Act.stored, Act.finished, Act.setPolicy, Asked, Asked.unread, Asked.create, Asked.on, Asked.confirm, Asked.statusOfAll, Asked.getData, Asked.tick, Asked.lost}
 use Rattle.responses.specs.Responses.{leftAfter}
 use Rattle.responses.proofs.Parts.{Given, Given.all, Given.some, given}
 use Rattle.steps.specs.Steps.{stepOf, beginsAt, goesOnAt}
 use Rattle.steps.proofs.Rows.{Passed}
-use Rattle.steps.proofs.Inner.{keyed-at, stored-at, finished-at}
+use Rattle.steps.proofs.Inner.{keyed-at, stored-at, finished-at, policy-at}
 use Rattle.steps.proofs.Opens.{opens, fallback-life}
 use Rattle.steps.proofs.Creates.{creates}
 
@@ -50,6 +50,7 @@ LegalAct (status life fallback) = Unit {0}
 LegalAct keyed = Unit {0}
 LegalAct (stored n) = Unit {0}
 LegalAct (finished policy mark) = (policyOk policy && markOk mark) ≡ true
+LegalAct (setPolicy policy) = policyOk policy ≡ true
 
 abbrev pub Legal : Card → Asked → Type 0
 Legal c unread = Unit {0}
@@ -100,6 +101,7 @@ module _ (c : Card) (aid : List ℕ) (s : sound c ≡ true) where
       whole _ (stored-at c (placeOf c aid) (profileOf c aid .used + n) (parts c s) (eqb-true _ _ (not-false _ (p .state))) (not-false _ (p .room)))
   act-kept (finished policy mark) h p =
       whole _ (finished-at c (placeOf c aid) policy mark (parts c s) (eqb-true _ _ (and-l (eqb (profileOf c aid .life) personalized) _ (not-false _ (p .state)))) (and-l _ _ h) (and-r (policyOk policy) _ h))
+  act-kept (setPolicy policy) h p = whole _ (policy-at c (placeOf c aid) policy (parts c s) (quietly (c .phase) (p .change)) (eqb-true _ _ (not-false _ (p .state))) h)
 
   create-kept : (quota : ℕ) → Sizes c aid quota → Passed c (create aid quota) → sound (stepOf c (create aid quota) .card) ≡ true
   create-kept quota h p =

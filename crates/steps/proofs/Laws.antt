@@ -8,6 +8,7 @@ use Rattle.steps.proofs.Laws.FallBack.{set-fall-back-law}
 use Rattle.steps.proofs.Laws.Confirmation.{confirmation-law}
 use Rattle.steps.proofs.Laws.Reports.{status-of-all-law, status-of-next-law, status-of-one-law, get-data-law}
 use Rattle.steps.proofs.Laws.Clock.{tick-law, lost-law}
+use Rattle.steps.proofs.Laws.Policy.{set-policy-law}
 pub mod Places
 pub mod Answer
 pub mod Create
@@ -18,6 +19,7 @@ pub mod FallBack
 pub mod Confirmation
 pub mod Reports
 pub mod Clock
+pub mod Policy
 pub mod Met
 
 pub call-laws : CallLaws
@@ -39,4 +41,5 @@ call-laws =
       get-data = get-data-law;
       tick = tick-law;
       lost = lost-law;
+      set-policy = set-policy-law;
     }

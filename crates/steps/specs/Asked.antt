@@ -18,6 +18,8 @@ pub data Act : Type 0 where
   stored : ℕ → Act
   -- policy and mark
   finished : ℕ → ℕ → Act
+  -- an operator's policy update: the policy; the target is the profile whose domain speaks
+  setPolicy : ℕ → Act
 
 pub data Asked : Type 0 where
   -- a command that cannot be read asks nothing
@@ -44,6 +46,7 @@ actNumber (status life fallback) = 5
 actNumber keyed = 6
 actNumber (stored n) = 7
 actNumber (finished policy mark) = 8
+actNumber (setPolicy policy) = 9
 
 abbrev pub sameAct : Act → Act → Bool
 sameAct a b = eqb (actNumber a) (actNumber b)

@@ -16,10 +16,10 @@ use Rattle.places.specs.Places.{at}
 use Rattle.card.specs.Cards.{noPlace, isQuiet, placeOf, profileOf, enabledPlace, freePlace, freeIn, mayBeDeleted, mayBeMasterDeleted}
 use Rattle.card.specs.Clock.{outstanding}
 use Rattle.card.specs.declared.Card.{Card}
-use Rattle.steps.specs.Asked.{Act, Act.enable, Act.disable, Act.delete, Act.masterDelete, Act.setFallBack, Act.status, Act.keyed, Act.stored, Act.finished, Asked, Asked.unread, Asked.create, Asked.on, Asked.confirm, Asked.statusOfAll, Asked.getData, Asked.tick, Asked.lost}
+use Rattle.steps.specs.Asked.{Act, Act.enable, Act.disable, Act.delete, Act.masterDelete, Act.setFallBack, Act.status, Act.keyed, Act.stored, Act.finished, Act.setPolicy, Asked, Asked.unread, Asked.create, Asked.on, Asked.confirm, Asked.statusOfAll, Asked.getData, Asked.tick, Asked.lost}
 
 -- "6A 80: .. inner call's values wrong": "An AID handed to an inner call is wrong unless it has 5 to 16 bytes", the policy unless Table 70 has it,
--- the mark unless it is 0 or 1
+-- the mark unless it is 0 or 1; request 2026-06: "AID length or coding wrong, or the two delete rules together 6A 80"
 abbrev pub innerWrong : List ℕ → Act → Bool
 innerWrong aid enable = false
 innerWrong aid disable = false
@@ -30,8 +30,10 @@ innerWrong aid (status life fallback) = false
 innerWrong aid keyed = not (aidOk aid)
 innerWrong aid (stored n) = not (aidOk aid)
 innerWrong aid (finished policy mark) = not (aidOk aid && (policyOk policy && markOk mark))
+innerWrong aid (setPolicy policy) = not (aidOk aid && policyOk policy)
 
--- "69 85: a change is open, for create, enable, disable, delete, master delete, set fall-back; none is open, for confirmation"
+-- "69 85: a change is open, for create, enable, disable, delete, master delete, set fall-back; none is open, for confirmation"; request 2026-06:
+-- for the policy update too
 abbrev pub asksForQuiet : Act → Bool
 asksForQuiet enable = true
 asksForQuiet disable = true
@@ -42,6 +44,7 @@ asksForQuiet (status life fallback) = false
 asksForQuiet keyed = false
 asksForQuiet (stored n) = false
 asksForQuiet (finished policy mark) = false
+asksForQuiet (setPolicy policy) = true
 
 abbrev pub changeWrong : Card → Asked → Bool
 changeWrong c unread = false
@@ -78,7 +81,7 @@ alreadyHeld c lost = false
 
 -- "69 85: target in the wrong state (steps below)": "Keyed: SELECTABLE", "Stored n: PERSONALIZED only", "Finished ..: PERSONALIZED, used over 0";
 -- request 2026-02: "69 85 for set fall-back on an unmarked target, among the wrong-state tests"; request 2026-03: "69 85 for Delete narrows
--- to ENABLED or fall-back"
+-- to ENABLED or fall-back"; request 2026-06: "that profile not enabled 69 85"
 abbrev pub actStateWrong : Card → List ℕ → Act → Bool
 actStateWrong c aid enable = not (eqb (profileOf c aid .life) disabled)
 actStateWrong c aid disable = not (isEnabled (profileOf c aid) && not (eqb (placeOf c aid) (c .fallback)))
@@ -89,6 +92,7 @@ actStateWrong c aid (status life fallback) = false
 actStateWrong c aid keyed = not (eqb (profileOf c aid .life) selectable)
 actStateWrong c aid (stored n) = not (eqb (profileOf c aid .life) personalized)
 actStateWrong c aid (finished policy mark) = not (eqb (profileOf c aid .life) personalized && ltb 0 (profileOf c aid .used))
+actStateWrong c aid (setPolicy policy) = not (isEnabled (profileOf c aid))
 
 abbrev pub stateWrong : Card → Asked → Bool
 stateWrong c unread = false
@@ -111,6 +115,7 @@ actForbidden c aid (status life fallback) = false
 actForbidden c aid keyed = false
 actForbidden c aid (stored n) = false
 actForbidden c aid (finished policy mark) = false
+actForbidden c aid (setPolicy policy) = false
 
 abbrev pub policyForbids : Card → Asked → Bool
 policyForbids c unread = false
@@ -133,6 +138,7 @@ actVerdictWrong (status life fallback) = false
 actVerdictWrong keyed = false
 actVerdictWrong (stored n) = false
 actVerdictWrong (finished policy mark) = false
+actVerdictWrong (setPolicy policy) = false
 
 abbrev pub verdictWrong : Asked → Bool
 verdictWrong unread = false
@@ -155,6 +161,7 @@ actNoRoom c aid (status life fallback) = false
 actNoRoom c aid keyed = false
 actNoRoom c aid (stored n) = not (leb (profileOf c aid .used + n) (profileOf c aid .quota))
 actNoRoom c aid (finished policy mark) = false
+actNoRoom c aid (setPolicy policy) = false
 
 abbrev pub noRoom : Card → Asked → Bool
 noRoom c unread = false

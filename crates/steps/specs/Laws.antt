@@ -6,6 +6,7 @@ use Rattle.steps.specs.Laws.Deletion.{DeleteLaw, MasterDeleteLaw}
 use Rattle.steps.specs.Laws.FallBack.{SetFallBackLaw}
 use Rattle.steps.specs.Laws.Confirmation.{ConfirmationLaw}
 use Rattle.steps.specs.Laws.Clock.{TickLaw, LostLaw}
+use Rattle.steps.specs.Laws.Policy.{SetPolicyLaw}
 use Rattle.steps.specs.Laws.Reports.{StatusOfAllLaw, StatusOfNextLaw, StatusOfOneLaw, GetDataLaw}
 pub mod Answer
 pub mod Create
@@ -16,6 +17,7 @@ pub mod FallBack
 pub mod Confirmation
 pub mod Clock
 pub mod Reports
+pub mod Policy
 pub mod Met
 
 pub record CallLaws : Type 0 where
@@ -35,3 +37,4 @@ pub record CallLaws : Type 0 where
   pub get-data : GetDataLaw
   pub tick : TickLaw
   pub lost : LostLaw
+  pub set-policy : SetPolicyLaw

@@ -8,7 +8,7 @@ use Rattle.status.specs.Rows.{row}
 use Rattle.status.specs.declared.Status.{Status}
 use Rattle.status.specs.declared.Status.the-variants.{DataWrong, More, Done}
 use Rattle.isdp.specs.Aids.{noAid}
-use Rattle.isdp.specs.LifeCycle.{selectable, personalized, withLife, withUsed, finish}
+use Rattle.isdp.specs.LifeCycle.{selectable, personalized, withLife, withUsed, withPolicy, finish}
 use Rattle.isdp.specs.Place.{made}
 use Rattle.card.specs.Cards.{noPlace, keeping, forgotten, placeOf, profileOf, freePlace, filled, cleared, rewritten, withFallback}
 use Rattle.card.specs.Clock.{opened}
@@ -19,7 +19,7 @@ use Rattle.card.specs.declared.Step.{Step}
 use Rattle.card.specs.declared.Answer.{Answer}
 use Rattle.responses.specs.Responses.{partGiven, leftAfter, oneStatus, dataResponse, deletedResponse}
 use Rattle.byte_string.specs.Put.{put}
-use Rattle.steps.specs.Asked.{Act, Act.enable, Act.disable, Act.delete, Act.masterDelete, Act.setFallBack, Act.status, Act.keyed, Act.stored, Act.finished, Asked, Asked.unread, Asked.create, Asked.on, Asked.confirm, Asked.statusOfAll, Asked.getData, Asked.tick, Asked.lost}
+use Rattle.steps.specs.Asked.{Act, Act.enable, Act.disable, Act.delete, Act.masterDelete, Act.setFallBack, Act.status, Act.keyed, Act.stored, Act.finished, Act.setPolicy, Asked, Asked.unread, Asked.create, Asked.on, Asked.confirm, Asked.statusOfAll, Asked.getData, Asked.tick, Asked.lost}
 use Rattle.steps.specs.Conditions.{innerWrong, cardRows}
 
 -- nothing changes, but that a listing is forgotten
@@ -53,6 +53,8 @@ actStep c aid (status life fallback) = still c
 actStep c aid keyed = stepTo c (rewritten c (placeOf c aid) (withLife (profileOf c aid) personalized)) noAid
 actStep c aid (stored n) = stepTo c (rewritten c (placeOf c aid) (withUsed (profileOf c aid) (profileOf c aid .used + n))) noAid
 actStep c aid (finished policy mark) = stepTo c (rewritten c (placeOf c aid) (finish (profileOf c aid) policy mark)) noAid
+-- request 2026-06: "It touches the policy of the enabled profile only"
+actStep c aid (setPolicy policy) = stepTo c (rewritten c (placeOf c aid) (withPolicy (profileOf c aid) policy)) noAid
 
 abbrev pub stepOf : Card → Asked → Step
 stepOf c unread = still c
@@ -66,7 +68,7 @@ stepOf c getData = still c
 stepOf c tick = tickStep c
 stepOf c lost = lostStep c
 
--- "Response of both: 00" (delete and master delete); create too (000, 4.1.1.1); enable, disable and set fall-back have none
+-- "Response of both: 00" (delete and master delete); create too (000, 4.1.1.1); enable, disable and set fall-back have none, nor has the policy update
 abbrev pub actResponse : Card → List ℕ → Act → List ℕ
 actResponse c aid enable = []
 actResponse c aid disable = []
@@ -77,6 +79,7 @@ actResponse c aid (status life fallback) = oneStatus c (placeOf c aid) life fall
 actResponse c aid keyed = []
 actResponse c aid (stored n) = []
 actResponse c aid (finished policy mark) = []
+actResponse c aid (setPolicy policy) = []
 
 abbrev pub responseOf : Card → Asked → List ℕ
 responseOf c unread = []
@@ -102,7 +105,7 @@ successOf c lost = Done
 abbrev pub askedWork : Card → Asked → Work
 askedWork c a = record { rows = cardRows c a; success = successOf c a; step = stepOf c a; response = responseOf c a }
 
--- the work of an inner call: the row of its values stands before the card's rows
+-- the work of an inner call, and of a policy update once it is read: the row of its values stands before the card's rows
 abbrev pub innerWork : Card → List ℕ → Act → Work
 innerWork c aid act =
     record {

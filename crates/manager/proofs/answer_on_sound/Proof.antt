@@ -1,7 +1,7 @@
 -- `manager::answer_on_sound`: each arm cites the promise of what it calls; what a part names is the call's value.
 use mathlib.Core.Path.{refl}
 use Rattle.status.specs.Rows.{wordOf}
-use Rattle.steps.specs.Asked.{Act.keyed, Act.stored, Act.finished, Asked.tick, Asked.lost}
+use Rattle.steps.specs.Asked.{Act.keyed, Act.stored, Act.finished, Act.setPolicy, Asked.tick, Asked.lost}
 use Rattle.steps.specs.Steps.{askedWork, innerWork}
 use Rattle.manager.specs.Manager.{onSound}
 use Rattle.manager.proofs.Buffers.{none-served}

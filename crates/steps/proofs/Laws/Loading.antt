@@ -17,7 +17,7 @@ use Rattle.isdp.specs.declared.Isdp.{Isdp}
 use Rattle.isdp.proofs.Bools.{and-l, and-r}
 use Rattle.isdp.proofs.Placed.{Placed}
 use Rattle.places.specs.Places.{at}
-use Rattle.places.proofs.Sets.{set-enabled}
+use Rattle.places.proofs.Sets.{set-unseen}
 use Rattle.card.specs.Cards.{placeOf, profileOf, withPlaces}
 use Rattle.card.specs.Sound.{sound}
 use Rattle.card.specs.Steps.{stepTo}
@@ -45,7 +45,7 @@ clock-case c l (Fallen left n) e = refl
 module _ (c : Card) (t : ℕ) (x : Isdp) (held-in : t < length (c .places)) (w : isEnabled x ≡ isEnabled (profileAt c t)) (s : Sound (withPlaces c (set (c .places) t x))) where
   clock : ticksByPhase (withPlaces c (set (c .places) t x)) ≡ ticksByPhase c
   unfolding ticksByPhase
-  clock = clock-case c (set (c .places) t x) (c .phase) (set-enabled x (c .places) t w (c .fallback))
+  clock = clock-case c (set (c .places) t x) (c .phase) (set-unseen isEnabled x (c .places) t w (c .fallback))
 
   loads : Loaded c (λ i. x) t (accepted Done (stepTo c (withPlaces c (set (c .places) t x)) noAid) [])
   loads = rewrites c t x (c .free) [] (ticksByPhase c) held-in (counted (withPlaces c (set (c .places) t x)) (whole _ s) ∙ clock)
@@ -65,10 +65,10 @@ module _ (c : Card) (aid : List ℕ) (s : sound c ≡ true) where
   abbrev t : ℕ
   t = placeOf c aid
 
-  aid-ok : (v : ℕ) → Holds c aid t → profileAt c t .life ≡ v → eqb v 0 ≡ false → aidOk aid ≡ true
+  pub aid-ok : (v : ℕ) → Holds c aid t → profileAt c t .life ≡ v → eqb v 0 ≡ false → aidOk aid ≡ true
   aid-ok v h e n = rw (← (h .named)) (sized (c .capacity) (profileAt c t) (parted c t v (parts c s) e n))
 
-  inside : Holds c aid t → t < length (c .places)
+  pub inside : Holds c aid t → t < length (c .places)
   inside h = held-within (c .places) t (h .held-there)
 
   off : (v : ℕ) → profileAt c t .life ≡ v → eqb v enabled ≡ false → isEnabled (profileAt c t) ≡ false

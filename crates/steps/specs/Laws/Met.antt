@@ -14,7 +14,7 @@ use Rattle.card.specs.Answers.{outcome}
 use Rattle.card.specs.declared.Card.{Card}
 use Rattle.card.specs.declared.Phase.{Phase}
 use Rattle.card.specs.declared.Phase.the-variants.{Quiet, Trial, Back, Fallen}
-use Rattle.steps.specs.Asked.{Act, Act.enable, Act.disable, Act.delete, Act.masterDelete, Act.setFallBack, Act.status, Act.keyed, Act.stored, Act.finished, Asked, Asked.create, Asked.on, Asked.confirm, Asked.statusOfAll}
+use Rattle.steps.specs.Asked.{Act, Act.enable, Act.disable, Act.delete, Act.masterDelete, Act.setFallBack, Act.status, Act.keyed, Act.stored, Act.finished, Act.setPolicy, Asked, Asked.create, Asked.on, Asked.confirm, Asked.statusOfAll}
 use Rattle.steps.specs.Steps.{askedWork, innerWork}
 
 abbrev pub aidEnding : ℕ → List ℕ
@@ -54,6 +54,8 @@ pub record LawsMet : Type 0 where
   pub keys : AcceptsInner (on01 0 Quiet) 3 keyed
   pub stores : AcceptsInner (on01 0 Quiet) 4 (stored 90)
   pub finishes : AcceptsInner (on01 0 Quiet) 4 (finished 0 0) × AcceptsInner (on01 0 Quiet) 4 (finished 0 1)
+  -- of the fall-back, and of another that is enabled; the five legal policies
+  pub sets-policy : AcceptsInner (on01 0 Quiet) 1 (setPolicy 0) × AcceptsInner (on01 0 Quiet) 1 (setPolicy 1) × AcceptsInner (on01 0 Quiet) 1 (setPolicy 2) × AcceptsInner (on02 0 Quiet) 2 (setPolicy 3) × AcceptsInner (on02 0 Quiet) 2 (setPolicy 4)
   pub enables : Accepts (on01 0 Quiet) (on (aidEnding 2) enable)
   pub disables : Accepts (on02 0 Quiet) (on (aidEnding 2) disable)
   -- DISABLED, SELECTABLE, PERSONALIZED
