@@ -11,7 +11,7 @@ use borrow.Author.Tests.{eqb-true, eqb-false, not-true}
 use Rattle.byte_string.specs.Bytes.{sameBytes}
 use Rattle.byte_string.proofs.Alike.{same-true, same-self}
 use Rattle.isdp.specs.Aids.{aidOf}
-use Rattle.isdp.specs.LifeCycle.{personalized, withLife, withUsed}
+use Rattle.isdp.specs.LifeCycle.{personalized, withLife, withUsed, withPolicy}
 use Rattle.isdp.specs.Place.{vacant, held, isFor}
 use Rattle.isdp.specs.declared.Isdp.{Isdp}
 use Rattle.isdp.proofs.Bools.{and-r}
@@ -49,6 +49,7 @@ sparesAct a aid (status life fallback) = true
 sparesAct a aid keyed = true
 sparesAct a aid (stored n) = not (sameBytes aid a)
 sparesAct a aid (finished policy mark) = not (sameBytes aid a)
+sparesAct a aid (setPolicy policy) = true
 
 abbrev pub spares : List ℕ → Asked → Bool
 spares a unread = true
@@ -68,6 +69,10 @@ one-aid a b p e f = sym (same-true (aidOf p) b (and-r (held p) _ f)) ∙ same-tr
 is-for-life : (a : List ℕ) (p : Isdp) (v : ℕ) → isFor a (withLife p v) ≡ isFor a p
 unfolding isFor
 is-for-life a p v = refl
+
+is-for-policy : (a : List ℕ) (p : Isdp) (v : ℕ) → isFor a (withPolicy p v) ≡ isFor a p
+unfolding isFor
+is-for-policy a p v = refl
 
 lives-for : {l m : List Isdp} (a : List ℕ) (i : ℕ) → Lives l m → isFor a (at l i) ≡ true → isFor a (at m i) ≡ true
 lives-for {l} {m} a i r b = ap (isFor a) (lives-at r i) ∙ is-for-life a (at l i) (at m i .life) ∙ b
@@ -102,6 +107,7 @@ module _ (a : List ℕ) (i u : ℕ) (c : Card) (b : isFor a (at (c .places) i) �
   act-rows aid keyed n = rw (profile aid)
   act-rows aid (stored m) n = rw (profile-other aid n)
   act-rows aid (finished policy mark) n = rw (profile-other aid n)
+  act-rows aid (setPolicy policy) n = rw (profile aid)
 
   pub rows-near : (x : Asked) → spares a x ≡ true → cardRows (reuseAt i u c) x ≡ cardRows c x
   rows-near unread n = refl
@@ -136,13 +142,13 @@ module _ (a : List ℕ) (i u : ℕ) (c : Card) (b : isFor a (at (c .places) i) �
   cleared-near : (j : ℕ) (p : Phase) → Near a i (cleared (withPhase c p) j) (cleared (withPhase (reuseAt i u c) p) j)
   cleared-near j p = rw (use-at (c .places) i u j) (cleared-case j _ p (eqb j i) refl)
 
-  -- another life cycle, of this place or of another
-  alive-case : (j v : ℕ) (t : Bool) → eqb j i ≡ t → Near a i (withPlaces c (set (c .places) j (withLife (at (c .places) j) v))) (withPlaces c (set (useAt (c .places) i u) j (withLife (at (useAt (c .places) i u) j) v)))
-  alive-case j v true e =
+  -- a profile rewritten with its AID whatever its used bytes, at this place or at another
+  rewritten-case : (f : Isdp → Isdp) → ((p : Isdp) (v : ℕ) → f (withUsed p v) ≡ withUsed (f p) v) → ((p : Isdp) → isFor a (f p) ≡ isFor a p) → (j : ℕ) (t : Bool) → eqb j i ≡ t → Near a i (withPlaces c (set (c .places) j (f (at (c .places) j)))) (withPlaces c (set (useAt (c .places) i u) j (f (at (useAt (c .places) i u) j))))
+  rewritten-case f h k j true e =
       rw (eqb-true j i e)
-      (apart u (ap (withPlaces c) (set-used (c .places) i u v))
-      (rw (getD-set-same (c .places) i (withLife (at (c .places) i) v) vacant (held-within (c .places) i held-there)) (is-for-life a (at (c .places) i) v ∙ b)))
-  alive-case j v false e = rw (use-other (c .places) i u j (eqb-false j i e)) (other-near j _ (c .free) (c .phase) (eqb-false j i e))
+      (apart u (ap (withPlaces c) (set-used f h (c .places) i u))
+      (rw (getD-set-same (c .places) i (f (at (c .places) i)) vacant (held-within (c .places) i held-there)) (k (at (c .places) i) ∙ b)))
+  rewritten-case f h k j false e = rw (use-other (c .places) i u j (eqb-false j i e)) (other-near j _ (c .free) (c .phase) (eqb-false j i e))
 
   choose-near : (t : Bool) (x y x' y' : Card) → Near a i x x' → Near a i y y' → Near a i (cond t x y) (cond t x' y')
   choose-near true x y x' y' p q = p
@@ -164,9 +170,10 @@ module _ (a : List ℕ) (i u : ℕ) (c : Card) (b : isFor a (at (c .places) i) �
   act-near aid (masterDelete verdict) n = rw (place-reuse i u c aid) (cleared-near (placeOf c aid) (c .phase))
   act-near aid setFallBack n = rw (place-reuse i u c aid) (apart u refl b)
   act-near aid (status life fallback) n = apart u refl b
-  act-near aid keyed n = rw (place-reuse i u c aid) (alive-case (placeOf c aid) personalized (eqb (placeOf c aid) i) refl)
+  act-near aid keyed n = rw (place-reuse i u c aid) (rewritten-case (λ p. withLife p personalized) (λ p v. refl) (λ p. is-for-life a p personalized) (placeOf c aid) (eqb (placeOf c aid) i) refl)
   act-near aid (stored m) n = rw (profile-other aid n, place-reuse i u c aid) (other-near (placeOf c aid) _ (c .free) (c .phase) (elsewhere aid n))
   act-near aid (finished policy mark) n = rw (profile-other aid n, place-reuse i u c aid) (other-near (placeOf c aid) _ (c .free) (c .phase) (elsewhere aid n))
+  act-near aid (setPolicy policy) n = rw (place-reuse i u c aid) (rewritten-case (λ p. withPolicy p policy) (λ p v. refl) (λ p. is-for-policy a p policy) (placeOf c aid) (eqb (placeOf c aid) i) refl)
 
   pub card-near : (x : Asked) → spares a x ≡ true → Near a i (stepOf c x .card) (stepOf (reuseAt i u c) x .card)
   unfolding tickStep lostStep confirmStep confirmOf
@@ -196,6 +203,7 @@ module _ (a : List ℕ) (i u : ℕ) (c : Card) (b : isFor a (at (c .places) i) �
   act-response aid keyed = refl
   act-response aid (stored n) = refl
   act-response aid (finished policy mark) = refl
+  act-response aid (setPolicy policy) = refl
 
   pub response-near : (x : Asked) → responseOf (reuseAt i u c) x ≡ responseOf c x
   unfolding confirmStep
@@ -229,6 +237,7 @@ act-notice c aid (status life fallback) = refl
 act-notice c aid keyed = refl
 act-notice c aid (stored n) = refl
 act-notice c aid (finished policy mark) = refl
+act-notice c aid (setPolicy policy) = refl
 
 pub step-notice : (c : Card) (x : Asked) → stepOf c x .notification ≡ noticeSince (c .last) (stepOf c x .card)
 unfolding tickStep lostStep confirmStep

@@ -11,7 +11,7 @@ use Rattle.card.specs.Answers.{Outcome, outcome}
 use Rattle.card.specs.declared.Card.{Card}
 use Rattle.fields.specs.Grammar as field
 use Rattle.fields.specs.Grammar.{Wanted}
-use Rattle.steps.specs.Asked.{Act.keyed, Act.stored, Act.finished, Act.setPolicy, Asked.tick, Asked.lost}
+use Rattle.steps.specs.Asked.{Act.keyed, Act.stored, Act.finished, Asked.tick, Asked.lost}
 use Rattle.steps.specs.Steps.{askedWork, innerWork}
 use Rattle.steps.specs.Laws.Create.{CreateAnswers}
 use Rattle.steps.specs.Laws.Loading.{KeyedAnswers, StoredAnswers, FinishedAnswers}
@@ -20,6 +20,7 @@ use Rattle.steps.specs.Laws.Deletion.{DeleteAnswers, MasterDeleteAnswers}
 use Rattle.steps.specs.Laws.FallBack.{SetFallBackAnswers}
 use Rattle.steps.specs.Laws.Confirmation.{ConfirmationAnswers}
 use Rattle.steps.specs.Laws.Clock.{TickAnswers, LostAnswers}
+use Rattle.steps.specs.Laws.Policy.{SetPolicyAnswers}
 use Rattle.steps.specs.Laws.Reports.{StatusOfAllAnswers, StatusOfNextAnswers, StatusOfOneAnswers, GetDataAnswers}
 use Rattle.steps.proofs.Laws.{call-laws}
 use Rattle.manager.specs.Calls.{Call.Keyed, Call.Stored, Call.Finished, Call.Tick, Call.Lost}
@@ -28,6 +29,7 @@ use Rattle.demands.specs.Written.{wantedAsks}
 use Rattle.demands.specs.CallLaws.{WrittenLaw, EveryCall, ReportsTaken}
 use Rattle.demands.proofs.Words.{word-is}
 use Rattle.demands.proofs.Written.{written-answered}
+use Rattle.demands.proofs.Updates.{update-answered}
 
 -- a law of what was written
 lifted : (w : Wanted) (Answered : Card → ℕ → Outcome → Type 0) → ((c : Card) (verdict : ℕ) → sound c ≡ true → Answered c verdict (outcome c (askedWork c (wantedAsks verdict w)))) → WrittenLaw w Answered
@@ -75,6 +77,7 @@ every-call =
       finished = λ aid policy mark c e. subst (FinishedAnswers c aid policy mark) (finished-works c aid policy mark) (call-laws .finished c aid policy mark e);
       tick = λ c e. subst (TickAnswers c) (tick-works c) (call-laws .tick c e);
       lost = λ c e. subst (LostAnswers c) (lost-works c) (call-laws .lost c e);
+      set-policy = λ speaker policy c s room e h encoded. subst (SetPolicyAnswers c speaker policy) (sym (update-answered c speaker s room policy h encoded)) (call-laws .set-policy c speaker policy e);
     }
 
 -- the one row that looks at the card

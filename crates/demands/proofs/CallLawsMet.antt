@@ -20,9 +20,12 @@ use Rattle.framing.specs.Framing.{lengthWrong, classRight, classWrong, instruct
 use Rattle.command.specs.Requests.{fieldOf, dataWrong}
 use Rattle.command.specs.Reading.{readOf}
 use Rattle.command.specs.Grammar.{readAs}
+use Rattle.operator.specs.Field.{policyAt, policyOf}
+use Rattle.operator.specs.Reading.{notStoreData, policyWrong, updateOf}
+use Rattle.operator.proofs.Grammar.{update-written}
 use Rattle.steps.specs.Laws.Met.{aidEnding}
 use Rattle.demands.specs.CallLaws.{IsWritten, EveryCallMet}
-use Rattle.demands.proofs.HypothesesMet.{smallBytes, encodes}
+use Rattle.demands.proofs.HypothesesMet.{smallBytes, bytes-of, encodes}
 
 is-written : (s : List ℕ) (w : Wanted) → smallBytes s ≡ true → readAs s (readOf s 1000) ≡ some w → IsWritten w
 is-written s w b e = (s, encodes s 1000 w b e)
@@ -31,8 +34,11 @@ is-written s w b e = (s, encodes s 1000 w b e)
 abbrev storing : ℕ → List ℕ
 storing dgi = 0x80 ∷ 0xE2 ∷ 0x88 ∷ 0x00 ∷ 0x0A ∷ 0x3A ∷ dgi ∷ 0x07 ∷ 0x4F ∷ 0x05 ∷ aidEnding 2
 
+abbrev updating : List ℕ
+updating = 0x80 ∷ 0xE2 ∷ 0x88 ∷ 0x00 ∷ 0x06 ∷ 0x3A ∷ 0x06 ∷ 0x03 ∷ 0x81 ∷ 0x01 ∷ 0x02 ∷ []
+
 pub every-call-met : EveryCallMet
-unfolding readOf wordOf window lengthWrong classRight classWrong instructionWrong parametersRight parametersWrong shapeRight shapeWrong fieldOf dataWrong pick atMost isBelow isSame tagAt lengthAt afterLength afterTag headAt expectOf expectAt aloneAt verificationAt deletionAt tagsAt listingAt dgiAt namedBy confirmationAt storeDataAt protocolsWithin protocolsAt numberAt grantOf memoryAt parametersAt prefixedOf prefixedAt namesAt rightsAt installOf listWrong listAt listWithin listOf elementOf restOf closed
+unfolding updateOf policyOf policyAt policyWrong notStoreData readOf wordOf window lengthWrong classRight classWrong instructionWrong parametersRight parametersWrong shapeRight shapeWrong fieldOf dataWrong pick atMost isBelow isSame tagAt lengthAt afterLength afterTag headAt expectOf expectAt aloneAt verificationAt deletionAt tagsAt listingAt dgiAt namedBy confirmationAt storeDataAt protocolsWithin protocolsAt numberAt grantOf memoryAt parametersAt prefixedOf prefixedAt namesAt rightsAt installOf listWrong listAt listWithin listOf elementOf restOf closed
 every-call-met =
     record {
       create = is-written (0x80 ∷ 0xE6 ∷ 0x0C ∷ 0x00 ∷ 0x22 ∷ 5 ∷ (aidEnding 2 ++ 5 ∷ (aidEnding 2 ++ 5 ∷ (aidEnding 5 ++ 1 ∷ 0x80 ∷ 0x0C ∷ 0xC9 ∷ 4 ∷ 0x81 ∷ 2 ∷ 3 ∷ 0x70 ∷ 0xEF ∷ 4 ∷ 0x83 ∷ 2 ∷ 0x02 ∷ 0x58 ∷ 0 ∷ [])))) _ refl refl;
@@ -46,4 +52,5 @@ every-call-met =
       status-of-next = is-written (0x80 ∷ 0xF2 ∷ 0x40 ∷ 0x03 ∷ 0x02 ∷ 0x4F ∷ 0x00 ∷ 0x00 ∷ []) _ refl refl;
       status-of-one = is-written (0x80 ∷ 0xF2 ∷ 0x40 ∷ 0x02 ∷ 0x07 ∷ 0x4F ∷ 0x05 ∷ aidEnding 2) _ refl refl;
       get-data = is-written (0x80 ∷ 0xCA ∷ 0xFF ∷ 0x21 ∷ 0x00 ∷ []) _ refl refl;
+      set-policy = (updating, update-written updating 2 (bytes-of updating refl) refl);
     }

@@ -20,7 +20,7 @@ use Rattle.card.specs.declared.Phase.{Phase}
 use Rattle.card.specs.declared.Phase.the-variants.{Quiet, Trial, Back, Fallen}
 use Rattle.card.proofs.Sounds.{Phased, Sound, parts, choose, tick-sound, nonzero, resort-nonzero}
 use Rattle.steps.proofs.Opens.{only}
-use Rattle.manager.specs.Calls.{Call, Call.Command, Call.Keyed, Call.Stored, Call.Finished, Call.Tick, Call.Lost, asked}
+use Rattle.manager.specs.Calls.{Call, Call.Command, Call.Keyed, Call.Stored, Call.Finished, Call.Tick, Call.Lost, Call.Policy, asked}
 use Rattle.manager.specs.Manager.{step, run}
 use Rattle.manager.proofs.Kept.{step-sound}
 use Rattle.demands.specs.Change.{isTick, isConfirmation, confirms, ticksAmong, staysOpen, Unmoved, holder, heir}
@@ -170,6 +170,7 @@ module _ (g p f : ℕ) where
   led k c (Finished aid policy mark) w = led-other k c (Finished aid policy mark) refl _ refl w
   led k c Tick w = led-tick k c w
   led k c Lost w = led-other k c Lost refl _ refl w
+  led k c (Policy speaker s room) w = led-other k c (Policy speaker s room) refl _ refl w
 
   led-on : (k : ℕ) (d : Card) (t b r : Bool) → Led g p f k d t b → (not (isQuiet (d .phase)) && r) ≡ true → Known g p f (cond t 1 0 + k) d
   led-on k d t b r (open-still x) e = x

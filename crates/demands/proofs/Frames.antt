@@ -30,10 +30,13 @@ use Rattle.fields.specs.declared.request.Field.{Field}
 use Rattle.fields.specs.declared.request.Field.the-variants as field
 use Rattle.command.specs.Requests.{fieldOf}
 use Rattle.steps.proofs.Rows.{Passed}
+use Rattle.operator.specs.Field.{policyOf}
+use Rattle.operator.specs.declared.Policy as operator
+use Rattle.operator.specs.declared.Policy.the-variants as policy
 use Rattle.steps.specs.Asked.{Act, Act.enable, Act.disable, Act.delete, Act.masterDelete, Act.setFallBack, Act.status, Act.keyed, Act.stored, Act.finished, Act.setPolicy, Asked, Asked.unread, Asked.create, Asked.on, Asked.confirm, Asked.statusOfAll, Asked.getData, Asked.tick, Asked.lost}
 use Rattle.steps.specs.Steps.{goesOnAt, stepOf, responseOf}
 use Rattle.manager.proofs.Kept.{rows-accepted}
-use Rattle.manager.specs.Calls.{Call, Call.Command, Call.Keyed, Call.Stored, Call.Finished, Call.Tick, Call.Lost, asked, requestAsks, fieldAsks}
+use Rattle.manager.specs.Calls.{Call, Call.Command, Call.Keyed, Call.Stored, Call.Finished, Call.Tick, Call.Lost, Call.Policy, asked, requestAsks, fieldAsks, policyAsks}
 use Rattle.manager.specs.Table.{table}
 use Rattle.manager.specs.Manager.{step, work}
 use Rattle.demands.specs.Change.{taken, isTick, isConfirmation, Unmoved, Frame, OnlyOutstanding, tableWord}
@@ -54,16 +57,9 @@ pub same-kept : (c : Card) (i : ℕ) → Unmoved c (keeping c i)
 same-kept c i = record { phase = refl; enabled = λ i. refl; named = λ i. refl; fallback = refl; last = refl }
 
 -- a place rewritten that was not enabled and is not, with the AID that it had
-set-named : (x : Isdp) (l : List Isdp) (i : ℕ) → x .aid ≡ at l i .aid → (j : ℕ) → at (set l i x) j .aid ≡ at l j .aid
-set-named x [] i e j = refl
-set-named x (p ∷ ps) zero e zero = e
-set-named x (p ∷ ps) zero e (suc j) = refl
-set-named x (p ∷ ps) (suc i) e zero = refl
-set-named x (p ∷ ps) (suc i) e (suc j) = set-named x ps i e j
-
 rewritten-same : (c : Card) (i : ℕ) (x : Isdp) → isEnabled x ≡ isEnabled (at (c .places) i) → x .aid ≡ at (c .places) i .aid → Unmoved c (withPlaces c (set (c .places) i x))
 rewritten-same c i x e n =
-    record { phase = refl; enabled = set-unseen isEnabled x (c .places) i e; named = set-named x (c .places) i n; fallback = refl; last = refl }
+    record { phase = refl; enabled = set-unseen isEnabled x (c .places) i e; named = set-unseen (λ p. p .aid) x (c .places) i n; fallback = refl; last = refl }
 
 open-row : (c : Card) → isQuiet (c .phase) ≡ false → not (isQuiet (c .phase)) ≡ false → ⊥
 open-row c o h = false≢true (sym o ∙ not-false _ h)
@@ -88,6 +84,7 @@ act-same c aid disable o p = absurd (open-row c o (p .change))
 act-same c aid delete o p = absurd (open-row c o (p .change))
 act-same c aid (masterDelete verdict) o p = absurd (open-row c o (p .change))
 act-same c aid setFallBack o p = absurd (open-row c o (p .change))
+act-same c aid (setPolicy policy) o p = absurd (open-row c o (p .change))
 act-same c aid (status life fallback) o p = same-kept c noPlace
 act-same c aid keyed o p =
     rewritten-same c (placeOf c aid) _ (rw (eqb-true (profileOf c aid .life) selectable (not-false _ (p .state)))) refl
@@ -124,6 +121,10 @@ field-ticks : (verdict : ℕ) (s : List ℕ) (f : Field) → isTicking (fieldAsk
 field-ticks verdict s field.Wrong = refl
 field-ticks verdict s (field.Found r) = request-ticks verdict s r
 
+policy-ticks : (speaker : List ℕ) (p : operator.Policy) → isTicking (policyAsks speaker p) ≡ false
+policy-ticks speaker policy.Wrong = refl
+policy-ticks speaker (policy.Found p) = refl
+
 only-tick : (c : Card) (call : Call) → isTick call ≡ false → isTicking (asked c call) ≡ false
 only-tick c (Command verdict s room) e = field-ticks verdict s (fieldOf s (c .capacity))
 only-tick c (Keyed aid) e = refl
@@ -131,6 +132,7 @@ only-tick c (Stored aid n) e = refl
 only-tick c (Finished aid policy mark) e = refl
 only-tick c Tick e = absurd (false≢true (sym e))
 only-tick c Lost e = refl
+only-tick c (Policy speaker s room) e = policy-ticks speaker (policyOf s)
 
 not-asked : (a b : Bool) → (a && b) ≡ false → b ≡ true → a ≡ false
 not-asked true true e h = e

@@ -79,6 +79,7 @@ module _ (c : Card) where
   act-capacity aid keyed = refl
   act-capacity aid (stored n) = refl
   act-capacity aid (finished policy mark) = refl
+  act-capacity aid (setPolicy policy) = refl
 
   asks-capacity : (a : Asked) → As (stepOf c a .card)
   unfolding tickStep lostStep confirmStep tickOf lostOf confirmOf
@@ -109,6 +110,7 @@ module _ (c : Card) (s : Sound c) (ms : List Made) (t : Tally ms (c .places)) wh
   act-tally aid keyed h = alike-tally ms _ (c .places) (placeOf c aid) refl refl t
   act-tally aid (stored n) h = alike-tally ms _ (c .places) (placeOf c aid) refl refl t
   act-tally aid (finished policy mark) h = alike-tally ms _ (c .places) (placeOf c aid) refl refl t
+  act-tally aid (setPolicy policy) h = alike-tally ms _ (c .places) (placeOf c aid) refl refl t
 
   -- the response to a confirmation names the profile that it deletes
   gone-named : (p : Isdp) → held p ≡ true → afterConfirm (deletedResponse (p .aid)) ms ≡ without (aidOf p) ms

@@ -110,7 +110,7 @@ abbrev pub smallBytes : List ℕ → Bool
 smallBytes [] = true
 smallBytes (x ∷ xs) = ltb x 256 && smallBytes xs
 
-bytes-of : (s : List ℕ) → smallBytes s ≡ true → Bytes s
+pub bytes-of : (s : List ℕ) → smallBytes s ≡ true → Bytes s
 bytes-of [] e i = omega arith
 bytes-of (x ∷ xs) e zero = ltb-true x 256 (and-l _ _ e)
 bytes-of (x ∷ xs) e (suc i) = bytes-of xs (and-r (ltb x 256) _ e) i

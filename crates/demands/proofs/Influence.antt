@@ -25,13 +25,16 @@ use Rattle.fields.specs.declared.request.Request.{Request}
 use Rattle.fields.specs.declared.request.Request.the-variants as request
 use Rattle.fields.specs.declared.request.Field.{Field}
 use Rattle.fields.specs.declared.request.Field.the-variants as field
-use Rattle.framing.specs.Framing.{lengthWrong, classWrong, instructionWrong, parametersWrong, shapeWrong}
+use Rattle.framing.specs.Framing.{lengthWrong, classWrong, parametersWrong, shapeWrong}
 use Rattle.command.specs.Requests.{fieldOf}
 use Rattle.steps.specs.Asked.{Asked}
 use Rattle.steps.specs.Conditions.{cardRows}
 use Rattle.steps.specs.Steps.{successOf, stepOf, responseOf}
-use Rattle.manager.specs.Calls.{Call, Call.Command, Call.Keyed, Call.Stored, Call.Finished, Call.Tick, Call.Lost, requestAsks, fieldAsks, asked}
-use Rattle.manager.specs.Table.{bufferShort, inCommand, valuesWrong, table}
+use Rattle.operator.specs.Field.{policyOf}
+use Rattle.operator.specs.declared.Policy as operator
+use Rattle.operator.specs.declared.Policy.the-variants as policy
+use Rattle.manager.specs.Calls.{Call, Call.Command, Call.Keyed, Call.Stored, Call.Finished, Call.Tick, Call.Lost, Call.Policy, requestAsks, fieldAsks, policyAsks, asked}
+use Rattle.manager.specs.Table.{bufferShort, inCommand, instructionUnknown, valuesWrong, table}
 use Rattle.manager.specs.Manager.{step, run}
 use Rattle.manager.proofs.Kept.{step-sound, run-sound}
 use Rattle.demands.specs.Change.{tableWord}
@@ -58,6 +61,10 @@ field-spares : (a : List ℕ) (verdict : ℕ) (s : List ℕ) (f : Field) → spa
 field-spares a verdict s field.Wrong = refl
 field-spares a verdict s (field.Found r) = request-spares a verdict s r
 
+policy-spares : (a speaker : List ℕ) (p : operator.Policy) → spares a (policyAsks speaker p) ≡ true
+policy-spares a speaker policy.Wrong = refl
+policy-spares a speaker (policy.Found p) = refl
+
 call-spares : (a : List ℕ) (c : Card) (call : Call) → not (fills a call) ≡ true → spares a (asked c call) ≡ true
 call-spares a c (Command verdict s room) n = field-spares a verdict s (fieldOf s (c .capacity))
 call-spares a c (Keyed aid) n = refl
@@ -65,6 +72,7 @@ call-spares a c (Stored aid m) n = n
 call-spares a c (Finished aid policy mark) n = n
 call-spares a c Tick n = refl
 call-spares a c Lost n = refl
+call-spares a c (Policy speaker s room) n = policy-spares a speaker (policyOf s)
 
 -- what is read of a call
 asked-same : (i u : ℕ) (c : Card) (call : Call) → asked (reuseAt i u c) call ≡ asked c call
@@ -74,6 +82,7 @@ asked-same i u c (Stored aid n) = refl
 asked-same i u c (Finished aid policy mark) = refl
 asked-same i u c Tick = refl
 asked-same i u c Lost = refl
+asked-same i u c (Policy speaker s room) = refl
 
 values-same : (i u : ℕ) (c : Card) (call : Call) → valuesWrong (reuseAt i u c) call ≡ valuesWrong c call
 values-same i u c (Command verdict s room) = refl
@@ -82,6 +91,7 @@ values-same i u c (Stored aid n) = refl
 values-same i u c (Finished aid policy mark) = refl
 values-same i u c Tick = refl
 values-same i u c Lost = refl
+values-same i u c (Policy speaker s room) = refl
 
 -- the table, of its conditions on the card and its rows at the end
 abbrev rowsWith : Call → Bool → Bool → List Row → List Row
@@ -90,7 +100,7 @@ rowsWith call unsound wrong rows =
     ∷ row (bufferShort call) BufferShort
     ∷ row (inCommand lengthWrong call) LengthWrong
     ∷ row (inCommand classWrong call) ClassWrong
-    ∷ row (inCommand instructionWrong call) InstructionWrong
+    ∷ row (instructionUnknown call) InstructionWrong
     ∷ row (inCommand parametersWrong call) ParametersWrong
     ∷ row (inCommand shapeWrong call) LengthWrong
     ∷ row wrong DataWrong

@@ -4,6 +4,7 @@ pub mod Demand1
 pub mod Demand2
 pub mod Ticks
 pub mod Written
+pub mod Updates
 pub mod CallLaws
 pub mod Confirmation
 pub mod Create

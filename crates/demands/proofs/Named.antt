@@ -19,7 +19,7 @@ use Rattle.card.specs.declared.Phase.{Phase}
 use Rattle.card.specs.declared.Phase.the-variants.{Quiet, Trial, Back, Fallen}
 use Rattle.card.proofs.Sounds.{parts, choose}
 use Rattle.steps.proofs.Opens.{only}
-use Rattle.manager.specs.Calls.{Call, Call.Command, Call.Keyed, Call.Stored, Call.Finished, Call.Tick, Call.Lost, asked}
+use Rattle.manager.specs.Calls.{Call, Call.Command, Call.Keyed, Call.Stored, Call.Finished, Call.Tick, Call.Lost, Call.Policy, asked}
 use Rattle.manager.specs.Manager.{step, run}
 use Rattle.manager.proofs.Kept.{step-sound, run-sound}
 use Rattle.demands.specs.Change.{enabledBytes, isTick, isConfirmation, confirms, ticksAmong, staysOpen, heir, Unmoved, Change, LostChange}
@@ -53,6 +53,7 @@ step-named c (Stored aid n) k o e = other-named c (Stored aid n) k o refl e
 step-named c (Finished aid policy mark) k o e = other-named c (Finished aid policy mark) k o refl e
 step-named c Tick k o e = rw (tick-step c k) (tick-named c)
 step-named c Lost k o e = other-named c Lost k o refl e
+step-named c (Policy speaker s room) k o e = other-named c (Policy speaker s room) k o refl e
 
 -- one that does closes
 quiet-case : (c : Card) (call : Call) (b r : Bool) → confirms c call ≡ b → sound c ≡ true → (not (isQuiet (step c call .card .phase)) && r) ≡ true → b ≡ false

@@ -1,5 +1,5 @@
 -- Every answer is a refusal, which hands nothing out, or a step. What tick, lost, the confirmation and an opening tell is card's law; every
--- other step rewrites a place that is not enabled, or no place. By what is asked, with the facts of the passed rows. Assumes nothing.
+-- other step rewrites a place that is not enabled, or the policy of one, or no place. By what is asked, with the facts of the passed rows. Assumes nothing.
 use mathlib.Core.Path.{_≡_, refl, ap, sym, _∙_}
 use Prim.Native.Nat.{ℕ, _<_}
 use mathlib.Core.List.{List, [], _∷_}
@@ -12,15 +12,15 @@ use Rattle.status.specs.declared.Status.{Status}
 use Rattle.isdp.specs.Sizes.{mostPlaces}
 use Rattle.isdp.specs.Aids.{named, noAid}
 use Rattle.isdp.specs.declared.Aid.{Aid}
-use Rattle.isdp.specs.LifeCycle.{selectable, personalized, enabled, isEnabled}
+use Rattle.isdp.specs.LifeCycle.{selectable, personalized, enabled, isEnabled, withPolicy}
 use Rattle.isdp.specs.Place.{vacant, made, held, placeOk}
 use Rattle.isdp.specs.declared.Isdp.{Isdp}
 use Rattle.isdp.proofs.Bools.{and-l, or-l}
 use Rattle.isdp.proofs.Placed.{vacant-is}
 use Rattle.places.specs.Places.{at, seek, isFree}
 use Rattle.places.proofs.Seeks.{seek-below}
-use Rattle.places.proofs.Sets.{all-at}
-use Rattle.card.specs.Cards.{noPlace, keeping, placeOf, profileOf, freePlace, enabledAid, mayBeDeleted, withRoom, withFallback}
+use Rattle.places.proofs.Sets.{all-at, set-unseen, set-seek}
+use Rattle.card.specs.Cards.{noPlace, keeping, placeOf, profileOf, freePlace, enabledAid, mayBeDeleted, withRoom, rewritten, withFallback}
 use Rattle.card.specs.Sound.{sound}
 use Rattle.card.specs.Noticed.{JustOpened, Noticed, silently, told}
 use Rattle.card.specs.Steps.{stepTo}
@@ -65,6 +65,12 @@ module _ (c : Card) (s : sound c ≡ true) where
   rewrites : (i : ℕ) (x : Isdp) {free : ℕ} → isEnabled x ≡ false → isEnabled (at (c .places) i) ≡ false → Noticed c (stepTo c (withRoom c free (set (c .places) i x)) noAid)
   rewrites i x e f = unmoved c _ noAid refl (ap (λ (p : Isdp). p .aid) (found-kept x e (c .places) i f))
 
+  -- one place is rewritten with its AID, enabled or not as it was
+  restates : (i : ℕ) (x : Isdp) → isEnabled x ≡ isEnabled (at (c .places) i) → x .aid ≡ at (c .places) i .aid → Noticed c (stepTo c (rewritten c i x) noAid)
+  restates i x e n =
+      let l = c .places in
+      unmoved c _ noAid refl (ap (λ (j : ℕ). at (set l i x) j .aid) (set-seek isEnabled x l i e) ∙ set-unseen (λ p. p .aid) x l i n (seek isEnabled l))
+
   -- only the kept place is new
   idle : (i : ℕ) → Noticed c (stepTo c (keeping c i) noAid)
   idle i = unmoved c (keeping c i) noAid refl refl
@@ -92,6 +98,7 @@ module _ (c : Card) (s : sound c ≡ true) where
       rewrites (placeOf c aid) _ e e
   acts aid (finished policy mark) p =
       rewrites (placeOf c aid) _ refl (other-life (placeOf c aid) personalized refl (eqb-true _ _ (and-l (eqb (profileOf c aid .life) personalized) _ (not-false _ (p .state)))))
+  acts aid (setPolicy policy) p = restates (placeOf c aid) (withPolicy (profileOf c aid) policy) refl refl
 
   asks : (a : Asked) → Passed c a → Noticed c (stepOf c a)
   asks unread p = idle noPlace

@@ -102,6 +102,7 @@ module _ (c : Card) (j : ℕ) where
   act aid keyed n = sets-other _ _ (eqb-false _ _ n)
   act aid (stored m) n = sets-other _ _ (eqb-false _ _ n)
   act aid (finished policy mark) n = sets-other _ _ (eqb-false _ _ n)
+  act aid (setPolicy policy) n = sets-other _ _ (eqb-false _ _ n)
 
   apart : (i : ℕ) → (eqb i j && dropped c i) ≡ false → dropped c i ≡ true → i ≡ j → ⊥
   apart i n d e = false≢true (sym n ∙ (rw (eq-eqb i j e, d)))

@@ -87,11 +87,12 @@ set-other (p ∷ ps) zero u (suc j) x n = refl
 set-other (p ∷ ps) (suc i) u zero x n = refl
 set-other (p ∷ ps) (suc i) u (suc j) x n = rw (set-other ps i u j x (λ e. n (ap suc e)))
 
-pub set-used : (l : List Isdp) (i u : ℕ) (v : ℕ) → set (useAt l i u) i (withLife (at (useAt l i u) i) v) ≡ useAt (set l i (withLife (at l i) v)) i u
+-- a profile rewritten whatever its used bytes
+pub set-used : (f : Isdp → Isdp) → ((p : Isdp) (v : ℕ) → f (withUsed p v) ≡ withUsed (f p) v) → (l : List Isdp) (i u : ℕ) → set (useAt l i u) i (f (at (useAt l i u) i)) ≡ useAt (set l i (f (at l i))) i u
 unfolding useAt
-set-used [] i u v = refl
-set-used (p ∷ ps) zero u v = refl
-set-used (p ∷ ps) (suc i) u v = rw (set-used ps i u v)
+set-used f h [] i u = refl
+set-used f h (p ∷ ps) zero u = rw (h p u)
+set-used f h (p ∷ ps) (suc i) u = rw (set-used f h ps i u)
 
 pub set-over : (l : List Isdp) (i u : ℕ) (x : Isdp) → set (useAt l i u) i x ≡ set l i x
 unfolding useAt

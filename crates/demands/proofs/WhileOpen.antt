@@ -10,13 +10,13 @@ use Rattle.card.specs.Sound.{sound}
 use Rattle.card.specs.declared.Card.{Card}
 use Rattle.card.specs.declared.Phase.the-variants.{Quiet}
 use Rattle.card.proofs.Sounds.{parts, whole}
-use Rattle.framing.specs.Framing.{lengthWrong, classWrong, instructionWrong, parametersWrong, shapeWrong}
-use Rattle.steps.specs.Asked.{Act.status, Act.keyed, Act.stored, Act.finished, Act.setPolicy, Asked, Asked.on, Asked.statusOfAll, Asked.getData, Asked.tick, Asked.lost}
+use Rattle.framing.specs.Framing.{lengthWrong, classWrong, parametersWrong, shapeWrong}
+use Rattle.steps.specs.Asked.{Act.status, Act.keyed, Act.stored, Act.finished, Asked, Asked.on, Asked.statusOfAll, Asked.getData, Asked.tick, Asked.lost}
 use Rattle.responses.specs.Responses.{leftAfter}
 use Rattle.steps.specs.Conditions.{cardRows}
 use Rattle.steps.specs.Steps.{goesOnAt, partWord, successOf}
-use Rattle.manager.specs.Calls.{Call, Call.Command, Call.Keyed, Call.Stored, Call.Finished, Call.Tick, Call.Lost}
-use Rattle.manager.specs.Table.{bufferShort, inCommand, valuesWrong, table}
+use Rattle.manager.specs.Calls.{Call, Call.Command, Call.Keyed, Call.Stored, Call.Finished, Call.Tick, Call.Lost, Call.Policy}
+use Rattle.manager.specs.Table.{bufferShort, inCommand, instructionUnknown, valuesWrong, table}
 use Rattle.demands.specs.WhileOpen as statement
 use Rattle.demands.proofs.Words.{word-is}
 
@@ -28,6 +28,7 @@ values-same c (Stored aid n) = refl
 values-same c (Finished aid policy mark) = refl
 values-same c Tick = refl
 values-same c Lost = refl
+values-same c (Policy speaker s room) = refl
 
 quiet-sound : (c : Card) → sound c ≡ true → sound (inPhase c Quiet) ≡ true
 quiet-sound c s =
@@ -50,7 +51,7 @@ tableOf call isSound wrong rows =
     ∷ row (bufferShort call) BufferShort
     ∷ row (inCommand lengthWrong call) LengthWrong
     ∷ row (inCommand classWrong call) ClassWrong
-    ∷ row (inCommand instructionWrong call) InstructionWrong
+    ∷ row (instructionUnknown call) InstructionWrong
     ∷ row (inCommand parametersWrong call) ParametersWrong
     ∷ row (inCommand shapeWrong call) LengthWrong
     ∷ row wrong DataWrong

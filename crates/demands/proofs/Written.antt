@@ -75,7 +75,7 @@ read-some : (s : List ℕ) (x : Reading) (w : Wanted) → readAs s x ≡ some w 
 read-some s (reading.Read r) w q = (r, (refl, cc))
 read-some s (reading.Refused word) w q = let z : _≡_ {A = ℕ} 0 1 = cc in absurd (omega arith)
 
-after-sound : (c : Card) (success : Status) (rows more : List Row) → wordOf success rows ≡ wordOf success more → wordOf success (soundRow c ∷ rows) ≡ wordOf success (soundRow c ∷ more)
+pub after-sound : (c : Card) (success : Status) (rows more : List Row) → wordOf success rows ≡ wordOf success more → wordOf success (soundRow c ∷ rows) ≡ wordOf success (soundRow c ∷ more)
 unfolding wordOf
 after-sound c success rows more e = ap (cond (not (sound c)) Unsound) e
 
@@ -126,7 +126,7 @@ accepted-written c verdict s room b e =
     (wantedOf s (r .0), (ltb-false room leastBuffer (p .buffer), read-written s (c .capacity) (r .0) b (r .1)))
 
 -- the words of the rows of reading
-reading-word : (a b c d e f : Bool) → isDone (wordOf Done (row a LengthWrong ∷ row b ClassWrong ∷ row c InstructionWrong ∷ row d ParametersWrong ∷ row e LengthWrong ∷ row f DataWrong ∷ [])) ≡ false
+pub reading-word : (a b c d e f : Bool) → isDone (wordOf Done (row a LengthWrong ∷ row b ClassWrong ∷ row c InstructionWrong ∷ row d ParametersWrong ∷ row e LengthWrong ∷ row f DataWrong ∷ [])) ≡ false
     → ofReading (wordOf Done (row a LengthWrong ∷ row b ClassWrong ∷ row c InstructionWrong ∷ row d ParametersWrong ∷ row e LengthWrong ∷ row f DataWrong ∷ [])) ≡ true
 unfolding wordOf
 reading-word true b c d e f h = refl
@@ -150,12 +150,3 @@ unwritten-refused c verdict s room b e h none = refused-case c verdict s room b 
 
 pub one-meaning : statement.OneMeaning
 one-meaning s capacity v w e f = let q = command-back s capacity v e in let r = command-back s capacity w f in cc
-
-pub written : statement.Written
-written =
-    record {
-      written-answered = written-answered;
-      accepted-written = accepted-written;
-      unwritten-refused = unwritten-refused;
-      one-meaning = one-meaning;
-    }

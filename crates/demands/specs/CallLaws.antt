@@ -11,6 +11,7 @@ use Rattle.card.specs.declared.Card.{Card}
 use Rattle.fields.specs.Grammar as field
 use Rattle.fields.specs.Grammar.{Created, Wanted}
 use Rattle.command.specs.Grammar.{Encodes}
+use Rattle.operator.specs.Grammar.{EncodesUpdate}
 use Rattle.steps.specs.Laws.Met.{aidEnding}
 use Rattle.steps.specs.Laws.Create.{CreateAnswers}
 use Rattle.steps.specs.Laws.Loading.{KeyedAnswers, StoredAnswers, FinishedAnswers}
@@ -19,8 +20,9 @@ use Rattle.steps.specs.Laws.Deletion.{DeleteAnswers, MasterDeleteAnswers}
 use Rattle.steps.specs.Laws.FallBack.{SetFallBackAnswers}
 use Rattle.steps.specs.Laws.Confirmation.{ConfirmationAnswers}
 use Rattle.steps.specs.Laws.Clock.{TickAnswers, LostAnswers}
+use Rattle.steps.specs.Laws.Policy.{SetPolicyAnswers}
 use Rattle.steps.specs.Laws.Reports.{StatusOfAllAnswers, StatusOfNextAnswers, StatusOfOneAnswers, GetDataAnswers}
-use Rattle.manager.specs.Calls.{Call, Call.Command, Call.Keyed, Call.Stored, Call.Finished, Call.Tick, Call.Lost}
+use Rattle.manager.specs.Calls.{Call, Call.Command, Call.Keyed, Call.Stored, Call.Finished, Call.Tick, Call.Lost, Call.Policy}
 use Rattle.manager.specs.Table.{leastBuffer}
 use Rattle.manager.specs.Manager.{step}
 
@@ -36,6 +38,15 @@ WrittenLaw w Answered =
 -- any other call
 abbrev pub CallLaw : Call → (Card → Outcome → Type 0) → Type 0
 CallLaw call Answered = (c : Card) → sound c ≡ true → Answered c (step c call)
+
+-- a policy update that writes this, whoever speaks
+abbrev pub UpdateLaw : List ℕ → ℕ → (Card → Outcome → Type 0) → Type 0
+UpdateLaw speaker policy Answered =
+    (c : Card) (s : List ℕ) (room : ℕ)
+    → sound c ≡ true
+    → leastBuffer ≤ room
+    → EncodesUpdate policy s
+    → Answered c (step c (Policy speaker s room))
 
 pub record EveryCall : Type 0 where
   pub create : (v : Created) → WrittenLaw (field.create v) (λ c verdict. CreateAnswers c (v .aid) (v .quota))
@@ -57,6 +68,7 @@ pub record EveryCall : Type 0 where
   pub finished : (aid : List ℕ) (policy mark : ℕ) → CallLaw (Finished aid policy mark) (λ c. FinishedAnswers c aid policy mark)
   pub tick : CallLaw Tick TickAnswers
   pub lost : CallLaw Lost LostAnswers
+  pub set-policy : (speaker : List ℕ) (policy : ℕ) → UpdateLaw speaker policy (λ c. SetPolicyAnswers c speaker policy)
 
 -- "Tick and lost are refused only by 6F 00.": 90 00 on every sound card
 abbrev pub RefusedOnlyUnsound : Call → Type 0
@@ -83,3 +95,4 @@ pub record EveryCallMet : Type 0 where
   pub status-of-next : IsWritten (field.getStatus (field.asked true [] true true))
   pub status-of-one : IsWritten (field.getStatus (field.asked false (aidEnding 2) true true))
   pub get-data : IsWritten field.getData
+  pub set-policy : (s : List ℕ) × EncodesUpdate 2 s

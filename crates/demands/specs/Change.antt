@@ -16,7 +16,7 @@ use Rattle.card.specs.Sound.{sound}
 use Rattle.card.specs.Clock.{outstanding}
 use Rattle.card.specs.declared.Card.{Card}
 use Rattle.steps.specs.Asked.{Act.enable, Act.disable, Asked, Asked.unread, Asked.create, Asked.on, Asked.confirm, Asked.statusOfAll, Asked.getData, Asked.tick, Asked.lost}
-use Rattle.manager.specs.Calls.{Call, Call.Command, Call.Keyed, Call.Stored, Call.Finished, Call.Tick, Call.Lost, asked}
+use Rattle.manager.specs.Calls.{Call, Call.Command, Call.Keyed, Call.Stored, Call.Finished, Call.Tick, Call.Lost, Call.Policy, asked}
 use Rattle.manager.specs.Table.{table}
 use Rattle.manager.specs.Manager.{step, run, work}
 
@@ -42,6 +42,7 @@ isTick (Stored aid n) = false
 isTick (Finished aid policy mark) = false
 isTick Tick = true
 isTick Lost = false
+isTick (Policy speaker s room) = false
 
 abbrev pub isConfirmation : Asked → Bool
 isConfirmation unread = false

@@ -42,6 +42,7 @@ afterAct aid (status life fallback) ms = ms
 afterAct aid keyed ms = ms
 afterAct aid (stored n) ms = ms
 afterAct aid (finished policy mark) ms = ms
+afterAct aid (setPolicy policy) ms = ms
 
 -- what an accepted call did to those made, by what it asked and the response to it
 abbrev pub afterAsked : Asked → List ℕ → List Made → List Made

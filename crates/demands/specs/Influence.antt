@@ -10,7 +10,7 @@ use Rattle.isdp.specs.LifeCycle.{withUsed}
 use Rattle.card.specs.Cards.{placeOf, profileOf, over}
 use Rattle.card.specs.Sound.{sound}
 use Rattle.card.specs.declared.Card.{Card}
-use Rattle.manager.specs.Calls.{Call, Call.Command, Call.Keyed, Call.Stored, Call.Finished, Call.Tick, Call.Lost}
+use Rattle.manager.specs.Calls.{Call, Call.Command, Call.Keyed, Call.Stored, Call.Finished, Call.Tick, Call.Lost, Call.Policy}
 use Rattle.manager.specs.Manager.{run}
 use Rattle.demands.specs.Said.{exchanges}
 use Rattle.demands.specs.Examples.{aid, create, confirm}
@@ -32,6 +32,7 @@ fills name (Stored other n) = sameBytes other name
 fills name (Finished other policy mark) = sameBytes other name
 fills name Tick = false
 fills name Lost = false
+fills name (Policy speaker s room) = false
 
 unfoldable pub noneFills : List ℕ → List Call → Bool
 noneFills name [] = true

@@ -13,6 +13,7 @@ pub mod Confirmation
 pub mod Inputs
 pub mod Examples
 pub mod StatusTable
+pub mod UpdateTable
 pub mod Witnesses
 pub mod Engines
 pub mod WrongEngines

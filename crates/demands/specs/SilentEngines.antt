@@ -3,7 +3,7 @@
 use mathlib.Core.Bool.{Bool, true, false, cond}
 use Rattle.card.specs.Notifications.{silent}
 use Rattle.card.specs.Answers.{Outcome}
-use Rattle.manager.specs.Calls.{Call, Call.Command, Call.Keyed, Call.Stored, Call.Finished, Call.Tick, Call.Lost}
+use Rattle.manager.specs.Calls.{Call, Call.Command, Call.Keyed, Call.Stored, Call.Finished, Call.Tick, Call.Lost, Call.Policy}
 use Rattle.manager.specs.Manager.{step}
 use Rattle.demands.specs.Change.{isTick}
 use Rattle.demands.specs.Engines.{Engine, plain, manager}
@@ -16,6 +16,7 @@ isLost (Stored aid n) = false
 isLost (Finished aid policy mark) = false
 isLost Tick = false
 isLost Lost = true
+isLost (Policy speaker s room) = false
 
 -- an answer with its notification left out
 abbrev pub hushed : Outcome → Outcome

@@ -14,9 +14,10 @@ use Rattle.tlv.specs.Encoding.{Bytes}
 use Rattle.fields.specs.Grammar as field
 use Rattle.fields.specs.Grammar.{Wanted}
 use Rattle.command.specs.Grammar.{Encodes}
-use Rattle.steps.specs.Asked.{Act.enable, Act.disable, Act.delete, Act.masterDelete, Act.setFallBack, Act.status, Asked, Asked.create, Asked.on, Asked.confirm, Asked.statusOfAll, Asked.getData}
-use Rattle.steps.specs.Steps.{askedWork}
-use Rattle.manager.specs.Calls.{Call.Command}
+use Rattle.operator.specs.Grammar.{EncodesUpdate}
+use Rattle.steps.specs.Asked.{Act.enable, Act.disable, Act.delete, Act.masterDelete, Act.setFallBack, Act.status, Act.setPolicy, Asked, Asked.create, Asked.on, Asked.confirm, Asked.statusOfAll, Asked.getData}
+use Rattle.steps.specs.Steps.{askedWork, innerWork}
+use Rattle.manager.specs.Calls.{Call.Command, Call.Policy}
 use Rattle.manager.specs.Table.{leastBuffer}
 use Rattle.manager.specs.Manager.{step}
 
@@ -91,8 +92,40 @@ UnwrittenRefused =
 abbrev pub OneMeaning : Type 0
 OneMeaning = (s : List ℕ) (capacity : ℕ) (v w : Wanted) → Encodes capacity v s → Encodes capacity w s → v ≡ w
 
+-- ---- the same of a policy update: its bytes write a policy, and who speaks is handed in beside them
+
+abbrev pub UpdateAnswered : Type 0
+UpdateAnswered =
+    (c : Card) (speaker s : List ℕ) (room policy : ℕ)
+    → leastBuffer ≤ room
+    → EncodesUpdate policy s
+    → step c (Policy speaker s room) ≡ outcome c (innerWork c speaker (setPolicy policy))
+
+abbrev pub AcceptedUpdate : Type 0
+AcceptedUpdate =
+    (c : Card) (speaker s : List ℕ) (room : ℕ)
+    → Bytes s
+    → isDone (step c (Policy speaker s room) .status) ≡ true
+    → (policy : ℕ) × ((leastBuffer ≤ room) × EncodesUpdate policy s)
+
+abbrev pub UnwrittenUpdate : Type 0
+UnwrittenUpdate =
+    (c : Card) (speaker s : List ℕ) (room : ℕ)
+    → Bytes s
+    → sound c ≡ true
+    → leastBuffer ≤ room
+    → ((policy : ℕ) → EncodesUpdate policy s → ⊥)
+    → ofReading (step c (Policy speaker s room) .status) ≡ true
+
+abbrev pub OnePolicy : Type 0
+OnePolicy = (s : List ℕ) (p q : ℕ) → EncodesUpdate p s → EncodesUpdate q s → p ≡ q
+
 pub record Written : Type 0 where
   pub written-answered : WrittenAnswered
   pub accepted-written : AcceptedWritten
   pub unwritten-refused : UnwrittenRefused
   pub one-meaning : OneMeaning
+  pub update-answered : UpdateAnswered
+  pub accepted-update : AcceptedUpdate
+  pub unwritten-update : UnwrittenUpdate
+  pub one-policy : OnePolicy

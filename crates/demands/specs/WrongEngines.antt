@@ -24,7 +24,7 @@ use Rattle.card.specs.declared.Card.{Card}
 use Rattle.card.specs.declared.Phase.{Phase}
 use Rattle.card.specs.declared.Phase.the-variants.{Quiet, Trial, Back, Fallen}
 use Rattle.steps.specs.Asked.{Act.enable, Act.setFallBack, Asked, Asked.unread, Asked.create, Asked.on, Asked.confirm, Asked.statusOfAll, Asked.getData, Asked.tick, Asked.lost, sameAct, onTarget}
-use Rattle.manager.specs.Calls.{Call, Call.Command, Call.Keyed, Call.Stored, Call.Finished, Call.Tick, Call.Lost, asked}
+use Rattle.manager.specs.Calls.{Call, Call.Command, Call.Keyed, Call.Stored, Call.Finished, Call.Tick, Call.Lost, Call.Policy, asked}
 use Rattle.manager.specs.Manager.{step}
 use Rattle.demands.specs.Change.{taken, isTick}
 use Rattle.demands.specs.Inputs.{Inputs, freshOf}
@@ -111,6 +111,7 @@ isCommand (Stored aid n) = false
 isCommand (Finished aid policy mark) = false
 isCommand Tick = false
 isCommand Lost = false
+isCommand (Policy speaker s room) = false
 
 -- it works on the first so many, and answers every later one so
 abbrev pub firstThen : ℕ → (Card → Call → Outcome) → Engine

@@ -11,7 +11,7 @@ use Rattle.isdp.specs.Place.{vacant, clash}
 use Rattle.isdp.specs.declared.Isdp.{Isdp}
 use Rattle.isdp.proofs.Bools.{and-l, and-r, both, or-l, or-r}
 use Rattle.isdp.proofs.Alike.{clash-left, clash-right, clash-none, none-clash}
-use Rattle.places.specs.Places.{at, quotas, allOf, anyOf, countOf, distinct}
+use Rattle.places.specs.Places.{at, seek, quotas, allOf, anyOf, countOf, distinct}
 
 pub set-all : (t : Isdp → Bool) (x : Isdp) → t x ≡ true → (l : List Isdp) (i : ℕ) → allOf t l ≡ true → allOf t (set l i x) ≡ true
 unfolding allOf
@@ -71,13 +71,20 @@ set-alike x [] i e = refl
 set-alike x (p ∷ ps) zero e = rw (any-same (clash x) (clash p) (clash-left x p e) ps)
 set-alike x (p ∷ ps) (suc i) e = rw (any-alike p x ps i e, set-alike x ps i e)
 
--- where a test says the same of the old and the new one, it sees nothing of the change at any place
-pub set-unseen : (t : Isdp → Bool) (x : Isdp) (l : List Isdp) (i : ℕ) → t x ≡ t (at l i) → (j : ℕ) → t (at (set l i x) j) ≡ t (at l j)
+-- what is the same of the old and the new one is the same at every place
+pub set-unseen : {X : Type 0} (t : Isdp → X) (x : Isdp) (l : List Isdp) (i : ℕ) → t x ≡ t (at l i) → (j : ℕ) → t (at (set l i x) j) ≡ t (at l j)
 set-unseen t x [] i e j = refl
 set-unseen t x (p ∷ ps) zero e zero = e
 set-unseen t x (p ∷ ps) zero e (suc j) = refl
 set-unseen t x (p ∷ ps) (suc i) e zero = refl
 set-unseen t x (p ∷ ps) (suc i) e (suc j) = set-unseen t x ps i e j
+
+-- and a search by it finds the same place
+pub set-seek : (t : Isdp → Bool) (x : Isdp) (l : List Isdp) (i : ℕ) → t x ≡ t (at l i) → seek t (set l i x) ≡ seek t l
+unfolding seek
+set-seek t x [] i e = refl
+set-seek t x (p ∷ ps) zero e = rw e
+set-seek t x (p ∷ ps) (suc i) e = rw (set-seek t x ps i e)
 
 -- a deleted place
 any-never : (t : Isdp → Bool) → ((q : Isdp) → t q ≡ false) → (l : List Isdp) → anyOf t l ≡ false

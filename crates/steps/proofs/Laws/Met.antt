@@ -23,6 +23,7 @@ laws-met =
       keys = refl;
       stores = refl;
       finishes = (refl, refl);
+      sets-policy = (refl, refl, refl, refl, refl);
       enables = refl;
       disables = refl;
       deletes = (refl, refl, refl);
