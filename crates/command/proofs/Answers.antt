@@ -32,6 +32,12 @@ request-given : (f : Field) → isWrong f ≡ false → (r : Request) × (readin
 request-given field.Wrong h = absurd (false≢true (sym h))
 request-given (field.Found r) h = (r, refl)
 
+request-apart : (r : Request) (w : Status) → reading.Read r ≡ reading.Refused w → ⊥
+request-apart r w q = let z : _≡_ {A = ℕ} 0 1 = cc in omega arith
+
+request-worded : (v w : Status) → reading.Refused v ≡ reading.Refused w → v ≡ w
+request-worded v w q = cc
+
 abbrev requests : answers.Reader
 requests =
     record {
@@ -45,8 +51,8 @@ requests =
       refused = λ w. reading.Refused w;
       taken = request-taken;
       given = request-given;
-      apart = λ r w q. let z : _≡_ {A = ℕ} 0 1 = cc in omega arith;
-      worded = λ v w q. cc;
+      apart = request-apart;
+      worded = request-worded;
     }
 
 module _ (s : List ℕ) (capacity : ℕ) where
