@@ -9,7 +9,8 @@ use Rattle.tlv.specs.Encoding.{window}
 use Rattle.fields.specs.Grammar.{asked, getStatus, all, EncodesListed}
 use Rattle.framing.specs.Framing.{classRight, parametersRight, dataEnd}
 use Rattle.command.specs.Grammar.{secondOf, listingOf, Listing, SameTags}
-use Rattle.command.proofs.ReadBack.{field-window, command-back}
+use Rattle.framing.proofs.Framed.{field-window}
+use Rattle.command.proofs.ReadBack.{command-back}
 use Rattle.command.proofs.Written.{command-written}
 
 encodes-alike : (next next′ life shown : Bool) (bytes : List ℕ) → EncodesListed (asked next [] life shown) bytes → EncodesListed (asked next′ [] life shown) bytes

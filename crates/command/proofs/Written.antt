@@ -18,73 +18,29 @@ use Rattle.fields.proofs.DeletionGrammar.{deletion-written}
 use Rattle.fields.proofs.ListingGrammar.{listing-written}
 use Rattle.install.proofs.Written.{install-written}
 use Rattle.fields.specs.declared.request.Request.{Request}
-use Rattle.fields.specs.declared.request.Request.the-variants as request
 use Rattle.fields.specs.declared.request.Field.{Field}
 use Rattle.fields.specs.declared.request.Field.the-variants as field
 use Rattle.command.specs.declared.Reading.{Reading}
 use Rattle.command.specs.declared.Reading.the-variants as reading
-use Rattle.framing.specs.Framing.{classRight, classWrong, instructionWrong, parametersRight, parametersWrong, shapeRight, shapeWrong, isBare, dataEnd}
-use Rattle.framing.specs.Frame.{framed, dataField, hasLe, Framed}
+use Rattle.framing.specs.Framing.{instructionWrong, parametersRight, shapeRight, isBare, dataEnd}
 use Rattle.command.specs.Requests.{goesOn, fieldOf}
 use Rattle.command.specs.Reading.{readOf}
 use Rattle.command.specs.Grammar.{readAs, Bare, secondOf, Listing, Encodes, CommandWritten}
-use Rattle.framing.proofs.Frames.{and-l, and-r, five, framed-whole, field-length}
+use Rattle.framing.proofs.Frames.{and-l, and-r}
+use Rattle.framing.proofs.Framed.{class-right, parameters-right, shape-right, passes-framed}
 use Rattle.command.proofs.Answers.{Passes, read-passes, read-done}
 
 read-as : (s : List ℕ) (r : Reading) (v : Wanted) → readAs s r ≡ some v → (q : Request) × ((reading.Read q ≡ r) × (some (wantedOf s q) ≡ some v))
 read-as s (reading.Read q) v e = (q, (refl, e))
 read-as s (reading.Refused w) v e = let z : _≡_ {A = ℕ} 0 1 = cc in absurd (omega arith)
 
--- the window of the data field is what framing takes for it
-window-field : (s : List ℕ) → window s 5 (dataEnd s) ≡ dataField s
-unfolding window
-window-field [] = refl
-window-field (a ∷ []) = refl
-window-field (a ∷ b ∷ []) = refl
-window-field (a ∷ b ∷ c ∷ []) = refl
-window-field (a ∷ b ∷ c ∷ d ∷ []) = refl
-window-field (a ∷ b ∷ c ∷ d ∷ n ∷ rest) = rw (five n) refl
-
-module _ (s : List ℕ) (capacity : ℕ) (p : Passes s capacity) where
-  class-right : classRight (byte s 0) ≡ true
-  unfolding classWrong
-  class-right = not-false _ (p .classRight)
-
-  parameters-right : parametersRight (byte s 1) (byte s 2) (byte s 3) ≡ true
-  unfolding parametersWrong
-  parameters-right = not-false _ (p .parametersRight)
-
-  shape-right : shapeRight s ≡ true
-  unfolding shapeWrong
-  shape-right = not-false _ (p .shapeRight)
-
-  framed-written : (instruction : ℕ) (Encoded : List ℕ → Type 0) → Bytes s → byte s 1 ≡ instruction → (instruction ≡ 0xCA → ⊥)
-      → Encoded (window s 5 (dataEnd s)) → (f : Framed instruction Encoded s) × (f .p2 ≡ byte s 3)
-  framed-written instruction Encoded b i n e =
-      let other : byte s 1 ≡ 0xCA → ⊥ = λ h. n (sym i ∙ h) in
-      let l = field-length s other shape-right in let m = b 4 in
-      let f : Framed (byte s 1) Encoded s = record {
-        class = byte s 0;
-        p1 = byte s 2;
-        p2 = byte s 3;
-        field = dataField s;
-        withLe = hasLe s;
-        rightClass = class-right;
-        rightParameters = parameters-right;
-        least = omega arith;
-        most = omega arith;
-        encoded = subst Encoded (window-field s) e;
-        written = framed-whole s other shape-right;
-      } in
-      subst (λ (k : ℕ). (g : Framed k Encoded s) × (g .p2 ≡ byte s 3)) i (f, refl)
-
-  -- an instruction that is none of the other four is GET DATA's
-  instruction-last : (byte s 1 ≡ 0xE6 → ⊥) → (byte s 1 ≡ 0xE4 → ⊥) → (byte s 1 ≡ 0xE2 → ⊥) → (byte s 1 ≡ 0xF2 → ⊥) → byte s 1 ≡ 0xCA
-  unfolding instructionWrong
-  instruction-last x y z w =
-      let known : (eqb (byte s 1) 0xE6 || (eqb (byte s 1) 0xE4 || (eqb (byte s 1) 0xE2 || (eqb (byte s 1) 0xF2 || eqb (byte s 1) 0xCA)))) ≡ true =
-      not-false _ (p .instructionRight) in
-      eqb-true _ _ (rw (ne-eqb (byte s 1) 0xE6 x, ne-eqb (byte s 1) 0xE4 y, ne-eqb (byte s 1) 0xE2 z, ne-eqb (byte s 1) 0xF2 w) at known)
+-- an instruction that is none of the other four is GET DATA's
+instruction-last : (s : List ℕ) (capacity : ℕ) → Passes s capacity → (byte s 1 ≡ 0xE6 → ⊥) → (byte s 1 ≡ 0xE4 → ⊥) → (byte s 1 ≡ 0xE2 → ⊥) → (byte s 1 ≡ 0xF2 → ⊥) → byte s 1 ≡ 0xCA
+unfolding instructionWrong
+instruction-last s capacity p x y z w =
+    let known : (eqb (byte s 1) 0xE6 || (eqb (byte s 1) 0xE4 || (eqb (byte s 1) 0xE2 || (eqb (byte s 1) 0xF2 || eqb (byte s 1) 0xCA)))) ≡ true =
+    not-false _ (p .instructionRight) in
+    eqb-true _ _ (rw (ne-eqb (byte s 1) 0xE6 x, ne-eqb (byte s 1) 0xE4 y, ne-eqb (byte s 1) 0xE2 z, ne-eqb (byte s 1) 0xF2 w) at known)
 
 or-none : (a : Bool) → (a || false) ≡ true → a ≡ true
 or-none true h = refl
@@ -109,14 +65,14 @@ five-bytes (a ∷ b ∷ c ∷ d ∷ e ∷ f ∷ s) h = absurd (omega arith)
 
 bare-written : (s : List ℕ) (capacity : ℕ) → Passes s capacity → byte s 1 ≡ 0xCA → Bare s
 bare-written s capacity p i =
-    let bare = bare-of s i (shape-right s capacity p) in
+    let bare = bare-of s i (shape-right s p) in
     let l = eqb-true (length s) 5 (and-l (eqb (length s) 5) _ bare) in
     let z = eqb-true (byte s 4) 0 (and-r (eqb (length s) 5) _ bare) in
-    let m = parameters-of (byte s 1) (byte s 2) (byte s 3) i (parameters-right s capacity p) in
+    let m = parameters-of (byte s 1) (byte s 2) (byte s 3) i (parameters-right s p) in
     let x = eqb-true (byte s 2) 0xFF (and-l (eqb (byte s 2) 0xFF) _ m) in
     let y = eqb-true (byte s 3) 0x21 (and-r (eqb (byte s 2) 0xFF) _ m) in
     let e = five-bytes s l in
-    record { class = byte s 0; rightClass = class-right s capacity p; written = cc }
+    record { class = byte s 0; rightClass = class-right s p; written = cc }
 
 second-of : (i p1 p2 : ℕ) (next : Bool) → i ≡ 0xF2 → parametersRight i p1 p2 ≡ true → next ≡ eqb p2 0x03 → p2 ≡ secondOf next
 unfolding parametersRight
@@ -127,8 +83,8 @@ second-of i p1 p2 false e h q =
 
 listing-framed : (s : List ℕ) (capacity : ℕ) → Passes s capacity → Bytes s → byte s 1 ≡ 0xF2 → (v : Asked) → EncodesNext (goesOn s) v (window s 5 (dataEnd s)) → Listing v s
 listing-framed s capacity p b i v e =
-    let f = framed-written s capacity p 0xF2 (EncodesListed v) b i (omega arith) (e .1) in
-    record { command = f .0; second = f .1 ∙ second-of (byte s 1) (byte s 2) (byte s 3) (v .next) i (parameters-right s capacity p) (e .0) }
+    let f = passes-framed s p 0xF2 (EncodesListed v) b i (omega arith) (e .1) in
+    record { command = f .0; second = f .1 ∙ second-of (byte s 1) (byte s 2) (byte s 3) (v .next) i (parameters-right s p) (e .0) }
 
 pub command-written : CommandWritten
 unfolding fieldOf
@@ -139,13 +95,13 @@ command-written s capacity v b q =
     let P : Field → Type 0 = λ z. foundAs s z ≡ some v → Encodes capacity v s in
     each-eq P
     (λ i h. let u = install-written s 5 (dataEnd s) capacity v b h in
-    subst (λ (w : Wanted). Encodes capacity w s) (u .meant) (framed-written s capacity p 0xE6 _ b i (omega arith) (u .encoded) .0))
+    subst (λ (w : Wanted). Encodes capacity w s) (u .meant) (passes-framed s p 0xE6 _ b i (omega arith) (u .encoded) .0))
     (λ x. each-eq P
     (λ i h. let u = deletion-written s 5 (dataEnd s) v b h in
-    subst (λ (w : Wanted). Encodes capacity w s) (u .meant) (framed-written s capacity p 0xE4 _ b i (omega arith) (u .encoded) .0))
+    subst (λ (w : Wanted). Encodes capacity w s) (u .meant) (passes-framed s p 0xE4 _ b i (omega arith) (u .encoded) .0))
     (λ y. each-eq P
     (λ i h. let u = store-data-written s 5 (dataEnd s) v b h in
-    subst (λ (w : Wanted). Encodes capacity w s) (u .meant) (framed-written s capacity p 0xE2 _ b i (omega arith) (u .encoded) .0))
+    subst (λ (w : Wanted). Encodes capacity w s) (u .meant) (passes-framed s p 0xE2 _ b i (omega arith) (u .encoded) .0))
     (λ z. each-eq P
     (λ i h. let u = listing-written (goesOn s) s 5 (dataEnd s) v b h in
     subst (λ (w : Wanted). Encodes capacity w s) (u .meant) (listing-framed s capacity p b i (u .value) (u .encoded)))

@@ -1,15 +1,23 @@
--- The parts that the grammar's proofs share, both ways: a DGI, and an AID in its place.
+-- The parts that the grammar's proofs share, both ways: a DGI, one short element alone in it, and an AID in its place.
 use Prim.Native.Nat.{ℕ, _+_, _-_, _/_, _%_, _≤_, _<_}
-use mathlib.Core.Path.{_≡_, sym, ap, _∙_}
-use mathlib.Core.List.{List, _∷_}
+use mathlib.Core.Path.{_≡_, refl, sym, ap, subst, _∙_}
+use mathlib.Core.List.{List, [], _∷_}
+use mathlib.Core.Bool.{Bool, false}
 use native.Mathlib.Omega.{arith}
 use lib.ListN.{length}
 use Rattle.byte_string.specs.Bytes.{byte, pairAt}
 use Rattle.tlv.specs.declared.HeadRead.the-variants as head
 use Rattle.tlv.specs.declared.Element.the-variants as element
-use Rattle.tlv.specs.Encoding.{window, Bytes}
-use Rattle.choice.proofs.Branches.{each-lt, each-eq, nlt!, eq! }
+use Rattle.tlv.specs.Tlv.{headAt}
+use Rattle.tlv.specs.Lists.{listWrong}
+use Rattle.tlv.specs.Filled.{Filled, ended, primitive}
+use Rattle.tlv.specs.Grammar.{one, marksList}
+use Rattle.tlv.specs.Encoding.{window, Bytes, encodeTag, encodeLength, encodeElement}
+use Rattle.choice.proofs.Branches.{each-lt, each-eq, lt!, nlt!, eq! }
 use Rattle.tlv.proofs.Windows.{window-first, window-length, window-starts}
+use Rattle.tlv.proofs.Fills.{right-filled, filled-right, first-level}
+use Rattle.reader.specs.Reader.{aloneAt}
+use Rattle.reader.proofs.Alone.{alone-written, alone-back}
 use Rattle.fields.specs.declared.Dgi.{Dgi}
 use Rattle.fields.specs.declared.Dgi.the-variants as dgi
 use Rattle.fields.specs.StoreData.{dgiAt}
@@ -73,6 +81,49 @@ module _ (s : List ℕ) (at end : ℕ) (ordered : at ≤ end) (held : end ≤ le
         room = omega arith;
         after = w;
       }
+
+pub dgi-filled : (s : List ℕ) (at end number contents : ℕ) → dgi.Found number contents ≡ dgiAt s at end → listWrong s contents end ≡ false → Filled s 1 (at + 3) end
+dgi-filled s at end number contents d e = subst (λ (k : ℕ). Filled s 1 k end) (dgi-parts s at end number contents d .place) (right-filled s contents end e)
+
+-- ---- a DGI that holds one element, which fills it
+
+short-element : (t : ℕ) (v : List ℕ) → t < 256 → length v < 0x80 → length (encodeElement t v) ≡ 2 + length v
+unfolding encodeElement encodeTag encodeLength
+short-element t v h i =
+    let a : t ∷ [] ≡ encodeTag t = lt! _ h refl in
+    let b : length v ∷ [] ≡ encodeLength (length v) = lt! _ i refl in
+    rw (← a) (rw (← b) (omega arith))
+
+module _ (s : List ℕ) (at end : ℕ) (ordered : at ≤ end) (held : end ≤ length s) (number t low high : ℕ) (v : List ℕ) where
+  pub record LoneBack : Type 0 where
+    pub start : ℕ
+    pub opened : dgi.Found number (at + 3) ≡ dgiAt s at end
+    pub listed : listWrong s (at + 3) end ≡ false
+    pub found : element.Found start end ≡ aloneAt s (at + 3) end t low high
+    pub long : end ≡ start + length v
+    pub value : window s start end ≡ v
+
+  -- a tag of one byte that marks no list, and a value that one length byte below 80 counts
+  pub lone-back : t < 256 → (t % 32 ≡ 31 → ⊥) → marksList t ≡ false → low ≤ length v → length v ≤ high → length v < 0x80
+      → window s at end ≡ encodeDgi number (encodeElement t v) → LoneBack
+  lone-back small legal plain least most short q =
+      let n = short-element t v small short in
+      let d = dgi-back s at end ordered held number (encodeElement t v) (omega arith) q in
+      let a = alone-back s (at + 3) end (d .room) held t low high v (one small legal) least most (d .after) in
+      let h = subst (λ (b : Bool). head.Head t b (a .start) end ≡ headAt s (at + 3) end) plain (a .head) in
+      record {
+        start = a .start;
+        opened = d .found;
+        listed = filled-right (primitive first-level h (ended first-level held));
+        found = a .found;
+        long = a .long;
+        value = a .value;
+      }
+
+pub lone-written : (s : List ℕ) (at end number contents t low high start stop : ℕ) → Bytes s → dgi.Found number contents ≡ dgiAt s at end
+    → element.Found start stop ≡ aloneAt s contents end t low high → window s at end ≡ encodeDgi number (encodeElement t (window s start stop))
+lone-written s at end number contents t low high start stop b d g =
+    dgi-written s at end number contents b d ∙ ap (encodeDgi number) (alone-written s contents end t low high start stop b g)
 
 -- ---- an AID in its place
 

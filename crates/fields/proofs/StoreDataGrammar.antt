@@ -10,13 +10,11 @@ use Rattle.byte_string.specs.Bytes.{byte, pairAt, between, partOf}
 use Rattle.tlv.specs.declared.Element.the-variants as element
 use Rattle.byte_string.specs.declared.Part.{Part}
 use Rattle.tlv.specs.Lists.{listWrong}
-use Rattle.tlv.specs.Filled.{Filled, ended, primitive}
-use Rattle.tlv.specs.Encoding.{window, Bytes, encodeNumber, encodeTag, encodeLength, encodeElement}
-use Rattle.choice.proofs.Branches.{no!, each, each-eq, lt!, eq!, ne! }
+use Rattle.tlv.specs.Filled.{Filled}
+use Rattle.tlv.specs.Encoding.{window, Bytes, encodeNumber, encodeElement}
+use Rattle.choice.proofs.Branches.{no!, each, each-eq, eq!, ne! }
 use Rattle.tlv.proofs.Windows.{window-starts, window-part}
-use Rattle.tlv.proofs.Fills.{right-filled, filled-right, first-level}
 use Rattle.tlv.proofs.Written.{window-two}
-use Rattle.tlv.specs.Grammar.{one}
 use Rattle.fields.specs.declared.Dgi.the-variants as dgi
 use Rattle.fields.specs.declared.request.Request.the-variants as request
 use Rattle.fields.specs.declared.request.Field.{Field}
@@ -24,19 +22,12 @@ use Rattle.fields.specs.declared.request.Field.the-variants as field
 use Rattle.reader.specs.Reader.{aloneAt}
 use Rattle.fields.specs.StoreData.{dgiAt, confirmationAt, namedBy, storeDataAt}
 use Rattle.fields.specs.Grammar.{Named, enable, disable, setFallBack, confirmation, Wanted, storeData, foundAs, Written, encodeDgi, EncodesStored, StoreDataBack, StoreDataWritten, StoreDataFilled}
-use Rattle.reader.proofs.Alone.{alone-expected, alone-parts, alone-written, alone-back}
-use Rattle.fields.proofs.Parts.{dgi-back, dgi-parts, dgi-written, part-named}
+use Rattle.reader.proofs.Alone.{alone-expected, alone-parts}
+use Rattle.fields.proofs.Parts.{dgi-parts, dgi-filled, lone-back, lone-written, part-named}
 use Rattle.fields.proofs.Cases.{each-dgi, same-value, no-value}
 use Rattle.tlv.proofs.Branches.{each-found}
 
 -- ---- an encoded field is read back
-
-short-element : (t : ℕ) (v : List ℕ) → t < 256 → length v < 0x80 → length (encodeElement t v) ≡ 2 + length v
-unfolding encodeElement encodeTag encodeLength
-short-element t v h i =
-    let a : t ∷ [] ≡ encodeTag t = lt! _ h refl in
-    let b : length v ∷ [] ≡ encodeLength (length v) = lt! _ i refl in
-    rw (← a) (rw (← b) (omega arith))
 
 module _ (s : List ℕ) (at end : ℕ) (ordered : at ≤ end) (held : end ≤ length s) where
   pub record AidBack (number : ℕ) (aid : List ℕ) : Type 0 where
@@ -48,13 +39,11 @@ module _ (s : List ℕ) (at end : ℕ) (ordered : at ≤ end) (held : end ≤ le
       → AidBack number aid
   unfolding storeDataAt
   aid-back number aid other named q =
-      let n = short-element 0x4F aid (omega arith) (omega arith) in
-      let d = dgi-back s at end ordered held number (encodeElement 0x4F aid) (omega arith) q in
-      let a = alone-back s (at + 3) end (d .room) held 0x4F 5 16 aid (one (omega arith) (omega arith)) (named .least) (named .most) (d .after) in
+      let a = lone-back s at end ordered held number 0x4F 5 16 aid (omega arith) (omega arith) refl (named .least) (named .most) (omega arith) q in
       let l = a .long in
       record {
         part = between (a .start) end;
-        read = rw (← d .found) (no! _ (filled-right (primitive first-level (a .head) (ended first-level held))) (ne! _ other (rw (← a .found) refl)));
+        read = rw (← a .opened) (no! _ (a .listed) (ne! _ other (rw (← a .found) refl)));
         bytes = window-part s (a .start) end (omega arith) ∙ a .value;
       }
 
@@ -62,15 +51,13 @@ module _ (s : List ℕ) (at end : ℕ) (ordered : at ≤ end) (held : end ≤ le
       → field.Found (request.Confirm number) ≡ storeDataAt s at end
   unfolding storeDataAt confirmationAt
   number-back number q =
-      let n = short-element 0x4E (encodeNumber number) (omega arith) (omega arith) in
-      let d = dgi-back s at end ordered held 0x3A08 (encodeElement 0x4E (encodeNumber number)) (omega arith) q in
-      let a = alone-back s (at + 3) end (d .room) held 0x4E 2 2 (encodeNumber number) (one (omega arith) (omega arith)) (omega arith) (omega arith) (d .after) in
+      let a = lone-back s at end ordered held 0x3A08 0x4E 2 2 (encodeNumber number) (omega arith) (omega arith) refl (omega arith) (omega arith) (omega arith) q in
       let l = a .long in
       let x = window-starts s (a .start) end (omega arith) held (number / 256) (number % 256 ∷ []) (a .value) in
       let y = window-starts s (a .start + 1) end (omega arith) held (number % 256) [] (x .after) in
       let f = x .first in let g = y .first in
       let e : number ≡ pairAt s (a .start) = omega arith in
-      rw (← d .found) (no! _ (filled-right (primitive first-level (a .head) (ended first-level held))) (eq! _ refl (rw (← a .found) (ap (λ (n : ℕ). field.Found (request.Confirm n)) e))))
+      rw (← a .opened) (no! _ (a .listed) (eq! _ refl (rw (← a .found) (ap (λ (n : ℕ). field.Found (request.Confirm n)) e))))
 
 pub store-data-back : StoreDataBack
 unfolding namedBy
@@ -109,8 +96,7 @@ module _ (s : List ℕ) (at end : ℕ) (w : Wanted) (b : Bytes s) where
         let e : aid ≡ window s start stop = window-part s start stop k in
         let named : Named aid = subst Named (sym e) (part-named s start stop k (omega arith) (x .least) (x .most)) in
         let bytes : window s at end ≡ encodeDgi number (encodeElement 0x4F aid) =
-        dgi-written s at end number contents b d
-        ∙ ap (encodeDgi number) (alone-written s contents end 0x4F 5 16 start stop b g ∙ ap (encodeElement 0x4F) (sym e)) in
+        lone-written s at end number contents 0x4F 5 16 start stop b d g ∙ ap (λ (l : List ℕ). encodeDgi number (encodeElement 0x4F l)) (sym e) in
         let by : (n : ℕ) → number ≡ n → window s at end ≡ encodeDgi n (encodeElement 0x4F aid) =
         λ n h. subst (λ (m : ℕ). window s at end ≡ encodeDgi m (encodeElement 0x4F aid)) h bytes in
         let lies : at ≤ end = omega arith in
@@ -135,8 +121,7 @@ module _ (s : List ℕ) (at end : ℕ) (w : Wanted) (b : Bytes s) where
         let c : window s start stop ≡ encodeNumber n =
         ap (window s start) {x = stop} {y = start + 1 + 1} (omega arith) ∙ window-two s start (omega arith) ∙ cc in
         let bytes : window s at end ≡ encodeDgi 0x3A08 (encodeElement 0x4E (encodeNumber n)) =
-        dgi-written s at end number contents b d
-        ∙ ap (encodeDgi number) (alone-written s contents end 0x4E 2 2 start stop b g ∙ ap (encodeElement 0x4E) c)
+        lone-written s at end number contents 0x4E 2 2 start stop b d g ∙ ap (λ (l : List ℕ). encodeDgi number (encodeElement 0x4E l)) c
         ∙ ap (λ (m : ℕ). encodeDgi m (encodeElement 0x4E (encodeNumber n))) h in
         same-value Encoded (storeData (confirmation n)) w record { ordered = omega arith; held = omega arith; value = confirmation n; meant = refl; encoded = (omega arith, bytes) }
 
@@ -156,4 +141,4 @@ store-data-filled s at end r =
     let P : Field → Type 0 = λ z. field.Found r ≡ z → Filled s 1 (at + 3) end in
     let none : P field.Wrong = λ q. let z : _≡_ {A = ℕ} 0 1 = cc in absurd (omega arith) in
     each-dgi P (dgiAt s at end) none λ number contents d. each P (listWrong s contents end) (λ _. none) λ e _.
-    subst (λ (k : ℕ). Filled s 1 k end) (dgi-parts s at end number contents d .place) (right-filled s contents end e)
+    dgi-filled s at end number contents d e

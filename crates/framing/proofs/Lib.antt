@@ -1,2 +1,5 @@
--- The laws of framing.
+-- The laws of framing, and of the rows of reading that every reader of commands has.
 pub mod Frames
+pub mod Rows
+pub mod Answers
+pub mod Framed

@@ -40,7 +40,7 @@ impl Update {
     }
 }
 
-const POLICY: u16 = 0x3A06;
+const POLICY_UPDATE: u16 = 0x3A06;
 
 const FIELD: usize = 5;
 
@@ -57,7 +57,7 @@ fn policy_at(s: &[u8], at: usize, end: usize) -> Policy
     if list_wrong(s, contents, end) {
         return Policy::Wrong;
     }
-    if dgi != POLICY {
+    if dgi != POLICY_UPDATE {
         return Policy::Wrong;
     }
     let Element::Found { start, stop: _ } = last_element(s, contents, end, 0x81, 1, 1) else {
