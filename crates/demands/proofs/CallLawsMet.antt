@@ -22,7 +22,7 @@ use Rattle.command.specs.Reading.{readOf}
 use Rattle.command.specs.Grammar.{readAs}
 use Rattle.operator.specs.Field.{policyAt, policyOf}
 use Rattle.operator.specs.Reading.{notStoreData, policyWrong, updateOf}
-use Rattle.operator.proofs.Grammar.{update-written}
+use Rattle.operator.proofs.UpdateGrammar.{update-written}
 use Rattle.steps.specs.Laws.Met.{aidEnding}
 use Rattle.demands.specs.CallLaws.{IsWritten, EveryCallMet}
 use Rattle.demands.proofs.HypothesesMet.{smallBytes, bytes-of, encodes}

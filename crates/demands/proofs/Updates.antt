@@ -21,7 +21,7 @@ use Rattle.operator.specs.declared.Policy.the-variants as policy
 use Rattle.operator.specs.declared.Update.{Update}
 use Rattle.operator.specs.declared.Update.the-variants as update
 use Rattle.operator.proofs.Answers.{passes-done, done-read, refused-word}
-use Rattle.operator.proofs.Grammar.{update-back, update-written}
+use Rattle.operator.proofs.UpdateGrammar.{update-back, update-written}
 use Rattle.steps.specs.Asked.{Act.setPolicy, Asked, Asked.on}
 use Rattle.steps.specs.Steps.{stepOf, responseOf, successOf, innerWork}
 use Rattle.manager.specs.Calls.{Call.Policy, asked}
