@@ -31,6 +31,12 @@ policy-given : (f : Policy) → isWrong f ≡ false → (p : ℕ) × (update.Rea
 policy-given policy.Wrong h = absurd (false≢true (sym h))
 policy-given (policy.Found p) h = (p, refl)
 
+policy-apart : (p : ℕ) (w : Status) → update.Read p ≡ update.Refused w → ⊥
+policy-apart p w q = let z : _≡_ {A = ℕ} 0 1 = cc in omega arith
+
+policy-worded : (v w : Status) → update.Refused v ≡ update.Refused w → v ≡ w
+policy-worded v w q = cc
+
 abbrev policies : answers.Reader
 policies =
     record {
@@ -44,8 +50,8 @@ policies =
       refused = λ w. update.Refused w;
       taken = policy-taken;
       given = policy-given;
-      apart = λ p w q. let z : _≡_ {A = ℕ} 0 1 = cc in omega arith;
-      worded = λ v w q. cc;
+      apart = policy-apart;
+      worded = policy-worded;
     }
 
 module _ (s : List ℕ) where
