@@ -16,7 +16,7 @@ use Rattle.framing.specs.Framing.{lengthWrong, classWrong, parametersWrong, sha
 use Rattle.operator.specs.Field.{policyOf, isWrong}
 use Rattle.operator.specs.Reading.{notStoreData, policyWrong, updateOf}
 use Rattle.operator.specs.Grammar.{EncodesUpdate}
-use Rattle.operator.specs.declared.Policy.{Policy}
+use Rattle.operator.specs.declared.Policy as operator
 use Rattle.operator.specs.declared.Policy.the-variants as policy
 use Rattle.operator.specs.declared.Update.{Update}
 use Rattle.operator.specs.declared.Update.the-variants as update
@@ -44,7 +44,7 @@ update-answered c speaker s room p h encoded =
     ap (λ (x : Status). settle c x (stepOf c (asked c call)) (responseOf c (asked c call))) word
     ∙ ap (λ (x : Asked). settle c (wordOf (successOf c x) (soundRow c ∷ rows)) (stepOf c x) (responseOf c x)) (asks-update c speaker s room h p q)
 
-right-field : (speaker : List ℕ) (p : Policy) → updateWrong speaker p ≡ false → isWrong p ≡ false
+right-field : (speaker : List ℕ) (p : operator.Policy) → updateWrong speaker p ≡ false → isWrong p ≡ false
 right-field speaker policy.Wrong e = absurd (false≢true (sym e))
 right-field speaker (policy.Found p) e = refl
 

@@ -17,7 +17,7 @@ use Rattle.framing.specs.Framing.{lengthWrong, classWrong, parametersWrong, sha
 use Rattle.framing.specs.Rows.{rowsBy}
 use Rattle.operator.specs.Field.{policyOf, isWrong}
 use Rattle.operator.specs.Reading.{notStoreData, policyWrong, updateOf}
-use Rattle.operator.specs.declared.Policy.{Policy}
+use Rattle.operator.specs.declared.Policy as operator
 use Rattle.operator.specs.declared.Policy.the-variants as policy
 use Rattle.operator.specs.declared.Update.the-variants as update
 use Rattle.operator.proofs.Answers.{refused-word, read-done, read-passes}
@@ -40,7 +40,7 @@ stops success false false false false true f g more h q = refl
 stops success false false false false false true g more h q = rw (h refl) refl
 stops success false false false false false false g more h q = absurd (false≢true (sym q))
 
-wrong-too : (speaker : List ℕ) (p : Policy) → isWrong p ≡ true → updateWrong speaker p ≡ true
+wrong-too : (speaker : List ℕ) (p : operator.Policy) → isWrong p ≡ true → updateWrong speaker p ≡ true
 wrong-too speaker policy.Wrong e = refl
 wrong-too speaker (policy.Found p) e = absurd (false≢true e)
 

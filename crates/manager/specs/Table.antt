@@ -2,7 +2,7 @@
 -- reader, `innerWork`'s row and `cardRows` of the steps are parts of it (statement `TableParts`).
 use Prim.Native.Nat.{ℕ}
 use mathlib.Core.List.{List, [], _∷_}
-use mathlib.Core.Bool.{Bool, false, not}
+use mathlib.Core.Bool.{Bool, true, false, not}
 use lib.Dec.{ltb}
 use Rattle.status.specs.Rows.{Row, row}
 use Rattle.status.specs.declared.Status.the-variants.{BufferShort, LengthWrong, ClassWrong, InstructionWrong, ParametersWrong, DataWrong, StateWrong, NotHeld, PolicyForbids, VerdictWrong, NoRoom}

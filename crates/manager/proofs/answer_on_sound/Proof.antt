@@ -1,7 +1,7 @@
 -- `manager::answer_on_sound`: each arm cites the promise of what it calls; what a part names is the call's value.
 use mathlib.Core.Path.{refl}
 use Rattle.status.specs.Rows.{wordOf}
-use Rattle.steps.specs.Asked.{Act.keyed, Act.stored, Act.finished, Act.setPolicy, Asked.tick, Asked.lost}
+use Rattle.steps.specs.Asked.{Act.keyed, Act.stored, Act.finished, Asked.tick, Asked.lost}
 use Rattle.steps.specs.Steps.{askedWork, innerWork}
 use Rattle.manager.specs.Manager.{onSound}
 use Rattle.manager.proofs.Buffers.{none-served}
@@ -52,6 +52,12 @@ returns-6 c =
     let s = start (o .before .before) in
     rw (o .enum-told2 .given .1) (none-served (s .args .card) (askedWork (s .args .card) lost) _ refl (rw (c .answer .ensures, c .before .lost .ensures)))
 
+returns-7 : tie.Need-returns-7
+returns-7 c =
+    let x = c .before .before .before .before in
+    let y = x .before in
+    rw (y .before .before .call5 .given .1, ← (y .part-of5 .ensures), ← (x .part-of6 .ensures)) (c .before .before .policy .ensures)
+
 pub answer-on-sound-spec : {M : Type 1} → statement M
 answer-on-sound-spec =
     tie.close
@@ -74,9 +80,15 @@ answer-on-sound-spec =
     (λ c κs. search needs)
     (λ c κs. search needs)
     (λ c. search needs)
+    (λ c κs. search needs)
+    (λ c κs. search needs)
+    (λ c κs. search needs)
+    (λ c. search needs)
     returns
     returns-2
     returns-3
     returns-4
     returns-5
-    returns-6)
+    returns-6
+    (λ c. search needs)
+    returns-7)
