@@ -2,12 +2,14 @@
 -- what is accepted passed the reader's rows, so it was written; what nobody writes stops at one of them. Then all of `Written`. Assumes nothing.
 use mathlib.Core.Path.{_≡_, refl, sym, ap, _∙_}
 use Prim.Native.Nat.{ℕ, _≤_}
-use mathlib.Core.List.{List}
+use mathlib.Core.List.{List, _∷_}
 use mathlib.Core.Bool.{true, false, cond, false≢true}
+use lib.Dec.{ltb}
 use borrow.Author.Tests.{le-ltb, ltb-false}
 use Rattle.status.specs.StatusWords.{isDone}
 use Rattle.status.specs.Rows.{wordOf}
 use Rattle.status.specs.declared.Status.{Status}
+use Rattle.status.specs.declared.Status.the-variants.{BufferShort}
 use Rattle.card.specs.Sound.{sound}
 use Rattle.card.specs.Answers.{soundRow, settle}
 use Rattle.card.specs.declared.Card.{Card}
@@ -34,13 +36,16 @@ use Rattle.demands.specs.Written.{ofReading}
 use Rattle.demands.proofs.Words.{word-is, done-as}
 use Rattle.demands.proofs.Written.{after-sound, past-sound, reading-word, written-answered, accepted-written, unwritten-refused, one-meaning}
 
+past-buffer : (room : ℕ) (w : Status) → leastBuffer ≤ room → cond (ltb room leastBuffer) BufferShort w ≡ w
+past-buffer room w h = rw (le-ltb room leastBuffer h) refl
+
 pub update-answered : statement.UpdateAnswered
 unfolding step
 update-answered c speaker s room p h encoded =
     let call = Policy speaker s room in
     let q = update-back s p encoded in
     let rows = innerWork c speaker (setPolicy p) .rows in
-    let word = after-sound c (work c call .success) (rowsAfter c call) rows (policy-read c (work c call .success) speaker s room p q ∙ rw (le-ltb room leastBuffer h) refl) in
+    let word = after-sound c (work c call .success) (rowsAfter c call) rows (policy-read c (work c call .success) speaker s room p q ∙ past-buffer room _ h) in
     ap (λ (x : Status). settle c x (stepOf c (asked c call)) (responseOf c (asked c call))) word
     ∙ ap (λ (x : Asked). settle c (wordOf (successOf c x) (soundRow c ∷ rows)) (stepOf c x) (responseOf c x)) (asks-update c speaker s room h p q)
 
@@ -72,7 +77,7 @@ module _ (c : Card) (speaker s : List ℕ) (room : ℕ) (b : Bytes s) (e : sound
   refused-case (update.Refused w) q =
       let call = Policy speaker s room in
       let r = refused-word s w q in
-      ap ofReading (word-is c call ∙ past-sound c (work c call .success) (rowsAfter c call) e ∙ policy-refused c (work c call .success) speaker s room w q ∙ rw (le-ltb room leastBuffer h) (r .0))
+      ap ofReading (word-is c call ∙ past-sound c (work c call .success) (rowsAfter c call) e ∙ policy-refused c (work c call .success) speaker s room w q ∙ past-buffer room w h ∙ r .0)
       ∙ reading-word (lengthWrong s) (classWrong s) (notStoreData s) (parametersWrong s) (shapeWrong s) (policyWrong s) (ap isDone (sym (r .0)) ∙ r .1)
 
 pub unwritten-update : statement.UnwrittenUpdate
