@@ -43,6 +43,11 @@ def store(dgi, body, p1="88", le="", cla="80"):
     return apdu(f"{cla}E2{p1}00", dgi + f"{len(body) // 2:02X}" + body, le)
 
 
+def update(policy, p1="88", le="", cla="80"):
+    """What a profile's own domain is sent to set its policy (000, Tables 67 and 69)."""
+    return store("3A06", tlv("81", f"{policy:02X}"), p1, le, cla)
+
+
 def delete(data, le=""):
     return apdu("80E40040", data, le)
 

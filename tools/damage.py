@@ -7,7 +7,7 @@ from stories import *
 WRAP = 1 << 32
 CROWDS = (63, 64, 65, 66, 200)
 # Each kind of event, and the one before and after them.
-KINDS = range(FINISHED_WITH_MARK + 2)
+KINDS = range(POLICY + 2)
 
 
 def odd(chance, value):
@@ -98,6 +98,17 @@ def remarked(chance, events):
         yield finished_event(one[start:], one[3], chance.choice((None, 0, 0, 1, 1, 2, 255))) if start else one
 
 
+def respoken(chance, events):
+    """The events with another length of the speaker in each policy update: it takes bytes from the command, leaves it some of its own, or runs past the event."""
+    for one in events:
+        if one[0] == POLICY and len(one) > 3 and chance.random() < 0.5:
+            room = len(one) - 4
+            length = room + 1 if chance.random() < 0.05 else chance.choice((one[3] + 1, one[3] - 1, 0, 5, room - 1, room))
+            yield one[:3] + bytes([length % 256]) + one[4:]
+        else:
+            yield one
+
+
 def crowd(chance, many):
     """So many AIDs enabled one after the other, the fresh one among them; each is gone before the next comes to its place."""
     names = set()
@@ -119,6 +130,8 @@ def crowd(chance, many):
             made += lost() + ticks(chance.randrange(10)) + confirms(changes) + deletes(parts[-1])
         if chance.random() < 0.1:
             made += keyed(who) + stored("") + command("80F240")
+        if chance.random() < 0.2:
+            made += updates(parts[-1], chance.choice((4, 5, 6))) + updates(who + "00", 0) + updates("", 0)
     return of(made)
 
 
@@ -148,6 +161,7 @@ def event_files(seed, script):
         yield "bits-flipped", bytes(flipped)
     yield "one-byte-more", whole + bytes(1)
     yield "remarked", event_file(inputs, b"".join(remarked(chance, events)))
+    yield "respoken", event_file(inputs, b"".join(respoken(chance, events)))
     yield from wrong_contents(chance, inputs, body)
     yield from wrong_inputs(chance, inputs, body)
     yield from wrong_events(chance, inputs, events)

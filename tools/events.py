@@ -2,9 +2,10 @@
 import re
 
 FRESH, EVENTS = 1, 2
-COMMAND, KEYED, STORED, FINISHED, TICK, LOST, FINISHED_WITH_MARK = range(1, 8)
+COMMAND, KEYED, STORED, FINISHED, TICK, LOST, FINISHED_WITH_MARK, POLICY = range(1, 9)
 FILE_MOST = 65_536
 LINE_MOST = 4_096
+SPEAKER_MOST = 255
 
 
 def number(value):
@@ -20,6 +21,10 @@ def finished_event(aid, policy, mark=None):
     if mark is None:
         return event(FINISHED, bytes([policy]) + aid)
     return event(FINISHED_WITH_MARK, bytes([policy, mark]) + aid)
+
+
+def policy_event(speaker, data):
+    return event(POLICY, bytes([len(speaker)]) + speaker + data)
 
 
 def fresh(eid, aid, capacity, quota, used, volatile):
@@ -75,6 +80,13 @@ def eid_bytes(word):
     return eid
 
 
+def speaker_bytes(word):
+    speaker = hex_bytes(word)
+    if len(speaker) > SPEAKER_MOST:
+        raise ValueError(f"a file's SPEAKER has at most {SPEAKER_MOST} bytes")
+    return speaker
+
+
 BYTE, LONG = bounded(0xFF), bounded(0xFFFF_FFFF)
 
 # For each first word what the words after it are, and what they make.
@@ -84,11 +96,14 @@ LINES = {
     b"keyed": ([hex_bytes], lambda aid: event(KEYED, aid)),
     b"stored": ([hex_bytes, LONG], lambda aid, n: event(STORED, number(n) + aid)),
     b"finished": ([hex_bytes, BYTE, BYTE], finished_event),
+    b"policy": ([speaker_bytes, hex_bytes], policy_event),
     b"tick": ([], lambda: event(TICK)),
     b"lost": ([], lambda: event(LOST)),
 }
 # How many of these words, the last ones, may be missing.
 OPTIONAL = {b"finished": 1}
+# The calls that a script may give a LENGTH.
+WITH_BUFFER = {b"command": "command", b"policy": "policy update"}
 
 
 def made_of(words, is_first):
@@ -104,8 +119,8 @@ def made_of(words, is_first):
     kinds, make = LINES[words[0]]
     if len(words) + OPTIONAL.get(words[0], 0) <= len(kinds):
         raise ValueError("words missing")
-    if words[0] == b"command" and len(words) == 4:
-        raise ValueError("a command of a file has no LENGTH")
+    if words[0] in WITH_BUFFER and len(words) == 4:
+        raise ValueError(f"a {WITH_BUFFER[words[0]]} of a file has no LENGTH")
     if len(words) > len(kinds) + 1:
         raise ValueError("too many words")
     return make(*[kind(word) for kind, word in zip(kinds, words[1:])])

@@ -66,7 +66,7 @@ END = SECOND + len(TWO)
 WRAP = 1 << 32
 FINE = {1: 2}
 # The first kind after those that there are.
-NEXT_KIND = FINISHED_WITH_MARK + 1
+NEXT_KIND = POLICY + 1
 FULL = (FILE_MOST - SECOND) // 3
 
 
@@ -483,6 +483,88 @@ reported("32-profiles-the-33rd-refused", of(places + makes(33, 20) + lists() + l
 sized_ones = [one for who in range(2, 33) for one in sized(who, 20)]
 in_turn = [one for who in range(2, 33) for one in enables(who) + ticks() + confirms(who - 1) + lists()]
 reported("32-profiles-enabled-in-turn", of(sized_ones + in_turn + lists_on() * 3), {1: 0, **dict.fromkeys(range(2, 33), 1)}, 251, no=1)
+
+# ---------------------------------------------------------------- the event of a policy update
+
+refused("policy-update-of-0-bytes", of(ticks() + [event(POLICY)] + ticks()), LENGTH)
+# The speaker runs past its event, by one byte and by many; what follows the event is not the speaker's.
+for what, data in {
+    "one-byte-past-no-speaker": b"\1",
+    "one-byte-past-a-speaker-of-5": b"\6" + aid(1),
+    "one-byte-past-the-command": bytes([17]) + aid(1) + bytes.fromhex(update(0)),
+    "255-of-254-bytes": b"\xFF" + bytes(254),
+    "255-of-none": b"\xFF",
+    "128-of-127-bytes": b"\x80" + bytes(127),
+}.items():
+    refused(f"policy-update-{what}", of(ticks() + [event(POLICY, data)] + ticks(2)), LENGTH)
+refused("policy-update-last-and-its-speaker-one-byte-past", of(ticks() + [event(POLICY, b"\6" + aid(1))]), LENGTH)
+reported("policy-update-last-and-its-speaker-fills-it", of(ticks(2) + speaks(1, "")), FINE, 3, no=1)
+refused("cut-short-within-a-speaker", of(ticks() + [policy_event(aid(1), b"")[:-1]]), CUT)
+refused("cut-short-before-the-length-of-a-speaker", of(ticks() + [policy_event(aid(1), b"")[:3]]), CUT)
+refused("cut-short-within-the-command-of-a-speaker", of(ticks() + [updates(1, 0)[0][:-1]]), CUT)
+PAST = [event(POLICY, b"\6" + aid(1))]
+refused("speaker-past-its-event-and-unknown-kind-late", of(PAST + ticks() + [event(NEXT_KIND, bytes(7))]), UNKNOWN)
+refused("speaker-past-its-event-and-cut-short-late", of(PAST + ticks() + [bytes([POLICY, 0])]), CUT)
+refused("speaker-past-its-event-and-unknown-kind-early", of([event(NEXT_KIND)] + ticks() + PAST), UNKNOWN)
+refused("inputs-bad-and-speaker-past-its-event", of(PAST, BAD), INPUTS)
+# A length byte of 0, and a command of none, one and 299 bytes.
+for size in (1, 2, 300):
+    reported(f"policy-update-event-of-{size}-bytes", of(ticks() + [event(POLICY, bytes(size))] + ticks()), FINE, 3, no=1)
+# The speaker fills its event, and the command is empty: 67 00, and so it is with a speaker of any length.
+for size in (0, 3, 5, 16, 17, 128, 255):
+    reported(f"policy-update-of-a-speaker-of-{size}-bytes-alone", of(ticks() + speaks("A0" * size, "") + ticks()), FINE, 3, no=1)
+    reported(f"policy-update-of-a-speaker-of-{size}-bytes", of(ticks() + speaks("A0" * size, update(0)) + ticks()), FINE, 3, no=1)
+for size in (1, 3, 4, 255, 261, 262, 60_000):
+    reported(f"policy-update-of-{size}-bytes", of(ticks() + speaks(1, "80" * size) + ticks()), FINE, 3, no=1)
+# A file to its last byte, of which the command of a speaker of 255 bytes takes the most.
+reported("65536-bytes-with-a-policy-update", of(ticks(2) + speaks("A0" * 255, "80" * (FILE_MOST - SECOND - 6 - 3 - 256))), FINE, 3, no=1)
+reported("policy-update-of-the-fresh-profile", of(ticks() + updates(1, 1) + ticks()), FINE, 3)
+
+# ---------------------------------------------------------------- operators set their own policy
+
+# 02 is enabled and confirmed; then its operator forbids its disabling, so that neither a disable nor an enable of 03 is taken, and all minutes stay its own.
+under_two = profile(2) + profile(3) + enables(2) + confirms(1) + ticks(2)
+left = enables(3) + ticks(3) + confirms(2) + ticks(4)
+reported("no-policy-update", of(under_two + left), {1: 0, 2: 2, 3: 7}, 21)
+for policy in (1, 3):
+    reported(f"policy-{policy}-set-by-its-operator-forbids-an-enable", of(under_two + updates(2, policy) + left), {1: 0, 2: 9}, 22, no=2)
+for policy in (0, 2, 4):
+    reported(f"policy-{policy}-set-by-its-operator-forbids-no-enable", of(under_two + updates(2, policy) + left), {1: 0, 2: 2, 3: 7}, 22)
+for policy in (5, 6, 7, 8, 129, 255):
+    reported(f"policy-{policy}-is-not-taken-of-an-operator", of(under_two + updates(2, policy) + left), {1: 0, 2: 2, 3: 7}, 22, no=1)
+off = disables(2) + ticks(3) + confirms(2) + ticks(4)
+reported("a-disable-refused-since-its-operator-forbade-it", of(under_two + updates(2, 1) + off), {1: 0, 2: 9}, 22, no=2)
+reported("a-disable-taken-since-its-operator-allowed-it-again", of(under_two + updates(2, 1) + disables(2) + updates(2, 0) + off), {1: 7, 2: 2}, 24, no=1)
+forbidden = profile(2, 1) + profile(3) + enables(2) + confirms(1) + ticks(2)
+reported("what-finished-forbade-its-operator-allows", of(forbidden + enables(3) + updates(2, 0) + left), {1: 0, 2: 2, 3: 7}, 23, no=1)
+# Speakers that are not served: 02 can be left, and so can 03 after it and 01 after that.
+each_left = left + disables(3) + confirms(3) + ticks() + enables(2) + ticks(2)
+for what, who in (("disabled", 3), ("the-fall-back-disabled", 1), ("not-held", 4), ("one-byte-longer", "A00000000200"), ("too-short", "A0000000"), ("none", "")):
+    reported(f"a-speaker-that-is-{what}-forbids-nothing", of(under_two + updates(who, 1) + each_left), {1: 1, 2: 4, 3: 7}, 28, no=1)
+# 02 speaks too early: SELECTABLE, PERSONALIZED and DISABLED. It keeps the policy that finished gave, and cannot be left.
+early = makes(2) + updates(2, 0) + keyed(2) + updates(2, 0) + stored(2) + updates(2, 0) + finished(2, 1) + updates(2, 0)
+reported("a-speaker-too-early-allows-nothing", of(early + enables(2) + confirms(1) + ticks(2) + enables(1) + ticks(3)), {1: 0, 2: 5}, 16, no=5)
+# While a change is open nothing is set: 03 could be left after its roll-back, and 02 after it too.
+trial = under_two + enables(3) + updates(3, 1) + updates(2, 1) + ticks(9) + updates(3, 1) + ticks() + updates(2, 1) + ticks(3) + confirms(3)
+reported("no-policy-is-set-while-a-change-is-open", of(trial + disables(2) + ticks(5)), {1: 5, 2: 5, 3: 10}, 37, no=4)
+fallen = under_two + lost() + updates(1, 1) + ticks(4) + confirms(2) + enables(3) + ticks(2)
+reported("no-policy-is-set-when-fallen", of(fallen), {1: 4, 2: 2, 3: 2}, 22, no=1)
+# 02 is deleted at the confirmation since its operator said so, and cannot be enabled again; with 00 set after it, it can.
+again = enables(3) + ticks(3) + confirms(2) + enables(2) + ticks(4)
+reported("deleted-once-disabled-by-its-operator", of(under_two + updates(2, 4) + again), {1: 0, 2: 2, 3: 7}, 23, no=1)
+reported("deleted-once-disabled-taken-back", of(under_two + updates(2, 4) + updates(2, 0) + again), {1: 0, 2: 6, 3: 3}, 24)
+kept = enables(3) + confirms(2) + deletes(2) + enables(2) + ticks(4)
+reported("deletion-forbidden-by-its-operator", of(under_two + updates(2, 2) + kept), {1: 0, 2: 6, 3: 0}, 21, no=1)
+reported("deletion-not-forbidden-by-its-operator", of(under_two + kept), {1: 0, 2: 2, 3: 4}, 20, no=1)
+# Roll-back and a lost network ask no policy, also one that was set.
+reported("a-lost-network-leaves-a-profile-that-forbids-it", of(under_two + updates(2, 3) + lost() + ticks(3)), {1: 3, 2: 2}, 17)
+# What the root domain knows is nothing to a profile's domain, and a policy update nothing to the root domain.
+foreign = speaks(2, store("3A03", four_f(aid(3).hex()))) + speaks(2, delete(four_f(aid(3).hex()))) + speaks(2, status("4F00")) + command(update(1))
+reported("commands-of-the-root-domain-in-a-policy-update", of(under_two + foreign + left), {1: 0, 2: 2, 3: 7}, 25, no=4)
+# Seventeen profiles: an update taken between under_two parts forgets the place, a refused one leaves it.
+parted = lists() + updates(1, 0) + lists_on() + lists() + updates(2, 0) + updates(1, 5) + lists_on() + ticks(2)
+reported("a-policy-update-between-under_two-parts", of(seventeen + parted), {1: 2}, 28, no=3)
+reported("a-month-of-policy-updates", of([one for policy in range(256) for one in updates(1, policy) + ticks()]), {1: 256}, 512, no=251)
 
 
 def main():

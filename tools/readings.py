@@ -187,6 +187,19 @@ r(store("3A05", four_f()), "set-fall-back " + B)
 for dgi in ("3A02", "3A06", "3A07", "3A09", "3A00", "3B03", "3903", "033A", "0070", "FFFF"):
     r(store(dgi, four_f()), NO)
 r("80E28800063A0603810102", NO)
+group("B81, ruling 6: a policy update is no command of the root domain, whatever its policy, its Le and its P1")
+for policy in (0, 1, 2, 3, 4, 5, 6, 255):
+    r(update(policy), NO)
+    r(update(policy, le="00"), NO)
+for p1 in ("88", "89", "8F"):
+    r(update(2, p1=p1), NO)
+for field in ("3A0600", "3A06028100", "3A060481020102", "3A0606810101810101", "3A0607" + four_f(), "3A06044E020001", "3A0603810102" + "00"):
+    r(apdu("80E28800", field), NO)
+r(apdu("80E62000", "0000" + length(B) + B + "000000", "00"), P12)
+r(update(2, p1="87"), P12)
+r(update(2, cla="90"), "6E00")
+r(update(2) + "01", SHAPE)
+group("DGI: its length and what stands beside it")
 for field in ("3A", "3A03", "3A0300", "3A0400", "3A0500", "3A0800"):
     r(apdu("80E28800", field), NO)
 r(apdu("80E28800", "3A0308" + four_f()), NO)

@@ -105,6 +105,17 @@ def profile(n, policy=0, quota=50, used=5, mark=None):
     finished(n, policy, mark=mark)
 
 
+def speaks(speaker, data, answer, buffer=None):
+    """What the domain of a profile was sent; the speaker is a number or any bytes."""
+    who = speaker if isinstance(speaker, str) else aid(speaker)
+    call(f"policy {who or '-'} {data or '-'}" + ("" if buffer is None else f" {buffer}"), answer)
+
+
+def updates(speaker, policy, answer=None):
+    """The operator of a profile sets its policy."""
+    speaks(speaker, update(policy), answer or done())
+
+
 def ticks(figures):
     """One tick for each figure; a figure with a notification is a pair."""
     for figure in figures:
@@ -180,6 +191,7 @@ def gone(n):
     stored(n, 0, no("6A88"))
     finished(n, 0, no("6A88"))
     command(status(four_f(aid(n))), no("6A88"))
+    updates(n, 0, no("6A88"))
 
 
 def card(answer, places=(), **more):
@@ -198,9 +210,9 @@ def not_held(mark):
 def explained(line, word, *rows, more=(), phase="quiet", kept=None, ticks=0):
     """A call in the explained form. A row has what the head names, `more` are the lines before the table."""
     head = ("place", "AID", "state", "quota", "used", "fall-back", "provisioning", "policy")
-    longest = max(len(row[1]) for row in rows)
+    longest = max((len(row[1]) for row in rows), default=0)
     columns = (">7", f"{longest}", "12", ">7", ">7", "9", "12", "")
-    shown = ["  ".join(map(format, cells, columns)) for cells in (head, *rows)]
+    shown = ["  ".join(map(format, cells, columns)) for cells in (head, *rows)] if rows else ["  no profile is held"]
     listing = [] if kept is None else [f"listing open: next row at place {kept}"]
     call(line, "\n".join([word, *more, *shown, f"phase {phase}", *listing, f"ticks to come {ticks}"]))
 
@@ -361,6 +373,8 @@ finished(1, 255, no("6F00"))
 finished(1, 0, no("6F00"), mark=2)
 command("80CAFF2100", no("6F00"))
 command("", no("6F00"), buffer=0)
+updates(1, 0, no("6F00"))
+speaks("", "", no("6F00"), buffer=0)
 
 name("a refused card line is the card from then on")
 card(no("6F00"), places=[])
@@ -1958,6 +1972,8 @@ def nothing_runs():
     command("", no("6F00"), buffer=0)
     command("80CAFF2101", no("6F00"))
     call("keyed -", no("6F00"))
+    updates(1, 0, no("6F00"))
+    speaks(2, "", no("6F00"), buffer=0)
     for report in ("lost", "tick"):
         call(report, no("6F00"))
 
@@ -2808,8 +2824,9 @@ STATES = {2: S, 3: P}
 
 def amid(states=STATES, **more):
     """Eighteen profiles, of which fifteen rows are given: 02 is SELECTABLE, 03 PERSONALIZED, the others after 01 DISABLED."""
+    ticks = more.pop("ticks", 0)
     held = crowd([5] * 18, states=states, **more)
-    listed(held, 0, 14, 240)
+    listed(held, 0, 14, 240, ticks=ticks)
     return held
 
 
@@ -3106,6 +3123,616 @@ for first, last, size in ((0, 10, 237), (11, 21, 232), (22, 31, 215)):
     command(next_rows(four_f(held[last][0])), no("6A80"))
     command(status(four_f(aid(99))), no("6A88"))
 goes_on_nowhere()
+
+# ---------------------------------------------------------------- request 2026-06: operators set their own policy
+
+RIGHT = update(0)
+LEGAL = range(5)
+
+
+def five(policy=0, two=E, fall_back=0, one=D, **more):
+    """01 is the fall-back and DISABLED, 02 ENABLED with this policy, 03 DISABLED, 04 SELECTABLE, 05 PERSONALIZED; 06 is not held."""
+    places = [place(1, one), place(2, two, policy=policy), place(3, D), place(4, S), place(5, P)]
+    card(more.pop("answer", done()), places, fall_back=fall_back, **more)
+
+
+def forbids_disabling(yes):
+    """Whether 02 may be left, asked by what a refusal shows and by a change that is opened and not confirmed."""
+    if yes:
+        disables(2, no("69E1"))
+        enables(3, no("69E1"))
+        enables(1, no("69E1"))
+    else:
+        disables(2, done(30, notification=note(2, 1, 1)))
+
+
+name("B80: a policy update after a refused fresh and on records that are not sound: 6F 00, before 6F 02 and all others")
+call("fresh - A000000001 1000 100 0 0", no("6A80"))
+updates(1, 0, no("6F00"))
+updates(1, 5, no("6F00"))
+speaks("", "", no("6F00"), buffer=0)
+for free in (749, 751):
+    five(free=free, answer=no("6F00"))
+    updates(2, 0, no("6F00"))
+    speaks(2, RIGHT, no("6F00"), buffer=255)
+    speaks(2, "80E2", no("6F00"))
+    speaks("A0", "80E4004007" + four_f(), no("6F00"))
+card(no("6F00"), [place(1, E, policy=5), place(2, D)])
+updates(1, 0, no("6F00"))
+enables(2, no("6F00"))
+
+name("B82: each policy 00 to FF on the enabled profile: 00 to 04 are taken, 05, 06 and all others are 6A 80")
+five()
+for policy in range(256):
+    updates(2, policy, done() if policy in LEGAL else no("6A80"))
+
+name("B82: a wrong policy leaves the one that was: 02 still forbids its disabling")
+five()
+updates(2, 1)
+for policy in (5, 6, 7, 8, 9, 0x10, 0x20, 0x40, 0x80, 0x84, 0xFC, 0xFF):
+    updates(2, policy, no("6A80"))
+    disables(2, no("69E1"))
+updates(2, 0)
+forbids_disabling(False)
+
+name("B84: from each policy to each other one and to itself: what the new one forbids, and that the old one is not asked")
+for old in LEGAL:
+    for new in LEGAL:
+        five(old)
+        updates(2, new)
+        if new in (1, 3):
+            forbids_disabling(True)
+            deletes(2, no("6985"))
+        else:
+            disables(2, done(30, notification=note(2, 1, 1)))
+            confirms(1, done(response=f"80074F05{aid(2)}") if new == 4 else done())
+            deletes(2, {0: done(response="00"), 2: no("69E1"), 4: no("6A88")}[new])
+
+name("B84: 02 on the enabled profile: after the switch its delete is 69 E1, master delete takes it")
+fresh()
+profile(2)
+enables(2, done(20, notification=note(2, 1, 2)))
+confirms(1)
+updates(2, 2)
+deletes(2, no("6985"))
+enables(1, done(30, notification=note(2, 2, 1)))
+deletes(2, no("6985", 30))
+confirms(2)
+deletes(2, no("69E1"))
+updates(2, 0, no("6985"))
+deletes(2, no("69E1"))
+master(2, no("6982"), 0)
+master(2)
+table((1, E, True))
+
+name("B84: 01: its disable and an enable of another are 69 E1; 00 again, and they are taken")
+fresh()
+profile(2)
+profile(3)
+enables(2, done(20, notification=note(2, 1, 2)))
+confirms(1)
+updates(2, 1)
+disables(2, no("69E1"))
+enables(3, no("69E1"))
+enables(1, no("69E1"))
+table((1, D, True), (2, E), (3, D))
+updates(2, 1)
+disables(2, no("69E1"))
+updates(2, 0)
+enables(3, done(30, notification=note(2, 2, 3)))
+confirms(2)
+enables(2, done(30, notification=note(2, 3, 2)))
+confirms(3)
+disables(2, done(30, notification=note(2, 4, 1)))
+
+name("B84: 04 on the enabled profile: another one is enabled and confirmed, and it is deleted; created again it has no policy")
+fresh()
+profile(2)
+profile(3, 3)
+enables(2, done(20, notification=note(2, 1, 2)))
+confirms(1)
+updates(2, 4)
+table((1, D, True), (2, E), (3, D))
+figures(3, 800)
+enables(3, done(30, notification=note(2, 2, 3)))
+table((1, D, True), (2, D), (3, E), ticks=30)
+confirms(2, done(response=f"80074F05{aid(2)}"))
+table((1, D, True), (3, E))
+figures(2, 850)
+updates(2, 0, no("6A88"))
+updates(3, 0)
+profile(2)
+enables(2, done(30, notification=note(2, 3, 2)))
+confirms(3)
+enables(3, done(30, notification=note(2, 4, 3)))
+confirms(4)
+table((1, D, True), (2, D), (3, E))
+deletes(2)
+
+name("B84: 03 and 04 in turn, and what finished gave is gone: the last one counts")
+fresh()
+profile(2, 3)
+enables(2, done(20, notification=note(2, 1, 2)))
+confirms(1)
+disables(2, no("69E1"))
+updates(2, 4)
+updates(2, 3)
+disables(2, no("69E1"))
+updates(2, 4)
+disables(2, done(30, notification=note(2, 2, 1)))
+confirms(2, done(response=f"80074F05{aid(2)}"))
+profile(2, 4)
+enables(2, done(20, notification=note(2, 3, 2)))
+confirms(3)
+updates(2, 0)
+disables(2, done(30, notification=note(2, 4, 1)))
+confirms(4)
+table((1, E, True), (2, D))
+
+name("B84: deletion forbidden by finished is allowed by its operator")
+fresh()
+profile(2, 2)
+deletes(2, no("69E1"))
+updates(2, 0, no("6985"))
+deletes(2, no("69E1"))
+enables(2, done(20, notification=note(2, 1, 2)))
+confirms(1)
+updates(2, 0)
+enables(1, done(30, notification=note(2, 2, 1)))
+confirms(2)
+deletes(2)
+
+name("B84: on the enabled fall-back; a fresh profile's too. 04 does not delete a fall-back; 01 holds until it is taken back")
+fresh()
+updates(1, 1)
+profile(2)
+enables(2, no("69E1"))
+disables(1, no("6985"))
+updates(1, 4)
+enables(2, done(20, notification=note(2, 1, 2)))
+confirms(1)
+table((1, D, True), (2, E))
+sets(2)
+enables(1, done(20, notification=note(2, 2, 1)))
+confirms(2)
+enables(2, done(30, notification=note(2, 3, 2)))
+confirms(3, done(response=f"80074F05{aid(1)}"))
+table((2, E, True))
+updates(2, 3)
+fresh()
+profile(2)
+enables(2, done(20, notification=note(2, 1, 2)))
+
+name("B84: roll-back and a lost network ask no policy; the updated profile comes back with its own")
+fresh()
+profile(2)
+profile(3)
+enables(2, done(20, notification=note(2, 1, 2)))
+confirms(1)
+updates(2, 4)
+enables(3, done(30, notification=note(2, 2, 3)))
+ticks([*count(29, 21), (20, note(3, 3, 2)), *count(19, 11), (10, note(5, 4, 1)), *count(9, 0)])
+table((1, E, True), (2, D), (3, D))
+enables(2, done(20, notification=note(2, 5, 2)))
+confirms(5)
+updates(2, 3)
+enables(3, no("69E1"))
+call("lost", done(10, notification=note(5, 6, 1)))
+confirms(6)
+deletes(2, no("69E1"))
+enables(2, done(20, notification=note(2, 7, 2)))
+confirms(7)
+disables(2, no("69E1"))
+
+name("B84: only the speaker's policy is set: the others forbid what they forbade")
+card(done(), [place(1, D), place(2, D, policy=2), place(3, E), place(4, D, policy=1), place(5, D, policy=4)], last=9)
+updates(3, 2)
+deletes(2, no("69E1"))
+deletes(4)
+updates(3, 4)
+deletes(2, no("69E1"))
+enables(5, done(30, notification=note(2, 10, 5)))
+confirms(10, done(response=f"80074F05{aid(3)}"))
+enables(2, done(30, notification=note(2, 11, 2)))
+confirms(11, done(response=f"80074F05{aid(5)}"))
+updates(2, 1)
+enables(1, no("69E1"))
+
+name("B81: each CLA: 80 to 8F, C0 to CF and E0 to EF are taken, all others are 6E 00")
+five()
+for cla in range(256):
+    speaks(2, update(0, cla=f"{cla:02X}"), done() if cla >> 4 in (0x8, 0xC, 0xE) else no("6E00"))
+
+name("B81: each INS but E2 is 6D 00, with the data of an update and as the root domain would take it")
+for ins in range(256):
+    if ins != 0xE2:
+        speaks(2, f"80{ins:02X}8800063A0603810100", no("6D00"))
+for data in (
+    create(), create(le="00"), apdu("80E62000", "0000" + length(B) + B + "000000", "00"), delete(four_f()), delete(four_f(), le="00"),
+    delete(four_f() + b6() + TOKEN), status("4F00"), status("4F00", le="00"), status(four_f()), next_rows(), GET_DATA, "80CAFF21", "80CABF3000",
+    "80E40040", "80F24002", "80E60C00", "80A40400", "80E28800063A0603810100".replace("E2", "DA"),
+):
+    speaks(2, data, no("6D00"))
+
+name("B81: each P1: 88 to 8F are taken, all others 6A 86; so is each P2 but 00")
+for p1 in range(256):
+    speaks(2, update(0, p1=f"{p1:02X}"), done() if 0x88 <= p1 <= 0x8F else no("6A86"))
+for p2 in ("01", "02", "03", "06", "40", "7F", "80", "88", "FF"):
+    speaks(2, RIGHT.replace("80E28800", f"80E288{p2}"), no("6A86"))
+    speaks(2, RIGHT.replace("80E28800", f"80E28F{p2}", 1), no("6A86"))
+
+name("B81: Lc 1 to 255, Lc bytes, then nothing or Le 00; every other length is 67 00")
+for cut in range(len(RIGHT) // 2):
+    speaks(2, RIGHT[: 2 * cut], no("6700"))
+speaks(2, RIGHT, done())
+speaks(2, RIGHT + "00", done())
+for le in ("01", "06", "80", "FF", "0000", "000000", "00" * 5):
+    speaks(2, RIGHT + le, no("6700"))
+for lc in ("00", "01", "04", "07", "08", "81", "FF"):
+    speaks(2, "80E28800" + lc + "3A0603810101", no("6700"))
+speaks(2, "80E28800053A0603810101", no("6700"))
+for data in ("80E2880000", "80E288000000", "80E28800000006" + "3A0603810100", "80E2880081063A0603810100", "80E288003A0603810100"):
+    speaks(2, data, no("6700"))
+
+name("B81: a policy 00 after an Lc that is one short is Le, and what is left is no data field (ruling 17)")
+speaks(2, "80E28800053A0603810100", no("6A80"))
+speaks(2, "80E28800053A060281010000", no("6700"))
+speaks(2, "80E28800053A0602810100", no("6A80"))
+
+name("B81: under 4 and over 261 bytes: 67 00, whatever stands in them; 260 and 261 are read")
+for data in ("", "00", "80", "FF", "80E2", "90E3", "80E288", "00E387"):
+    speaks(2, data, no("6700"))
+speaks(2, apdu("80E28800", "3A" * 255), no("6A80"))
+speaks(2, apdu("80E28800", "3A06FC" + "81" * 252), no("6A80"))
+speaks(2, apdu("80E28800", "3A06FC" + "810100" * 84, "00"), no("6A80"))
+speaks(2, apdu("80E28800", "3A06FC81F9" + "00" * 250), no("6A80"))
+for data in ("80E28800FF" + "00" * 257, "80E28800FF" + "3A" * 257, "00" * 262, "80" * 262, "90E3" * 131, RIGHT + "00" * 251, "80" * 300, "00" * 1000):
+    speaks(2, data, no("6700"))
+speaks(2, RIGHT + "00" * 250, no("6700"))
+
+name("B83: 6F 02 for a buffer under 256 bytes, right updates too, and before 67 00 and all that comes after; 256 and more are taken")
+five()
+for buffer in (0, 1, 10, 254, 255):
+    speaks(2, update(1), no("6F02"), buffer=buffer)
+    speaks(2, "", no("6F02"), buffer=buffer)
+for data in ("80E2", "00" * 262, "00E28800", delete(four_f()), "80E28700", "80E28800", update(5)):
+    speaks(2, data, no("6F02"), buffer=255)
+for who in ("", "A0", 6, 3, 4):
+    speaks(who, RIGHT, no("6F02"), buffer=255)
+forbids_disabling(False)
+five()
+for buffer in (256, 257, 300, 1024):
+    speaks(2, update(1), done(), buffer=buffer)
+forbids_disabling(True)
+five(last=9, phase="T:0:5:9", answer=done(15))
+speaks(2, update(1), no("6F02", 15), buffer=255)
+speaks(2, update(1), no("6985", 15), buffer=256)
+
+name("B83: each two neighbouring rows that one call meets: the first of the table is told")
+five()
+# 67 00 before 6E 00, 6E 00 before 6D 00, 6D 00 before 6A 86, 6A 86 before 67 00.
+for short in ("00E2", "90E3", "00E388", "10E287"):
+    speaks(2, short, no("6700"))
+for data in ("00E30000", "90E38800063A0603810100", "7FE4004007" + four_f(), "F0CAFF2100", "00E28700"):
+    speaks(2, data, no("6E00"))
+for data in ("80E30000", "80E38700063A0603810100", "80E68700063A0603810100", "80E48801", "80CA0000"):
+    speaks(2, data, no("6D00"))
+for data in ("80E28700", "80E29000", "80E28801", "80E28700FF", "80E287000A3A0603810100", "80E2880106" + "3A06038101000000"):
+    speaks(2, data, no("6A86"))
+# 67 00 before 6A 80: in the data field, in the policy and in the speaker.
+for who, data in (
+    (2, "80E28800063A06038101" + "0001"), (2, "80E28800073A0703810100"), (2, update(5) + "01"), (2, "80E28800053A0703810101"),
+    ("A0000000", RIGHT + "01"), ("", "80E28800"), ("", ""), ("A0" * 17, "80E2880000"),
+):
+    speaks(who, data, no("6700"))
+# What is wrong in the header comes before a wrong speaker too.
+for who in ("", "A0000000", "A0" * 17):
+    speaks(who, "00E28800063A0603810100", no("6E00"))
+    speaks(who, delete(four_f()), no("6D00"))
+    speaks(who, "80E28700063A0603810100", no("6A86"))
+# 6A 80 before 6A 88 and before a wrong state.
+for who in (6, 3, 4, 5, 1):
+    updates(who, 5, no("6A80"))
+    updates(who, 6, no("6A80"))
+    speaks(who, store("3A03", four_f()), no("6A80"))
+    speaks(who, store("3A06", "8100"), no("6A80"))
+forbids_disabling(False)
+
+name("B82: each DGI of the root domain is 6A 80 here, with its own data and with a policy; and every other one")
+five()
+for dgi in ("3A03", "3A04", "3A05", "3A07", "3A08"):
+    for body in (four_f(aid(2)), four_f(aid(3)), "4E020000", "4E020001", tlv("81", "00")):
+        speaks(2, store(dgi, body), no("6A80"))
+for dgi in ("3A00", "3A01", "3A02", "3A09", "3A0A", "3A16", "3A26", "3A46", "3A86", "3AFF", "3B06", "3806", "3206", "BA06", "1A06", "063A", "0006", "FF06", "0070"):
+    speaks(2, store(dgi, "810101"), no("6A80"))
+table((1, D, True), (2, E), (3, D), (4, S), (5, P))
+forbids_disabling(False)
+
+name("B82: a DGI's length and what it holds: exactly one 81 of one byte")
+five()
+for field in (
+    # The DGI does not fill the field, or runs past it; a second one; a length in two bytes.
+    "3A", "3A06", "3A0600", "3A0602810101", "3A0604810101", "3A0603810101" + "00", "3A0603810101" + "3A0603810101", "3A0603810101" + "3A08044E020001",
+    "3A068103810101", "3A06FF810101", "3A060003810101", "00" + "3A0603810101", "3A0603" + "8101",
+    # 81 of no, of two and of more bytes; its length in two bytes; none.
+    "3A06028100", "3A0604" + "81020101", "3A0605" + "8103010101", "3A0604" + "81810101", "3A0605" + "8182000101", "3A0603" + "818001", "3A0603" + "81FF01",
+    # A second 81, another element before or after it, a stray byte.
+    "3A0606" + "810101810101", "3A0606" + "810100810101", "3A0606" + "810101820101", "3A0606" + "820101810101", "3A0605" + "8101018100", "3A060A" + "810101" + four_f(aid(2)),
+    "3A060A" + four_f(aid(2)) + "810101", "3A0604" + "81010100", "3A0604" + "81010181", "3A0604" + "00810101", "3A0605" + "8101010000",
+    # Another tag, one in two bytes, a list that holds it.
+    "3A0603" + "800101", "3A0603" + "820101", "3A0603" + "830101", "3A0603" + "010101", "3A0603" + "4E0101", "3A0603" + "C10101", "3A0603" + "530101", "3A0604" + "9F810101",
+    "3A0604" + "9F700101", "3A0604" + "1F010101", "3A0605" + "A103810101", "3A0605" + "E103810101", "3A0605" + "8103810101",
+    "3A0601" + "01", "3A0601" + "81", "3A0602" + "8101",
+):
+    speaks(2, apdu("80E28800", field), no("6A80"))
+    speaks(2, apdu("80E28800", field, "00"), no("6A80"))
+for tag in range(256):
+    if tag != 0x81:
+        speaks(2, store("3A06", f"{tag:02X}0101"), no("6A80"))
+forbids_disabling(False)
+
+name("B81, ruling 6: 3A06 at the root domain stays 6A 80, whatever it holds, in each phase")
+five()
+for policy in (*LEGAL, 5, 6, 255):
+    for le in ("", "00"):
+        command(update(policy, le=le), no("6A80"))
+for field in ("3A0600", "3A06028100", "3A0606810101810101", "3A0607" + four_f(aid(2)), "3A06044E020001"):
+    command(apdu("80E28800", field), no("6A80"))
+command(update(1), no("6F02"), buffer=255)
+forbids_disabling(False)
+command(update(0), no("6A80", 30))
+command(apdu("80E62000", "0000" + length(B) + B + "000000", "00"), no("6A86", 30))
+
+name("B83, ruling 41: speakers of 5 to 16 bytes; none, 4, 17 and more are 6A 80, in the row of the data field")
+five()
+for size in (0, 1, 4, 17, 18, 32, 255, 256, 1000):
+    updates("A0" * size, 0, no("6A80"))
+    updates("A0" * size, 5, no("6A80"))
+    updates("00" * size, 0, no("6A80"))
+for n in (1, 2, 3):
+    updates(aid(n)[:8], 0, no("6A80"))
+    updates(aid(n) + "00" * 12, 0, no("6A80"))
+    # 261 bytes: in one byte their number would be 5.
+    updates(aid(n) + "00" * 256, 1, no("6A80"))
+for size in range(5, 17):
+    updates("A0" * size, 0, no("6A88"))
+    updates("00" * size, 0, no("6A88"))
+for size in range(5, 17):
+    who = (aid(2) + "EE" * 11)[: 2 * size]
+    card(done(), [place(1, D), place(who, E)])
+    updates(who, 1)
+    command(store("3A04", four_f(who)), no("69E1"))
+    updates(who[:-2], 0, no("6A80") if size == 5 else no("6A88"))
+    updates(who + "EE", 0, no("6A80") if size == 16 else no("6A88"))
+    command(store("3A04", four_f(who)), no("69E1"))
+
+name("B83: a speaker that is not held is 6A 88; DISABLED, SELECTABLE and PERSONALIZED ones are 69 85")
+five()
+for policy in LEGAL:
+    for who, word in ((1, "6985"), (3, "6985"), (4, "6985"), (5, "6985"), (6, "6A88"), (0, "6A88"), (255, "6A88")):
+        updates(who, policy, no(word))
+forbids_disabling(False)
+fresh()
+updates(2, 0, no("6A88"))
+makes(2)
+updates(2, 0, no("6985"))
+keyed(2)
+updates(2, 1, no("6985"))
+stored(2, 5)
+updates(2, 2, no("6985"))
+finished(2, 1)
+updates(2, 0, no("6985"))
+enables(2, done(20, notification=note(2, 1, 2)))
+updates(2, 0, no("6985", 20))
+confirms(1)
+updates(1, 0, no("6985"))
+disables(2, no("69E1"))
+updates(2, 0)
+disables(2, done(30, notification=note(2, 2, 1)))
+updates(2, 0, no("6985", 30))
+updates(1, 0, no("6985", 30))
+confirms(2)
+updates(2, 0, no("6985"))
+updates(1, 0)
+deletes(2)
+updates(2, 0, no("6A88"))
+
+name("B83: in Trial, Back and Fallen: 69 85, before 6A 88 and whatever the speaker's state; after 6A 80 and the rows before it")
+for phase, one, two, left in (("T:0:7:9", D, E, 17), ("T:2:1:9", D, E, 21), ("B:7:9", D, E, 17), ("B:1:9", E, D, 1), ("F:10:9", E, D, 10), ("F:1:9", E, D, 1)):
+    five(two=two, one=one, last=9, phase=phase, answer=done(left))
+    for who in (1, 2, 3, 4, 5, 6, 255):
+        for policy in (0, 1, 4):
+            updates(who, policy, no("6985", left))
+        updates(who, 5, no("6A80", left))
+        speaks(who, store("3A08", "4E020009"), no("6A80", left))
+        speaks(who, delete(four_f()), no("6D00", left))
+        speaks(who, "80E28700", no("6A86", left))
+        speaks(who, RIGHT, no("6F02", left), buffer=0)
+    for who in ("", "A0000000", "A0" * 17):
+        updates(who, 0, no("6A80", left))
+    table((1, one, True), (2, two), (3, D), (4, S), (5, P), ticks=left)
+    confirms(9)
+    updates(2 if two == E else 1, 1)
+    enables(3, no("69E1"))
+
+name("B86: an update is no way to hold a change up or to move it along")
+fresh()
+profile(2)
+profile(3)
+enables(2, done(20, notification=note(2, 1, 2)))
+for left in count(19, 11):
+    updates(2, 1, no("6985", left + 1))
+    updates(1, 4, no("6985", left + 1))
+    call("tick", done(left))
+updates(2, 1, no("6985", 11))
+call("tick", done(10, notification=note(3, 2, 1)))
+updates(1, 1, no("6985", 10))
+ticks(count(9, 1))
+updates(1, 1, no("6985", 1))
+call("tick", done(0))
+updates(1, 1)
+enables(2, no("69E1"))
+updates(1, 0)
+enables(2, done(20, notification=note(2, 3, 2)))
+
+name("B80: no notification, no response, no ticks: the next number is the one after the last change's")
+five(last=65534)
+for policy in (1, 2, 3, 4, 0):
+    updates(2, policy)
+disables(2, done(30, notification=note(2, 65535, 1)))
+confirms(65535)
+for policy in (4, 0):
+    updates(1, policy)
+enables(2, done(20, notification=note(2, 0, 2)))
+
+name("B84: GET STATUS and GET DATA show nothing of it; free, used bytes, mark and fall-back are as they were")
+fresh(used=7)
+loaded(2, used=49)
+finished(2, 0, mark=0)
+before = [(1, E, True), (2, D)]
+for policy in (1, 2, 3, 4, 0):
+    updates(1, policy)
+    table(*before)
+    figures(2, 850)
+    command(status(four_f(aid(1)) + "5C00"), done(response="E3074F05" + aid(1)))
+sets(2, no("6985"))
+enables(2, done(20, notification=note(2, 1, 2)))
+confirms(1)
+updates(2, 2)
+sets(2, no("6985"))
+table((1, D, True), (2, E))
+figures(2, 850)
+
+name("B84, ruling 35: speakers are told apart by length and bytes: two AIDs that differ in their length alone")
+ONE_MORE, TWO_MORE = "A00000000100", "A0000000010000"
+for enabled, other in ((F, ONE_MORE), (ONE_MORE, F), (TWO_MORE, ONE_MORE)):
+    for first, second in ((enabled, other), (other, enabled)):
+        states = {enabled: E, other: D}
+        card(done(), [place(9, D), place(first, states[first]), place(second, states[second])])
+        updates(other, 1, no("6985"))
+        command(store("3A03", four_f(other)), done(30, notification=f"02:0001:{other}"))
+        confirms(1)
+        updates(enabled, 1, no("6985", 0))
+        updates(other, 1)
+        command(store("3A03", four_f(enabled)), no("69E1"))
+        command(store("3A04", four_f(other)), no("69E1"))
+        updates(enabled, 0, no("6985"))
+        updates(({F, ONE_MORE, TWO_MORE} - {enabled, other}).pop(), 0, no("6A88"))
+        command(store("3A04", four_f(other)), no("69E1"))
+        updates(other, 4)
+        command(store("3A03", four_f(enabled)), done(30, notification=f"02:0002:{enabled}"))
+        confirms(2, done(response=tlv("80", four_f(other))))
+        command(delete(four_f(other)), no("6A88"))
+        command(delete(four_f(enabled)), no("6985"))
+
+name("B84: AIDs that differ in one byte, the first or the last; a speaker of zeros is no place that is not held")
+LAST_BYTE = [AID16[:-2] + end for end in ("00", "01", "80")]
+card(done(), [place(1, D), *[place(who, E if who == AID16 else D) for who in LAST_BYTE], place("21" + aid(1)[2:], D)])
+for who in (*LAST_BYTE[1:], "21" + aid(1)[2:], aid(1)):
+    updates(who, 1, no("6985"))
+for who in ("20" + AID16[2:], AID16[:-2] + "40", "0000000000", "00" * 16):
+    updates(who, 1, no("6A88"))
+updates(AID16, 1)
+enables(1, no("69E1"))
+updates(AID16, 2)
+for who in LAST_BYTE[1:]:
+    command(delete(four_f(who)), done(response="00"))
+
+name("B84: the speaker in the first place, in the last and in each between them, of a full card")
+for at in (0, 1, 15, 30, 31):
+    states = [E if n == at else D for n in range(32)]
+    card(done(), [place(n + 1, state, quota=20) for n, state in enumerate(states)], fall_back=16)
+    updates((at + 1) % 32 + 1, 1, no("6985"))
+    updates(at + 1, 1)
+    disables(at + 1, no("69E1"))
+    updates(at + 1, 4)
+    disables(at + 1, done(30, notification=note(2, 1, 17)))
+    confirms(1, done(response=f"80074F05{aid(at + 1)}"))
+    makes(33, quota=1)
+
+name("B84: thirty-two AIDs of sixteen bytes that differ in the last one: the enabled one alone is served")
+sixteens = [AID16[:-2] + f"{n:02X}" for n in range(32)]
+for at in (0, 17, 31):
+    card(done(), [place(who, E if n == at else D, quota=20) for n, who in enumerate(sixteens)], fall_back=5)
+    for n, who in enumerate(sixteens):
+        if n != at:
+            updates(who, 1, no("6985"))
+    updates(AID16[:-2] + "20", 1, no("6A88"))
+    updates(AID16[:-2], 1, no("6A88"))
+    updates(sixteens[at], 1)
+    command(store("3A03", four_f(sixteens[6])), no("69E1"))
+    updates(sixteens[at], 4)
+    command(store("3A03", four_f(sixteens[6])), done(30, notification=f"02:0001:{sixteens[6]}"))
+    confirms(1, done(response=tlv("80", four_f(sixteens[at]))))
+
+name("B75, B84: an accepted update between two parts forgets the kept place, the same policy again too; every refused one keeps it")
+for policy in LEGAL:
+    forgotten(updates, 1, policy)
+forgotten(speaks, 1, RIGHT + "00", done(), buffer=1024)
+for who, data, word, buffer in (
+    (1, RIGHT, "6F02", 255), (1, "", "6700", None), (1, "00" * 262, "6700", None), (1, "00" + RIGHT[2:], "6E00", None), (1, delete(four_f()), "6D00", None),
+    (1, status("4F00"), "6D00", None), (1, GET_DATA, "6D00", None), (1, "80E28700", "6A86", None), (1, "80E28800", "6700", None), (1, RIGHT + "01", "6700", None),
+    (1, update(5), "6A80", None), (1, update(6), "6A80", None), (1, store("3A03", four_f(aid(4))), "6A80", None), ("A0000000", RIGHT, "6A80", None),
+    ("", RIGHT, "6A80", None), (99, RIGHT, "6A88", None), (2, RIGHT, "6985", None), (3, RIGHT, "6985", None), (4, RIGHT, "6985", None), (18, RIGHT, "6985", None),
+):
+    held = amid()
+    speaks(who, data, no(word), buffer)
+    listed(held, 15, 17, 48, left=False)
+held = amid()
+command(update(0), no("6A80"))
+listed(held, 15, 17, 48, left=False)
+
+name("B75: a refused update in an open change keeps the place; after the close an accepted one forgets it")
+held = amid(fall_back=0, states={1: D, 2: E}, last=9, phase="T:0:5:9", answer=done(15), ticks=15)
+updates(2, 1, no("6985", 15))
+updates(99, 1, no("6985", 15))
+updates(2, 5, no("6A80", 15))
+listed(held, 15, 17, 48, left=False, ticks=15)
+confirms(9)
+listed(held, 0, 14, 240)
+updates(1, 1, no("6985"))
+updates(2, 1)
+goes_on_nowhere()
+listed(held, 0, 14, 240)
+listed(held, 15, 17, 48, left=False)
+
+name("B75: a record handed in with a kept place: an update forgets it, its own place too")
+for kept in (0, 1, 4):
+    five(kept=kept)
+    updates(3, 0, no("6985"))
+    updates(2, 0)
+    goes_on_nowhere()
+
+name("B85: how the line may be written: spaces, hex in either case, `-`, a LENGTH with zeros before it")
+five()
+call(f"  policy   {aid(2).lower()}   {update(1).lower()}  ", done())
+forbids_disabling(True)
+call(f"policy {aid(2)} {update(0, le='00')} 00256", done())
+call(f"policy {aid(2)} {update(0)} 0", no("6F02"))
+call(f"policy {aid(2)} - 256", no("6700"))
+call(f"policy - {update(0)} 256", no("6A80"))
+call("policy - -", no("6700"))
+call("policy - - 255", no("6F02"))
+call(f"policy a0000000 {update(0)}", no("6A80"))
+forbids_disabling(False)
+
+name("B85: two large byte strings on one line of 4,096 bytes, and the longest beside `-`")
+five()
+for speaker, data, word in (
+    ("A0" * 1022, "80" * 1022, "6700"), ("A0" * 2033, update(1), "6A80"), (aid(2), update(1) + "00" * 2028, "6700"), ("A0" * 2028, "00" * 16, "6E00"),
+    ("A0" * 1783, apdu("80E28800", "3A" * 255, "00"), "6A80"), ("A0" * 1782, "80E28800" + "00" * 258, "6700"), ("A0" * 2040, "80E30000", "6D00"),
+):
+    line = f"policy {speaker} {data}"
+    assert len(line) == 4096
+    call(line, no(word))
+for line, word in ((f"policy - {'80' * 2043} ", "6700"), (f"policy {'A0' * 2043} - ", "6700"), (f" policy - {'80E28800' * 510}{'00' * 3}", "6700")):
+    assert len(line) == 4096
+    call(line, no(word))
+line = f"policy {'A0' * 1021} {'80' * 1021} 255"
+assert len(line) == 4096
+call(line, no("6F02"))
+call(f"policy {'A0' * 1021} {'80' * 1021} 256", no("6700"))
+forbids_disabling(False)
 store_away("scenarios")
 
 # ---------------------------------------------------------------- the mark, and what a deletion leaves, in the explained form
@@ -3293,6 +3920,80 @@ ROWS = [ENABLED_ONE, *[(n - 1, aid(n), "DISABLED", 20, 5, "", "yes", "none") for
 explained(card_line([place(n, E if n == 1 else D, quota=20) for n in range(1, 33)], kept=31), DONE, *ROWS, kept=31)
 explained(f"command 0 {create(aid=aid(33))}", "6A 84 no free place, or no room in the memory or the quota", *ROWS, kept=31)
 explained(NEXT_ROWS, DONE, *ROWS, more=["response " + text_of([(aid(32), D, False)])])
+NAMES = ["none", "disabling forbidden", "deletion forbidden", "disabling and deletion forbidden", "deleted once disabled"]
+UPDATES = [f"policy {B} {update(policy)}" for policy in range(5)]
+
+
+def spoken(line, word, policy, two="ENABLED", **more):
+    """A call on a card of four, of which 02 has this policy; nothing else of them changes but the states of 01 and 02."""
+    one = "DISABLED" if two == "ENABLED" else "ENABLED"
+    rows = [(0, aid(1), one, 100, 10, "yes", "yes", "deletion forbidden"), (1, B, two, 50, 49, "", "", NAMES[policy]),
+            (3, aid(4), "SELECTABLE", 30, 3, "", "yes", "disabling forbidden"), (31, AID16, "DISABLED", 20, 0, "", "yes", "deleted once disabled")]
+    explained(line, word, *rows, **more)
+
+
+name("B84: the column `policy` of the speaker changes, and nothing else; each refusal leaves it")
+FOUR_WORDS = [
+    place(1, D, quota=100, used=10, policy=2), place(2, E, used=49, mark=0), "-", place(4, S, quota=30, used=3, policy=1), *["-"] * 27,
+    place(AID16, D, quota=20, used=0, policy=4),
+]
+spoken(card_line(FOUR_WORDS, last=9), DONE, 0)
+for policy in (1, 2, 3, 4, 4, 3, 2, 1, 0, 0, 4):
+    spoken(UPDATES[policy], DONE, policy)
+for line, word in (
+    (f"{UPDATES[1]} 255", "6F 02 response buffer under 256 bytes"), (f"policy {B} 80E288", "67 00 command length or length shape wrong"),
+    (f"policy {B} 00{update(1)[2:]}", "6E 00 class not known"), (f"policy {B} {delete(four_f())}", "6D 00 instruction not known"),
+    (f"policy {B} {update(1, p1='87')}", "6A 86 P1 or P2 wrong"), (f"policy {B} {update(1)}01", "67 00 command length or length shape wrong"),
+    (f"policy {B} {update(5)}", WRONG_VALUE), (f"policy {B} {update(6)}", WRONG_VALUE), (f"policy {B} {store('3A03', four_f(AID16))}", WRONG_VALUE),
+    (f"policy - {update(1)}", WRONG_VALUE), (f"policy A0000000 {update(1)}", WRONG_VALUE), (f"policy {B}00 {update(1)}", NOT_HELD), (f"policy {aid(3)} {update(1)}", NOT_HELD),
+    (f"policy {F} {update(0)}", WRONG_STATE), (f"policy {aid(4)} {update(0)}", WRONG_STATE), (f"policy {AID16} {update(0)}", WRONG_STATE),
+    (f"command 0 {update(1)}", WRONG_VALUE),
+):
+    spoken(line, word, 4)
+
+name("B83: refused in Trial, in Back and when fallen, the policies of both are as they were; after the close that of the enabled one changes")
+TRIAL = {"phase": "trial: previous at place 0, ticks left 1, number 9", "ticks": 11}
+BACK = {"phase": "back: ticks left 10, number 10", "ticks": 10}
+AGAIN = {"phase": "trial: previous at place 0, ticks left 10, number 11", "ticks": 20}
+FALLEN = {"phase": "fallen: ticks left 10, number 12", "ticks": 10}
+bound = [word.replace(":49:0:0", ":49:3:0") for word in FOUR_WORDS]
+spoken(card_line(bound, last=9, phase="T:0:1:9"), DONE, 3, **TRIAL)
+for who in (B, F, AID16, aid(3)):
+    spoken(f"policy {who} {update(0)}", WRONG_STATE, 3, **TRIAL)
+spoken("tick", DONE, 3, "DISABLED", more=["notification 10: rolled back, A000000001 enabled"], **BACK)
+for who in (B, F):
+    spoken(f"policy {who} {update(0)}", WRONG_STATE, 3, "DISABLED", **BACK)
+spoken(f"command 0 {store('3A08', '4E02000A')}", DONE, 3, "DISABLED")
+spoken(UPDATES[0], WRONG_STATE, 3, "DISABLED")
+spoken(f"policy {F} {update(2)}", DONE, 3, "DISABLED")
+spoken(f"command 0 {store('3A03', four_f(B))}", DONE, 3, more=["notification 11: changed, A000000002 enabled"], **AGAIN)
+spoken(f"command 0 {store('3A08', '4E02000B')}", DONE, 3)
+spoken("lost", DONE, 3, "DISABLED", more=["notification 12: fallen back, A000000001 enabled"], **FALLEN)
+for who in (B, F):
+    spoken(f"policy {who} {update(0)}", WRONG_STATE, 3, "DISABLED", **FALLEN)
+
+name("B84: an update takes the line of an open listing away, a refused one leaves it")
+spoken(card_line(FOUR_WORDS, last=9, kept=31), DONE, 0, kept=31)
+spoken(f"policy {AID16} {update(0)}", WRONG_STATE, 0, kept=31)
+spoken(f"policy {B} {update(5)}", WRONG_VALUE, 0, kept=31)
+spoken(UPDATES[0], DONE, 0)
+spoken(card_line(FOUR_WORDS, last=9, kept=1), DONE, 0, kept=1)
+spoken(UPDATES[2], DONE, 2)
+
+name("B84: a fresh profile's policy, and what is left of one that was set: nothing on the next fresh card, nothing after a deletion")
+ALONE = (0, F, "ENABLED", 100, 10, "yes", "yes")
+for policy in (3, 1, 4):
+    explained(f"fresh {EID} {F} 1000 100 10 0", DONE, (*ALONE, "none"))
+    explained(f"policy {F} {update(policy)}", DONE, (*ALONE, NAMES[policy]))
+explained(f"policy {B} {update(0)}", NOT_HELD, (*ALONE, "deleted once disabled"))
+explained(f"fresh - {F} 1000 100 10 0", WRONG_VALUE)
+explained(f"policy {F} {update(0)}", UNSOUND)
+
+name("B82: a record that is not sound shows the policy that it has, and no update mends it")
+TWO = (1, B, "ENABLED", 50, 5, "", "yes", "05")
+ONE = (0, F, "DISABLED", 50, 5, "yes", "yes", "none")
+explained(card_line([place(1, D), place(2, E, policy=5)]), UNSOUND, ONE, TWO)
+explained(UPDATES[0], UNSOUND, ONE, TWO)
 store_away("explained", "\n\n", ["explain"])
 
 # ---------------------------------------------------------------- lines that cannot be read
@@ -3337,4 +4038,18 @@ unreadable("the PHASE comes before KEPT", card_line([place(1, E)], phase="q", ke
 unreadable("KEPT comes before the places", card_line([place(1, E, mark=256)], kept="255"), "bad number")
 unreadable("FREE comes before KEPT and the PHASE", card_line([place(1, E)], phase="q", kept="x", free="x"), "bad number")
 unreadable("the place before the last is read too", card_line([place(1, E), *["-"] * (PLACES - 3), place(2, D, mark=256)], kept=0), "bad place")
+for words in ("", f" {B} "):
+    unreadable("policy has three words at least", f"policy{words}", "words missing")
+for words in (f"{B} {update(0)} 256 1", "x x x x"):
+    unreadable("policy has four words at most; their number comes before what they are", f"policy {words}", "too many words")
+for speaker in ("A", "A0000000G2", "0xA000000002", "--"):
+    unreadable("a SPEAKER that is no hex", f"policy {speaker} {update(0)}", "bad hex")
+unreadable("the SPEAKER comes before HEX and LENGTH", "policy A00000000 8 1025", "bad hex")
+for given in ("80E28800063A060381010", "80x2", "--"):
+    unreadable("a HEX that is none", f"policy {B} {given}", "bad hex")
+unreadable("HEX comes before LENGTH", f"policy {B} 80E 1025", "bad hex")
+for given in ("1025", "4294967296", "x", "-", "-1", "0x100"):
+    unreadable("a LENGTH that is no number up to 1,024", f"policy {B} {update(0)} {given}", "bad number")
+unreadable("the first word in small letters", f"Policy {B} {update(0)}", "unknown word")
+unreadable("a line with one byte too many for its two byte strings", f"policy {'A0' * 1022} {'80' * 1022} ", "too long")
 store_bad_lines()

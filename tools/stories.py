@@ -29,6 +29,16 @@ def finished(who, policy=0, mark=None):
     return [finished_event(aid(who), policy, mark)]
 
 
+def speaks(who, text):
+    """What the domain of a profile is sent."""
+    return [policy_event(aid(who), bytes.fromhex(text))]
+
+
+def updates(who, policy):
+    """The operator of a profile sets its policy."""
+    return speaks(who, update(policy))
+
+
 def ticks(count=1):
     return [event(TICK)] * count
 

@@ -53,6 +53,7 @@ const FINISHED: u8 = 4;
 const TICK: u8 = 5;
 const LOST: u8 = 6;
 const FINISHED_WITH_MARK: u8 = 7;
+const POLICY: u8 = 8;
 
 #[derive(Clone, Copy, PartialEq, Eq, Debug)]
 pub enum Event<'a> {
@@ -62,6 +63,7 @@ pub enum Event<'a> {
     Finished { aid: &'a [u8], policy: u8, mark: u8 },
     Tick,
     Lost,
+    Policy { speaker: &'a [u8], bytes: &'a [u8] },
 }
 
 /// What a file holds that nothing refuses: its fresh card and the body of its events.
@@ -155,7 +157,14 @@ fn event(kind: u8, bytes: &[u8]) -> Result<Event<'_>, Refusal> {
         (FINISHED_WITH_MARK, [policy, mark, aid @ ..]) => Ok(Event::Finished { aid, policy: *policy, mark: *mark }),
         (TICK, []) => Ok(Event::Tick),
         (LOST, []) => Ok(Event::Lost),
-        (COMMAND | STORED | FINISHED | FINISHED_WITH_MARK | TICK | LOST, _) => Err(Refusal::EventOfWrongLength),
+        (POLICY, [length, bytes @ ..]) => {
+            let split = bytes.split_at_checked(usize::from(*length));
+            let (speaker, bytes) = split.ok_or(Refusal::EventOfWrongLength)?;
+            Ok(Event::Policy { speaker, bytes })
+        }
+        (COMMAND | STORED | FINISHED | FINISHED_WITH_MARK | TICK | LOST | POLICY, _) => {
+            Err(Refusal::EventOfWrongLength)
+        }
         _ => Err(Refusal::EventOfUnknownKind),
     }
 }

@@ -15,6 +15,9 @@ mod manager;
 mod minutes;
 #[cfg(test)]
 mod minutes_tests;
+mod operator;
+#[cfg(test)]
+mod policy_tests;
 mod read;
 mod script;
 mod status;

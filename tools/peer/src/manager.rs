@@ -3,6 +3,7 @@
 //! Soundness is asked where a card is handed in, and kept: no step from a sound card makes an unsound one.
 
 use crate::card::*;
+use crate::operator::read_policy;
 use crate::read::{read, Request, Rows, Tags};
 use crate::status::*;
 
@@ -149,6 +150,22 @@ pub fn command(kept: &mut Kept, verdict: u8, bytes: &[u8], buffer: &mut [u8]) ->
             Request::GetStatus { rows, tags } => get_status(card, rows, tags, buffer),
             Request::GetData => Ok(get_data(card, buffer)),
         }
+    })
+}
+
+/// What the domain of the profile called `speaker` was sent. Only the enabled profile is served, and the policy that it
+/// had is not asked: who forbade something may allow it again.
+pub fn policy(kept: &mut Kept, speaker: &[u8], bytes: &[u8], buffer: &[u8]) -> Answer {
+    on_sound(kept, |card| {
+        require(buffer.len() >= BUFFER_LEAST, BUFFER_SHORT)?;
+        let policy = read_policy(bytes)?;
+        require(aid_length_is_right(speaker.len()), WRONG_DATA)?;
+        no_change_open(card)?;
+        let index = held(card, speaker)?;
+        let place = &mut card.places[index];
+        require(place.life_cycle == ENABLED, NOT_NOW)?;
+        place.policy = policy;
+        Ok(Done::default())
     })
 }
 

@@ -38,6 +38,7 @@ impl Report {
                     manager::tick(&mut kept)
                 }
                 Event::Lost => manager::lost(&mut kept),
+                Event::Policy { speaker, bytes } => manager::policy(&mut kept, speaker, bytes, &buffer),
             };
             report.refused += u32::from(!is_done(answer.status));
             // Whatever enables a profile issues a notification, which bears its AID; a test holds the two together.

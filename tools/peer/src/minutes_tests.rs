@@ -162,9 +162,9 @@ fn events_of_every_length() {
     assert_eq!(of_events(&[TICK, &[5]]), CUT);
     assert_eq!(of_events(&[TICK, &[5, 0]]), CUT);
     assert_eq!(of_events(&[&[2, 0, 6], F]), CUT);
-    assert_eq!(of_events(&[&event(8, &[]), &[5]]), CUT);
+    assert_eq!(of_events(&[&event(9, &[]), &[5]]), CUT);
     assert_eq!(of_events(&[&event(5, &[0]), &event(0, &[]), &event(5, &[0])]), UNKNOWN);
-    assert_eq!(of_events(&[&event(7, &[]), &event(8, &[0; 7])]), UNKNOWN);
+    assert_eq!(of_events(&[&event(7, &[]), &event(9, &[0; 7])]), UNKNOWN);
     for (kind, wrong) in [(1, 0), (3, 0), (3, 3), (4, 0), (5, 1), (6, 1), (7, 0), (7, 1)] {
         assert_eq!(of_events(&[TICK, &event(kind, &vec![0; wrong]), TICK]), LENGTH);
     }

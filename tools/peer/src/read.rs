@@ -37,7 +37,7 @@ const COMMAND_MOST: usize = 261;
 
 const INSTALL: u8 = 0xE6;
 const DELETE: u8 = 0xE4;
-const STORE_DATA: u8 = 0xE2;
+pub const STORE_DATA: u8 = 0xE2;
 const GET_STATUS: u8 = 0xF2;
 const GET_DATA: u8 = 0xCA;
 
@@ -46,6 +46,33 @@ const FIRST_ROWS: u8 = 0x02;
 const NEXT_ROWS: u8 = 0x03;
 
 pub fn read(bytes: &[u8], capacity: u32) -> Result<Request<'_>, u16> {
+    let ([instruction, p1, p2], body) = header(bytes)?;
+    let parameters_are_right = match instruction {
+        INSTALL => (p1, p2) == (0x0C, 0x00),
+        DELETE => (p1, p2) == (0x00, 0x40),
+        STORE_DATA => stores_all(p1, p2),
+        GET_STATUS => p1 == 0x40 && matches!(p2, FIRST_ROWS | NEXT_ROWS),
+        GET_DATA => (p1, p2) == (0xFF, 0x21),
+        _ => return Err(WRONG_INSTRUCTION),
+    };
+    if !parameters_are_right {
+        return Err(WRONG_PARAMETERS);
+    }
+    if instruction == GET_DATA {
+        return if body == [0x00] { Ok(Request::GetData) } else { Err(WRONG_LENGTH) };
+    }
+    let field = data_field(body).ok_or(WRONG_LENGTH)?;
+    match instruction {
+        INSTALL => create(field, capacity),
+        DELETE => delete(field),
+        STORE_DATA => store_data(field),
+        _ => get_status(field, p2 == NEXT_ROWS),
+    }
+    .ok_or(WRONG_DATA)
+}
+
+/// The instruction with its two parameters, and what follows them, where length and class are right.
+pub fn header(bytes: &[u8]) -> Result<([u8; 3], &[u8]), u16> {
     let [class, instruction, p1, p2, body @ ..] = bytes else { return Err(WRONG_LENGTH) };
     if bytes.len() > COMMAND_MOST {
         return Err(WRONG_LENGTH);
@@ -53,31 +80,15 @@ pub fn read(bytes: &[u8], capacity: u32) -> Result<Request<'_>, u16> {
     if !matches!(class, 0x80..=0x8F | 0xC0..=0xCF | 0xE0..=0xEF) {
         return Err(WRONG_CLASS);
     }
-    let parameters_are_right = match *instruction {
-        INSTALL => (*p1, *p2) == (0x0C, 0x00),
-        DELETE => (*p1, *p2) == (0x00, 0x40),
-        STORE_DATA => (0x88..=0x8F).contains(p1) && *p2 == 0x00,
-        GET_STATUS => *p1 == 0x40 && matches!(*p2, FIRST_ROWS | NEXT_ROWS),
-        GET_DATA => (*p1, *p2) == (0xFF, 0x21),
-        _ => return Err(WRONG_INSTRUCTION),
-    };
-    if !parameters_are_right {
-        return Err(WRONG_PARAMETERS);
-    }
-    if *instruction == GET_DATA {
-        return if body == [0x00] { Ok(Request::GetData) } else { Err(WRONG_LENGTH) };
-    }
-    let field = data_field(body).ok_or(WRONG_LENGTH)?;
-    match *instruction {
-        INSTALL => create(field, capacity),
-        DELETE => delete(field),
-        STORE_DATA => store_data(field),
-        _ => get_status(field, *p2 == NEXT_ROWS),
-    }
-    .ok_or(WRONG_DATA)
+    Ok(([*instruction, *p1, *p2], body))
 }
 
-fn data_field(body: &[u8]) -> Option<&[u8]> {
+/// The parameters of STORE DATA: the last block, its data as a DGI; the low three bits of P1 are RFU.
+pub fn stores_all(p1: u8, p2: u8) -> bool {
+    (0x88..=0x8F).contains(&p1) && p2 == 0x00
+}
+
+pub fn data_field(body: &[u8]) -> Option<&[u8]> {
     let (&lc, rest) = body.split_first()?;
     let lc = usize::from(lc);
     let ends_well = rest.len() == lc || (rest.len() == lc + 1 && rest[lc] == 0x00);
@@ -100,7 +111,7 @@ fn element<'a>(tag: &[u8], list: &'a [u8]) -> Option<(&'a [u8], &'a [u8])> {
     value(list.strip_prefix(tag)?)
 }
 
-fn only_element<'a>(tag: &[u8], list: &'a [u8]) -> Option<&'a [u8]> {
+pub fn only_element<'a>(tag: &[u8], list: &'a [u8]) -> Option<&'a [u8]> {
     let (value, left) = element(tag, list)?;
     left.is_empty().then_some(value)
 }
@@ -113,17 +124,20 @@ fn present(value: &[u8]) -> Option<()> {
     (!value.is_empty()).then_some(())
 }
 
-fn store_data(field: &[u8]) -> Option<Request<'_>> {
+/// The DGI that fills a data field, and what it holds.
+pub fn only_dgi(field: &[u8]) -> Option<([u8; 2], &[u8])> {
     let [high, low, length @ 0x00..=0xFE, body @ ..] = field else { return None };
-    if body.len() != usize::from(*length) {
-        return None;
-    }
+    (body.len() == usize::from(*length)).then_some(([*high, *low], body))
+}
+
+fn store_data(field: &[u8]) -> Option<Request<'_>> {
+    let (dgi, body) = only_dgi(field)?;
     let target = || right_aid(only_element(&[0x4F], body)?);
-    match (*high, *low) {
-        (0x3A, 0x03) => Some(Request::Enable(target()?)),
-        (0x3A, 0x04) => Some(Request::Disable(target()?)),
-        (0x3A, 0x05) => Some(Request::SetFallBack(target()?)),
-        (0x3A, 0x08) => {
+    match dgi {
+        [0x3A, 0x03] => Some(Request::Enable(target()?)),
+        [0x3A, 0x04] => Some(Request::Disable(target()?)),
+        [0x3A, 0x05] => Some(Request::SetFallBack(target()?)),
+        [0x3A, 0x08] => {
             let number = only_element(&[0x4E], body)?;
             Some(Request::Confirm(u16::from_be_bytes(number.try_into().ok()?)))
         }

@@ -128,7 +128,7 @@ fn kept_place(word: &[u8]) -> Option<Option<u8>> {
 fn words_after(first: &[u8]) -> Result<(usize, usize), Bad> {
     Ok(match first {
         b"fresh" => (6, 6),
-        b"command" | b"finished" => (2, 3),
+        b"command" | b"finished" | b"policy" => (2, 3),
         b"keyed" => (1, 1),
         b"stored" => (2, 2),
         b"tick" | b"lost" => (0, 0),
@@ -147,6 +147,11 @@ fn number_of(word: &[u8], most: u32) -> Result<u32, Bad> {
 
 fn byte_of(word: &[u8]) -> Result<u8, Bad> {
     byte(word).ok_or(Bad::Number)
+}
+
+/// LENGTH, where it is given.
+fn buffer_length(word: Option<&&[u8]>) -> Result<usize, Bad> {
+    word.map_or(Ok(manager::BUFFER_LEAST), |word| number_of(word, BUFFER_MOST).map(|length| length as usize))
 }
 
 /// The words after the first, where there are as many as a line of its kind has.
@@ -216,6 +221,7 @@ impl Script {
         let answer = match words[0] {
             b"fresh" => self.fresh(fields)?,
             b"command" => return self.command(fields, out),
+            b"policy" => return self.policy(fields, out),
             b"keyed" => manager::keyed(kept, &bytes_of(fields[0])?),
             b"stored" => manager::stored(kept, &bytes_of(fields[0])?, number_of(fields[1], u32::MAX)?),
             b"finished" => {
@@ -244,14 +250,25 @@ impl Script {
 
     fn command(&mut self, fields: &[&[u8]], out: &mut String) -> Result<(), Bad> {
         let (verdict, bytes) = (byte_of(fields[0])?, bytes_of(fields[1])?);
-        let length = fields.get(2).map_or(Ok(manager::BUFFER_LEAST as u32), |word| number_of(word, BUFFER_MOST))?;
+        let length = buffer_length(fields.get(2))?;
+        self.lending(length, out, |kept, lent| manager::command(kept, verdict, &bytes, lent));
+        Ok(())
+    }
+
+    fn policy(&mut self, fields: &[&[u8]], out: &mut String) -> Result<(), Bad> {
+        let (speaker, bytes) = (bytes_of(fields[0])?, bytes_of(fields[1])?);
+        let length = buffer_length(fields.get(2))?;
+        self.lending(length, out, |kept, lent| manager::policy(kept, &speaker, &bytes, lent));
+        Ok(())
+    }
+
+    fn lending(&mut self, length: usize, out: &mut String, call: impl FnOnce(&mut Kept, &mut [u8]) -> Answer) {
         let mut buffer = [0u8; BUFFER_MOST as usize];
-        let lent = &mut buffer[..length as usize];
+        let lent = &mut buffer[..length];
         lend(lent);
-        let answer = manager::command(&mut self.kept, verdict, &bytes, lent);
+        let answer = call(&mut self.kept, lent);
         assert!(is_as_lent(lent, answer.written), "a byte past the response was written");
         self.put(out, &answer, &lent[..answer.written]);
-        Ok(())
     }
 
     fn put(&self, out: &mut String, answer: &Answer, response: &[u8]) {

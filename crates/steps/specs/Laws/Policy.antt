@@ -3,9 +3,11 @@
 use Prim.Native.Nat.{ℕ}
 use mathlib.Core.Path.{_≡_}
 use mathlib.Core.List.{List, []}
-use mathlib.Core.Bool.{true}
+use mathlib.Core.Bool.{true, false, _&&_}
+use Rattle.status.specs.declared.Status.the-variants.{DataWrong, StateWrong, NotHeld}
 use Rattle.isdp.specs.LifeCycle.{enabled, withPolicy}
 use Rattle.isdp.specs.Policy.{policyOk}
+use Rattle.isdp.specs.Aids.{aidOk}
 use Rattle.card.specs.Sound.{sound}
 use Rattle.card.specs.Answers.{Outcome, outcome}
 use Rattle.card.specs.declared.Card.{Card}
@@ -23,8 +25,24 @@ pub record MaySetPolicy (c : Card) (policy t : ℕ) : Type 0 where
 abbrev pub ruled : Card → ℕ → ℕ → Result
 ruled c policy t = replaced c (c .free) (onlyAt c t (withPolicy (profileAt c t) policy)) [] 0
 
-abbrev pub SetPolicyAnswers : Card → List ℕ → ℕ → Outcome → Type 0
-SetPolicyAnswers c speaker policy = OnPlace (Holds c speaker) (MaySetPolicy c policy) (λ t. Answers c (ruled c policy t))
+abbrev pub Taken : Card → List ℕ → ℕ → Outcome → Type 0
+Taken c speaker policy = OnPlace (Holds c speaker) (MaySetPolicy c policy) (λ t. Answers c (ruled c policy t))
+
+-- the speaker has 5 to 16 bytes, and the policy is legal
+abbrev pub Right : List ℕ → ℕ → Type 0
+Right speaker policy = (aidOk speaker && policyOk policy) ≡ true
+
+-- "AID length or coding wrong, or the two delete rules together 6A 80; change open 69 85; AID not held 6A 88; that profile not enabled 69 85; in the
+-- order of document 01": the word of each refusal, whatever the later ones say
+pub record Refused (c : Card) (speaker : List ℕ) (policy : ℕ) (o : Outcome) : Type 0 where
+  pub values-wrong : (aidOk speaker && policyOk policy) ≡ false → o .status ≡ DataWrong
+  pub change-open : Right speaker policy → (c .phase ≡ Quiet → ⊥) → o .status ≡ StateWrong
+  pub not-held : Right speaker policy → c .phase ≡ Quiet → ((t : ℕ) → Holds c speaker t → ⊥) → o .status ≡ NotHeld
+  pub not-enabled : Right speaker policy → c .phase ≡ Quiet → (t : ℕ) → Holds c speaker t → (profileAt c t .life ≡ enabled → ⊥) → o .status ≡ StateWrong
+
+pub record SetPolicyAnswers (c : Card) (speaker : List ℕ) (policy : ℕ) (o : Outcome) : Type 0 where
+  pub taken : Taken c speaker policy o
+  pub refused : Refused c speaker policy o
 
 abbrev pub SetPolicyLaw : Type 0
 SetPolicyLaw =

@@ -4,6 +4,7 @@
 //! one fresh card and what an event file can hold; with `free`, the free memory is looked at wherever it moves,
 //! and the card is handed in again and again with a free that is not its own; with `listing`, cards hold many
 //! profiles, most calls are parts of a listing or come between two, and the card is handed in with other kept places.
+//! Operators' policy updates are among the calls of each.
 
 // The generator needs only part of each module it shares with the peer.
 #![allow(dead_code)]
@@ -14,6 +15,8 @@ mod answers;
 mod card;
 #[path = "../manager.rs"]
 mod manager;
+#[path = "../operator.rs"]
+mod operator;
 #[path = "../read.rs"]
 mod read;
 #[path = "../script.rs"]
@@ -463,9 +466,13 @@ impl Generator {
     // ---- commands
 
     fn command(&mut self, header: [u8; 3], field: Vec<u8>, verdict: u8) {
+        let bytes = self.framed(header, field);
+        self.send(bytes, verdict);
+    }
+
+    fn framed(&mut self, header: [u8; 3], mut field: Vec<u8>) -> Vec<u8> {
         let mut bytes = vec![self.class()];
         bytes.extend(header);
-        let mut field = field;
         // A field altered under a right Lc reaches the data rows, not the length row.
         if self.random.chance(9) {
             self.damage_field(&mut field);
@@ -476,7 +483,7 @@ impl Generator {
         if self.random.chance(50) {
             bytes.push(0);
         }
-        self.send(bytes, verdict);
+        bytes
     }
 
     fn class(&mut self) -> u8 {
@@ -528,7 +535,8 @@ impl Generator {
         }
     }
 
-    fn send(&mut self, mut bytes: Vec<u8>, verdict: u8) {
+    /// The last words of a line: the bytes, now and then damaged, and the length of the buffer, mostly left out.
+    fn sent(&mut self, mut bytes: Vec<u8>) -> String {
         if self.random.chance(12) {
             self.damage(&mut bytes);
         }
@@ -544,8 +552,13 @@ impl Generator {
             7 => format!(" {odd}"),
             _ => String::new(),
         };
+        word + &length
+    }
+
+    fn send(&mut self, bytes: Vec<u8>, verdict: u8) {
+        let words = self.sent(bytes);
         let before = *self.model.card();
-        self.put(format!("command {verdict} {word}{length}"));
+        self.put(format!("command {verdict} {words}"));
         let mut places = before.places.iter().zip(&self.model.card().places);
         let deleted = places.find(|(before, after)| before.is_held() && !after.is_held());
         self.gone = deleted.map(|(before, _)| before.aid).or(self.gone);
@@ -645,13 +658,11 @@ impl Generator {
     }
 
     fn set_fall_back(&mut self) {
-        // A fall-back that forbids disabling is the last profile of a month.
-        let forbidden = if self.is_month { DISABLING_FORBIDDEN } else { 0 };
         let ready = self.random.chance(85);
         let mark = if ready { self.random.pick(&[0, MARKED, MARKED]) } else { MARKED };
         let aid = self.target(|_, place| {
             let is_ready = matches!(place.life_cycle, DISABLED | ENABLED);
-            is_ready == ready && place.mark == mark && place.policy & forbidden == 0
+            is_ready == ready && place.mark == mark
         });
         self.store_data(5, tlv(&[0x4F], &aid));
     }
@@ -784,7 +795,8 @@ impl Generator {
         let odd = self.odd_aid();
         let any = self.any_aid();
         let verdict = self.random.pick(&[0, 2, 255]);
-        match self.random.below(11) {
+        let policy = self.random.pick(&[0, 5, 6]);
+        match self.random.below(13) {
             0 => self.put(format!("keyed {}", hex_word(&odd))),
             1 => self.put(format!("stored {} 4294967295", hex_word(&any))),
             2 => self.put(format!("finished {} 5", hex_word(&any))),
@@ -795,6 +807,8 @@ impl Generator {
             7 => self.store_data(3, tlv(&[0x4F], &odd)),
             8 => self.confirm(0),
             9 => self.send(vec![0x80, 0xCA, 0xFF, 0x21], verdict),
+            10 => self.set_policy(&odd, 0),
+            11 => self.set_policy(&any, policy),
             _ => self.forbidden_while_open(),
         }
     }
@@ -802,7 +816,7 @@ impl Generator {
     /// A call that is accepted and changes nothing, but for an open listing.
     fn idle_call(&mut self) {
         let fall_back = self.model.card().places[usize::from(self.model.card().fall_back) % PLACES].aid;
-        match self.random.below(6) {
+        match self.random.below(7) {
             0 => self.put("tick".to_owned()),
             1 => self.lost(),
             2 => self.store_data(5, tlv(&[0x4F], fall_back.bytes())),
@@ -814,6 +828,10 @@ impl Generator {
                 let aid = self.target(|_, _| true);
                 self.get_status_of(0x02, &aid);
             }
+            5 => {
+                let Place { aid, policy, .. } = self.enabled().unwrap_or(Place::ZERO);
+                self.set_policy(aid.bytes(), policy);
+            }
             _ => self.get_data(),
         }
     }
@@ -822,6 +840,106 @@ impl Generator {
         let class = self.class();
         let verdict = self.verdict();
         self.send(vec![class, 0xCA, 0xFF, 0x21, 0x00], verdict);
+    }
+
+    // ---- policy updates
+
+    /// Mostly the enabled profile, which alone is served; else one in another state, one not held, one that only its length
+    /// tells from the enabled one, or a name that is none.
+    fn speaker(&mut self) -> Vec<u8> {
+        let mut near = self.enabled().map_or_else(|| self.any_aid(), |place| place.aid.bytes().to_vec());
+        match self.random.below(100) {
+            0..=62 => self.target(|_, place| place.life_cycle == ENABLED),
+            63..=74 => self.target(|_, place| place.life_cycle == DISABLED),
+            75..=80 => self.target(|_, place| place.is_created()),
+            81..=86 => self.gone_aid().unwrap_or_else(|| self.any_aid()),
+            87..=89 => {
+                near.push(0);
+                near
+            }
+            90..=91 => {
+                near.pop();
+                near
+            }
+            92 => vec![0xA0; self.random.pick(&[18, 128, 254, 255])],
+            _ => self.odd_aid(),
+        }
+    }
+
+    /// The enabled profile, or the first that a record which is not sound calls so.
+    fn enabled(&self) -> Option<Place> {
+        self.places(|_, place| place.life_cycle == ENABLED).first().map(|index| self.model.card().places[*index])
+    }
+
+    /// More of them forbid something than at the end of a download: an operator can take it back.
+    fn new_policy(&mut self) -> u8 {
+        if self.random.chance(8) {
+            let any = self.random.byte();
+            return self.random.pick(&[5, 6, 7, 8, any, any]);
+        }
+        self.random.pick(&[0, 0, 0, 1, 2, 2, 3, 4, 4])
+    }
+
+    /// What the DGI holds: mostly one 81 of one byte.
+    fn policy_rules(&mut self) -> Vec<u8> {
+        let (policy, other) = (self.new_policy(), self.new_policy());
+        let right = tlv(&[0x81], &[policy]);
+        let tag = self.random.pick(&[0x80, 0x82, 0x01, 0x4F, 0xA1]);
+        match self.random.below(100) {
+            0 => Vec::new(),
+            1 => tlv(&[0x81], &[]),
+            2 => tlv(&[0x81], &[policy, other]),
+            3 => [right, tlv(&[0x81], &[other])].concat(),
+            4 => [right, tlv(&[tag], &[other])].concat(),
+            5 => [tlv(&[tag], &[other]), right].concat(),
+            6 => tlv(&[tag], &[policy]),
+            7 => [right, vec![other]].concat(),
+            8 => vec![0x81, 0x81, 1, policy],
+            _ => right,
+        }
+    }
+
+    /// What a profile's domain is sent: mostly an update, else what only the root domain knows.
+    fn operator_bytes(&mut self) -> Vec<u8> {
+        let aid = self.target(|_, _| true);
+        let p1 = 0x88 | self.random.byte() & 7;
+        let rules = self.policy_rules();
+        let any = self.random.byte();
+        let dgi = if self.random.chance(4) { self.random.pick(&[0x03, 0x04, 0x05, 0x07, 0x08, any]) } else { 0x06 };
+        let held = if dgi == 0x06 || self.random.chance(50) { rules } else { tlv(&[0x4F], &aid) };
+        let mut field = vec![0x3A, dgi, held.len() as u8];
+        field.extend(held);
+        match self.random.below(80) {
+            0 => self.framed([0xE4, 0x00, 0x40], tlv(&[0x4F], &aid)),
+            1 => self.framed([0xF2, 0x40, 0x02 | any & 1], vec![0x4F, 0]),
+            2 => self.framed([0xE6, 0x20, 0x00], [&[0, 0][..], &counted(&aid), &[0, 0, 0]].concat()),
+            3 => vec![0x80, 0xCA, 0xFF, 0x21, 0x00],
+            4 => self.framed([any, p1, 0x00], field),
+            _ => self.framed([0xE2, p1, 0x00], field),
+        }
+    }
+
+    /// Now and then it is sent to the root domain, which knows none.
+    fn update(&mut self) {
+        let speaker = self.speaker();
+        let bytes = self.operator_bytes();
+        if self.random.chance(4) {
+            let verdict = self.verdict();
+            return self.send(bytes, verdict);
+        }
+        let words = self.sent(bytes);
+        self.put(format!("policy {} {words}", hex_word(&speaker)));
+    }
+
+    /// The enabled profile is given a right policy, mostly one that allows its disabling.
+    fn allow(&mut self) {
+        let speaker = self.model.card().enabled_aid();
+        let policy = self.random.pick(&[0, 0, 2, 4, 4, 3]);
+        self.set_policy(speaker.bytes(), policy);
+    }
+
+    fn set_policy(&mut self, speaker: &[u8], policy: u8) {
+        self.put(format!("policy {} 80E28800063A06038101{policy:02X}", hex_word(speaker)));
     }
 
     // ---- the other calls
@@ -910,18 +1028,19 @@ impl Generator {
     }
 
     fn forbidden_while_open(&mut self) {
-        match self.random.below(6) {
+        match self.random.below(7) {
             0 => self.create(),
             1 => self.enable(),
             2 => self.disable(),
             3 => self.delete(false),
             4 => self.delete(true),
+            5 => self.update(),
             _ => self.set_fall_back(),
         }
     }
 
     fn any_call(&mut self) {
-        match self.random.below(8) {
+        match self.random.below(9) {
             0 => self.keyed(),
             1 => self.stored(),
             2 => self.finished(),
@@ -929,13 +1048,18 @@ impl Generator {
             4 => self.lost(),
             5 => self.get_status(),
             6 => self.confirm(80),
+            7 => self.update(),
             _ => self.forbidden_while_open(),
         }
     }
 
     fn call(&mut self) {
         let roll = self.random.below(100);
-        if self.model.card().is_open() {
+        if self.is_bound() && self.random.chance(20) {
+            self.allow();
+        } else if self.random.chance(7) {
+            self.update();
+        } else if self.model.card().is_open() {
             match roll {
                 0..=21 => self.ticks(),
                 22..=51 => self.confirm(75),
@@ -983,9 +1107,13 @@ impl Generator {
     /// Where hardly any command can be accepted, a chapter is not worth its full length.
     fn is_stuck(&self) -> bool {
         let card = self.model.card();
-        let alone = card.held() == 1 && card.free == 0;
-        let bound = card.places[card.enabled()].policy & DISABLING_FORBIDDEN != 0 && card.is_fall_back(card.enabled());
-        !card.is_open() && (alone || bound)
+        !card.is_open() && card.held() == 1 && card.free == 0
+    }
+
+    /// Where only its operator can let the card leave the enabled profile.
+    fn is_bound(&self) -> bool {
+        let card = self.model.card();
+        card.is_sound() && !card.is_open() && card.places[card.enabled()].policy & DISABLING_FORBIDDEN != 0
     }
 
     fn chapter(&mut self, most: usize) {
@@ -1075,7 +1203,7 @@ impl Generator {
 
 /// In the lines and places below EID stands for one of zeros, LONG for an AID that is too long, NONE for the words
 /// of all places and REST for those of all but one.
-const BAD_CALLS: [&str; 42] = [
+const BAD_CALLS: [&str; 54] = [
     "ticks",
     "Tick",
     "tick\r",
@@ -1114,6 +1242,18 @@ const BAD_CALLS: [&str; 42] = [
     "command 0 80 256 1",
     "command x 8 y",
     "command 0 8 y",
+    "policy",
+    "policy A000000001",
+    "policy A000000001 80 256 1",
+    "policy x 8 y z",
+    "policy A00000000 80",
+    "policy A000000001 8",
+    "policy x 8 y",
+    "policy - 8 y",
+    "policy A000000001 80 1025",
+    "policy A000000001 80 -",
+    "policy A000000001 80 x",
+    "policies A000000001 80",
     "fresh EID A000000001 1000 100 0",
     "fresh EID A000000001 1000 100 0 0 0",
     "fresh EID A000000001 1000 100 0 4294967296",
