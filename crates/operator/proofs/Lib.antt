@@ -1,4 +1,4 @@
 -- Laws about reading a policy update.
 pub mod Answers
-pub mod UpdateGrammar
 pub mod Examples
+pub mod UpdateGrammar
