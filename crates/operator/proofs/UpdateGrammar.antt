@@ -1,5 +1,5 @@
--- A policy update, both directions. Framed, it passes the rows before its data field, which is read back as a DGI with one element alone in it.
--- What is accepted passed all rows, so it is framed, and its data field came by the one branch that finds a policy.
+-- A policy update, both directions. What is accepted passed all rows, so it is framed, and its data field came by the one branch that finds a
+-- policy. Framed, it passes the rows before its data field, which is read back as a DGI with one element alone in it.
 use Prim.Native.Nat.{ℕ, _+_, _≤_, _<_}
 use mathlib.Core.Path.{_≡_, refl, sym, ap, _∙_}
 use mathlib.Core.List.{List, [], _∷_}
@@ -8,7 +8,7 @@ use native.Mathlib.Omega.{arith}
 use lib.ListN.{length}
 use borrow.Author.Tests.{eqb-true, not-false}
 use Rattle.byte_string.specs.Bytes.{byte}
-use Rattle.choice.proofs.Branches.{no!, each, each-eq, eq! }
+use Rattle.choice.proofs.Branches.{no!, each, by-eq, eq! }
 use Rattle.tlv.specs.declared.Element.the-variants as element
 use Rattle.tlv.specs.Lists.{listWrong}
 use Rattle.tlv.specs.Filled.{Filled}
@@ -33,24 +33,6 @@ use Rattle.operator.specs.Reading.{notStoreData, policyWrong, accepted, 
 use Rattle.operator.specs.Grammar.{encodePolicy, UpdateBack, UpdateWritten, UpdateFilled}
 use Rattle.operator.proofs.Answers.{Passes, read-done, read-passes, passes-answer}
 
--- ---- an encoded update is read back
-
-policy-back : (s : List ℕ) (at end : ℕ) → at ≤ end → end ≤ length s → (p : ℕ) → window s at end ≡ encodePolicy p → policy.Found p ≡ policyAt s at end
-unfolding policyAt
-policy-back s at end ordered held p q =
-    let a = lone-back s at end ordered held 0x3A06 0x81 1 1 (p ∷ []) (omega arith) (omega arith) refl (omega arith) (omega arith) (omega arith) q in
-    let l = a .long in
-    let x = window-starts s (a .start) end (omega arith) held p [] (a .value) in
-    rw (← a .opened) (no! _ (a .listed) (eq! _ refl (rw (← a .found) (ap policy.Found (sym (x .first))))))
-
-pub update-back : UpdateBack
-unfolding notStoreData policyWrong policyOf
-update-back s p f =
-    let t = stands s 0xE2 (λ field. field ≡ encodePolicy p) (omega arith) f in
-    let q = policy-back s 5 (dataEnd s) (t .ordered) (t .held) p (t .encoded) in
-    ap accepted q
-    ∙ passes-answer s (stands-passes s 0xE2 (f .p2) (λ field. field ≡ encodePolicy p) (notStoreData s) (policyWrong s) t (rw (t .instructed) refl) (ap isWrong (sym q)))
-
 -- ---- what is accepted is so encoded
 
 -- where the policy that was found stands
@@ -63,15 +45,22 @@ pub record PolicyParts (s : List ℕ) (at end p : ℕ) : Type 0 where
   pub found : element.Found start stop ≡ aloneAt s contents end 0x81 1 1
   pub value : p ≡ byte s start
 
-policy-parts : (s : List ℕ) (at end p : ℕ) → policy.Found p ≡ policyAt s at end → PolicyParts s at end p
-unfolding policyAt
-policy-parts s at end p =
-    let P : Policy → Type 0 = λ z. policy.Found p ≡ z → PolicyParts s at end p in
-    let none : P policy.Wrong = λ q. let z : _≡_ {A = ℕ} 0 1 = cc in absurd (omega arith) in
-    each-dgi P (dgiAt s at end) none λ number contents d. each P (listWrong s contents end) (λ _. none) λ e. each-eq P
-    (λ h. each-found P (aloneAt s contents end 0x81 1 1) none λ start stop g q.
-    record { contents = contents; start = start; stop = stop; opened = ap (λ (n : ℕ). dgi.Found n contents) (sym h) ∙ d; listed = e; found = g; value = cc })
-    (λ _. none)
+module _ (s : List ℕ) (at end p : ℕ) where
+  abbrev Accepted : Policy → Type 0
+  Accepted z = policy.Found p ≡ z → PolicyParts s at end p
+
+  none : Accepted policy.Wrong
+  none q = let z : _≡_ {A = ℕ} 0 1 = cc in absurd (omega arith)
+
+  one-found : (number contents start stop : ℕ) → dgi.Found number contents ≡ dgiAt s at end → listWrong s contents end ≡ false → number ≡ 0x3A06
+      → element.Found start stop ≡ aloneAt s contents end 0x81 1 1 → Accepted (policy.Found (byte s start))
+  one-found number contents start stop d e h g q =
+      record { contents = contents; start = start; stop = stop; opened = ap (λ (n : ℕ). dgi.Found n contents) (sym h) ∙ d; listed = e; found = g; value = cc }
+
+  policy-parts : Accepted (policyAt s at end)
+  unfolding policyAt
+  policy-parts = each-dgi Accepted (dgiAt s at end) none λ number contents d. each Accepted (listWrong s contents end) (λ _. none) λ e.
+      by-eq Accepted number 0x3A06 (λ h. each-found Accepted (aloneAt s contents end 0x81 1 1) none λ start stop g. one-found number contents start stop d e h g) (λ _. none)
 
 policy-written : (s : List ℕ) (at end p : ℕ) → Bytes s → PolicyParts s at end p → window s at end ≡ encodePolicy p
 policy-written s at end p b r =
@@ -101,3 +90,21 @@ update-filled s p q = let r = found-parts s p q in dgi-filled s 5 (dataEnd s) 0x
 -- a policy that is read is a byte of the string
 pub read-byte : (s : List ℕ) (p : ℕ) → Bytes s → update.Read p ≡ updateOf s → p < 256
 read-byte s p b q = let r = found-parts s p q in let e = r .value in let h = b (r .start) in omega arith
+
+-- ---- an encoded update is read back
+
+policy-back : (s : List ℕ) (at end : ℕ) → at ≤ end → end ≤ length s → (p : ℕ) → window s at end ≡ encodePolicy p → policy.Found p ≡ policyAt s at end
+unfolding policyAt
+policy-back s at end ordered held p q =
+    let a = lone-back s at end ordered held 0x3A06 0x81 1 1 (p ∷ []) (omega arith) (omega arith) refl (omega arith) (omega arith) (omega arith) q in
+    let l = a .long in
+    let x = window-starts s (a .start) end (omega arith) held p [] (a .value) in
+    rw (← a .opened) (no! _ (a .listed) (eq! _ refl (rw (← a .found) (ap policy.Found (sym (x .first))))))
+
+pub update-back : UpdateBack
+unfolding notStoreData policyWrong policyOf
+update-back s p f =
+    let t = stands s 0xE2 (λ field. field ≡ encodePolicy p) (omega arith) f in
+    let q = policy-back s 5 (dataEnd s) (t .ordered) (t .held) p (t .encoded) in
+    ap accepted q
+    ∙ passes-answer s (stands-passes s 0xE2 (f .p2) (λ field. field ≡ encodePolicy p) (notStoreData s) (policyWrong s) t (rw (t .instructed) refl) (ap isWrong (sym q)))
