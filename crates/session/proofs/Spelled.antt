@@ -1,12 +1,12 @@
 -- What is written to the front of a buffer is read back from it whole: the bytes of a word, or of two one after the other, and a
 -- response, which fits in the buffer lent to the call, as the manager promises. Assumes nothing.
-use Prim.Native.Nat.{ℕ, _+_, _*_, _≤_}
+use Prim.Native.Nat.{ℕ, _+_, _-_, _*_, _≤_}
 use mathlib.Core.Path.{_≡_, sym, ap, _∙_, subst}
 use mathlib.Core.List.{List, _++_, append-assoc}
 use mathlib.Core.Bool.{Bool, true}
 use native.Mathlib.Omega.{arith}
 use lib.ListN.{length, take, drop, take-append-drop, length-append, length-drop}
-use lib.Seq.{take-append-seam, drop-append-seam, drop-append-le, drop-drop, length-take-le}
+use lib.Seq.{take-append-seam, drop-append-seam, drop-append-le, drop-drop, take-all, length-take-le}
 use Rattle.byte_string.specs.Put.{put, Wrote}
 use Rattle.byte_string.proofs.PutLaws.{put-front, length-put, wrote-as}
 use Rattle.card.specs.Answers.{Outcome, handed}
@@ -14,12 +14,13 @@ use Rattle.card.specs.declared.Card.{Card}
 use Rattle.card.specs.declared.Answer.{Answer}
 use Rattle.byte_string.specs.declared.Part.{Part}
 use Rattle.byte_string.specs.Bytes.{partOf}
-use Rattle.manager.specs.Calls.{callOf}
+use Rattle.manager.specs.Calls.{Call.Policy, callOf}
 use Rattle.manager.specs.Manager.{Served}
 use Rattle.manager.specs.declared.Call as declared
+use Rattle.manager.specs.declared.Call.the-variants as code
 use Rattle.answers.specs.Explained.{mostExplained}
-use Rattle.replies.specs.Replies.{mostRoom, callIn, answerText, replyOf, answerTo, mostText}
-use Rattle.session.specs.Session.{Replied}
+use Rattle.replies.specs.Replies.{mostRoom, bytesOf, bytesIn, callIn, answerText, replyOf, answerTo, mostText}
+use Rattle.session.specs.Session.{Laid, Replied}
 use Rattle.session.specs.declared.Turn.{Turn}
 
 -- read back
@@ -40,24 +41,28 @@ front-put l vs n h k =
     ∙ ap (λ (x : List ℕ). vs ++ x) (sym (drop-append-le (length vs) (take n l) (drop n l) i) ∙ ap (drop (length vs)) (take-append-drop n l))
     ∙ sym (put-front l vs j)
 
+-- a call known to be another
+pub still-fits : (l s : List ℕ) {x y : declared.Call} → x ≡ y → length (bytesIn s x) ≤ length l → length (bytesIn s y) ≤ length l
+still-fits l s e h = subst (λ (z : declared.Call). length (bytesIn s z) ≤ length l) e h
+
 -- two byte strings, one after the other
 module _ (l us vs : List ℕ) (h : length (us ++ vs) ≤ length l) where
   two-fit : length us + length vs ≤ length l
   two-fit = rw (length-append us vs) at h
 
-  two-are : put l 0 (us ++ vs) ≡ us ++ vs ++ drop (length (us ++ vs)) l
+  two-are : put l 0 (us ++ vs) ≡ us ++ (vs ++ drop (length (us ++ vs)) l)
   two-are = put-front l (us ++ vs) h ∙ append-assoc us vs (drop (length (us ++ vs)) l)
 
-  pub first-fits : length us ≤ length l
+  first-fits : length us ≤ length l
   first-fits = let k = two-fit in omega arith
 
   first-left : put l 0 us ≡ us ++ drop (length us) l
   first-left = put-front l us first-fits
 
-  pub second-fits : length vs ≤ length (drop (length us) (put l 0 us))
+  second-fits : length vs ≤ length (drop (length us) (put l 0 us))
   second-fits = let k = two-fit in rw (first-left, drop-append-seam us (drop (length us) l), length-drop (length us) l) (omega arith)
 
-  pub two-left : take (length us) (put l 0 us) ++ put (drop (length us) (put l 0 us)) 0 vs ≡ put l 0 (us ++ vs)
+  two-left : take (length us) (put l 0 us) ++ put (drop (length us) (put l 0 us)) 0 vs ≡ put l 0 (us ++ vs)
   two-left =
       let rest = drop (length us) l in
       let k = two-fit in
@@ -66,24 +71,59 @@ module _ (l us vs : List ℕ) (h : length (us ++ vs) ≤ length l) where
       ap (λ (x : List ℕ). take (length us) x ++ put (drop (length us) x) 0 vs) first-left
       ∙ rw (take-append-seam us rest, drop-append-seam us rest, put-front rest vs fits, past) (sym two-are)
 
-  pub first-is : partOf (put l 0 (us ++ vs)) (record { start = 0; len = length us }) ≡ us
+  first-is : partOf (put l 0 (us ++ vs)) (record { start = 0; len = length us }) ≡ us
   first-is = rw two-are (take-append-seam us (vs ++ drop (length (us ++ vs)) l))
 
-  pub second-is : partOf (put l 0 (us ++ vs)) (record { start = length us; len = length vs }) ≡ vs
+  second-is : partOf (put l 0 (us ++ vs)) (record { start = length us; len = length vs }) ≡ vs
   second-is =
       ap (λ (x : List ℕ). take (length vs) (drop (length us) x)) two-are
       ∙ ap (take (length vs)) (drop-append-seam us (vs ++ drop (length (us ++ vs)) l))
       ∙ take-append-seam vs (drop (length (us ++ vs)) l)
 
+-- a policy update, whose command is spelled into what is left of the buffer after its speaker
+pub speaker-fits : (l s : List ℕ) (speaker bytes : Part) → length (bytesIn s (code.Policy speaker bytes)) ≤ length l → length (bytesOf s speaker) ≤ length l
+speaker-fits l s speaker bytes h = first-fits l (bytesOf s speaker) (bytesOf s bytes) h
+
+module _ (l s : List ℕ) (speaker bytes : Part) (h : length (bytesIn s (code.Policy speaker bytes)) ≤ length l)
+    {m : List ℕ} {p : Part} (e : p ≡ record { start = 0; len = length (bytesOf s speaker) }) (f : m ≡ put l 0 (bytesOf s speaker)) where
+  pub left-starts : p .len ≤ length m
+  left-starts = rw (e, f, length-put l 0 (bytesOf s speaker)) (speaker-fits l s speaker bytes h)
+
+  left : take (length m - p .len) (drop (p .len) m) ≡ drop (p .len) m
+  left = take-all (length m - p .len) (drop (p .len) m) (rw (length-drop (p .len) m) (omega arith))
+
+  pub left-fits : length (bytesOf s bytes) ≤ length (take (length m - p .len) (drop (p .len) m))
+  left-fits = rw (left, e, f) (second-fits l (bytesOf s speaker) (bytesOf s bytes) h)
+
+  module _ {t : List ℕ} {q : Part} (i : q ≡ record { start = 0; len = length (bytesOf s bytes) }) (j : t ≡ put (take (length m - p .len) (drop (p .len) m)) 0 (bytesOf s bytes)) where
+    both-left : take (p .len) m ++ (t ++ drop (length m - p .len) (drop (p .len) m)) ≡ put l 0 (bytesOf s speaker ++ bytesOf s bytes)
+    both-left =
+        let n = length-drop (p .len) m in
+        let k : length (bytesOf s bytes) ≤ length (drop (p .len) m) = rw (← left) left-fits in
+        ap (λ (x : List ℕ). take (p .len) m ++ (x ++ drop (length m - p .len) (drop (p .len) m))) j
+        ∙ ap (λ (x : List ℕ). take (p .len) m ++ x) (front-put (drop (p .len) m) (bytesOf s bytes) (length m - p .len) (omega arith) (omega arith))
+        ∙ rw (e, f) (two-left l (bytesOf s speaker) (bytesOf s bytes) h)
+
+    pub update-laid : Laid l s (code.Policy speaker bytes) (code.Policy p (record { start = p .len; len = q .len })) (take (p .len) m ++ (t ++ drop (length m - p .len) (drop (p .len) m)))
+    update-laid =
+        let us = bytesOf s speaker in
+        let vs = bytesOf s bytes in
+        record {
+          same-call = λ room.
+          ap (λ (x : List ℕ). callOf x room (code.Policy p (record { start = p .len; len = q .len }))) both-left
+          ∙ rw (e, i) (ap (λ (x : List ℕ). Policy x (partOf (put l 0 (us ++ vs)) (record { start = length us; len = length vs })) room) (first-is l us vs h) ∙ ap (λ (x : List ℕ). Policy us x room) (second-is l us vs h));
+          content = both-left;
+        }
+
 -- a call over its bytes, and its response in the first bytes of the buffer lent
-module _ (found : Bool) (c : Card) (s : List ℕ) (x : declared.Call) (room : ℕ) (old : List ℕ) {t new : List ℕ} {y : declared.Call} {r : Answer}
-    (h : Served (take room old) (answerTo found c (callOf t (length (take room old)) y)) r new) (same : (k : ℕ) → callOf t k y ≡ callIn s k x)
+module _ (found : Bool) (c : Card) (s : List ℕ) (x : declared.Call) (room : ℕ) (old : List ℕ) {l t new : List ℕ} {y : declared.Call} {r : Answer}
+    (h : Served (take room old) (answerTo found c (callOf t (length (take room old)) y)) r new) (lies : Laid l s x y t)
     (size : length old ≡ mostRoom) (small : room ≤ mostRoom) where
   lent : length (take room old) ≡ room
   lent = length-take-le room old (omega arith)
 
   as-asked : answerTo found c (callOf t (length (take room old)) y) ≡ answerTo found c (callIn s room x)
-  as-asked = ap (λ (k : ℕ). answerTo found c (callOf t k y)) lent ∙ ap (answerTo found c) (same room)
+  as-asked = ap (λ (k : ℕ). answerTo found c (callOf t k y)) lent ∙ ap (answerTo found c) (lies .same-call room)
 
   pub answer-is : r ≡ handed (answerTo found c (callIn s room x))
   answer-is = h .0 .answer ∙ ap handed as-asked

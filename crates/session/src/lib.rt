@@ -202,7 +202,7 @@ fn call_reply(
     response: &mut [u8],
     out: &mut [u8],
 ) -> Turn
-    requires { ⌜ ((length (bytesIn (now s) call) ≤ length (now bytes)) × (room ≤ mostRoom)) × (length (now response) ≡ mostRoom) ⌝ }
+    requires { ⌜ ((length (bytesIn (now s) call) ≤ mostBytes) × (room ≤ mostRoom)) × ((length (now bytes) ≡ mostBytes) × (length (now response) ≡ mostRoom)) ⌝ }
     ensures { λ r. ⌜ Replied (now (out .entry)) (turn .filled) (replyOf explain (turn .sound) (bytesIn (now (s .entry)) call) (answerTo (turn .sound) (turn .card) (callIn (now (s .entry)) room call))) r (now (out .exit)) × Used (now (bytes .entry)) (now (response .entry)) (replyOf explain (turn .sound) (bytesIn (now (s .entry)) call) (answerTo (turn .sound) (turn .card) (callIn (now (s .entry)) room call))) (now (bytes .exit)) (now (response .exit)) ⌝ }
 {
     let card = turn.card;
