@@ -21,7 +21,7 @@ use Rattle.script.specs.declared.Order.{Order}
 use Rattle.script.specs.declared.Order.the-variants as order
 use Rattle.records.specs.declared.Reading.{Reading}
 use Rattle.records.specs.declared.Reading.the-variants as reading
-use Rattle.replies.specs.Replies.{bytesOf, partIn, callIn, recordWork, recordOutcome, replyOf, firstReply, faultReply, answerTo, Reply, replyBy, lineOf, askedLine, scriptOf, askedScript, AskedOnce}
+use Rattle.replies.specs.Replies.{bytesOf, bytesIn, callIn, recordWork, recordOutcome, replyOf, firstReply, faultReply, answerTo, Reply, replyBy, lineOf, askedLine, scriptOf, askedScript, AskedOnce}
 
 -- the flag is right: where it says that the card is sound, it is
 abbrev Right : Card → Bool → Type 0
@@ -46,7 +46,7 @@ reading-flag c found explain n d reading.Fine h = record-flag d (sound d) refl
 orders-agree : (c : Card) (found explain : Bool) (n : ℕ) (s : List ℕ) (o : Order) → Right c found → replyBy (answerTo found c) c found explain n s o ≡ replyBy (step c) c found explain n s o
 orders-agree c found explain n s order.Nothing h = refl
 orders-agree c found explain n s (order.Fresh eid aid capacity quota used volatile) h = refl
-orders-agree c found explain n s (order.Call x room) h = ap (replyOf explain found (bytesOf s (partIn x))) (answers-agree c found (callIn s room x) h)
+orders-agree c found explain n s (order.Call x room) h = ap (replyOf explain found (bytesIn s x)) (answers-agree c found (callIn s room x) h)
 orders-agree c found explain n s (order.Record at) h = refl
 orders-agree c found explain n s (order.Wrong reason) h = refl
 

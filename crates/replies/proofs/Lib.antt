@@ -1,3 +1,4 @@
--- How long a fault's text is; and the theorem `asked-once`.
+-- How long a fault's text is; that nothing is cut; and the theorem `asked-once`.
 pub mod FaultLengths
+pub mod Room
 pub mod Asked

@@ -5,7 +5,7 @@ use mathlib.Core.Path.{_≡_}
 use mathlib.Core.List.{List, [], _∷_, _++_}
 use mathlib.Core.Bool.{Bool, true, false, cond, _&&_}
 use lib.ListN.{length}
-use Rattle.text.specs.Hex.{spelledIn}
+use Rattle.text.specs.Hex.{spelled}
 use Rattle.status.specs.StatusWords.{isDone}
 use Rattle.status.specs.declared.Status.the-variants.{Done}
 use Rattle.isdp.specs.Aids.{noAid}
@@ -16,7 +16,7 @@ use Rattle.card.specs.declared.Card.{Card}
 use Rattle.card.specs.declared.Answer.{Answer}
 use Rattle.byte_string.specs.declared.Part.{Part}
 use Rattle.byte_string.specs.Bytes.{partOf}
-use Rattle.manager.specs.Calls.{Call, callOf}
+use Rattle.manager.specs.Calls.{Call, Call.Command, Call.Keyed, Call.Stored, Call.Finished, Call.Tick, Call.Lost, Call.Policy}
 use Rattle.manager.specs.Manager.{step, onSound}
 use Rattle.manager.specs.declared.Call as declared
 use Rattle.manager.specs.declared.Call.the-variants as code
@@ -29,7 +29,7 @@ use Rattle.answers.specs.Lines.{answerLine}
 use Rattle.answers.specs.Explained.{explainedText, mostExplained}
 use Rattle.replies.specs.Reasons.{reasonLine}
 
--- a byte string of a line has at most so many bytes: two digits each, in a line of 4,096
+-- the byte strings of a call have together at most so many bytes: two digits each, in a line of 4,096
 abbrev pub mostBytes : ℕ
 mostBytes = 2048
 
@@ -39,29 +39,27 @@ mostRoom = 1024
 
 -- the bytes that a part of the line spells, once the line's order was read: its words are hex then
 abbrev pub bytesOf : List ℕ → Part → List ℕ
-bytesOf s p = spelledIn (partOf s p) mostBytes
+bytesOf s p = spelled (partOf s p)
 
--- the part that a call names; two calls name none
-abbrev pub partIn : declared.Call → Part
-partIn (code.Command verdict bytes) = bytes
-partIn (code.Keyed aid) = aid
-partIn (code.Stored aid n) = aid
-partIn (code.Finished aid policy mark) = aid
-partIn code.Tick = record { start = 0; len = 0 }
-partIn code.Lost = record { start = 0; len = 0 }
-
--- the same call over the first n bytes of a buffer
-abbrev pub laid : ℕ → declared.Call → declared.Call
-laid n (code.Command verdict bytes) = code.Command verdict (record { start = 0; len = n })
-laid n (code.Keyed aid) = code.Keyed (record { start = 0; len = n })
-laid n (code.Stored aid k) = code.Stored (record { start = 0; len = n }) k
-laid n (code.Finished aid policy mark) = code.Finished (record { start = 0; len = n }) policy mark
-laid n code.Tick = code.Tick
-laid n code.Lost = code.Lost
-
--- the call that a line asks for: over the bytes that its word spells
+-- the call that a line asks for: over the bytes that its words spell
 abbrev pub callIn : List ℕ → ℕ → declared.Call → Call
-callIn s room x = callOf (bytesOf s (partIn x)) room (laid (length (bytesOf s (partIn x))) x)
+callIn s room (code.Command verdict bytes) = Command verdict (bytesOf s bytes) room
+callIn s room (code.Keyed aid) = Keyed (bytesOf s aid)
+callIn s room (code.Stored aid n) = Stored (bytesOf s aid) n
+callIn s room (code.Finished aid policy mark) = Finished (bytesOf s aid) policy mark
+callIn s room code.Tick = Tick
+callIn s room code.Lost = Lost
+callIn s room (code.Policy speaker bytes) = Policy (bytesOf s speaker) (bytesOf s bytes) room
+
+-- these bytes as they stand in the buffer that is lent for them: of two byte strings one after the other
+abbrev pub bytesIn : List ℕ → declared.Call → List ℕ
+bytesIn s (code.Command verdict bytes) = bytesOf s bytes
+bytesIn s (code.Keyed aid) = bytesOf s aid
+bytesIn s (code.Stored aid n) = bytesOf s aid
+bytesIn s (code.Finished aid policy mark) = bytesOf s aid
+bytesIn s code.Tick = []
+bytesIn s code.Lost = []
+bytesIn s (code.Policy speaker bytes) = bytesOf s speaker ++ bytesOf s bytes
 
 -- `card` hands in any record: 6F 00 where it is not sound, else 90 00 and its ticks
 abbrev pub recordWork : Card → Work
@@ -112,7 +110,7 @@ abbrev pub replyBy : (Call → Outcome) → Card → Bool → Bool → ℕ → L
 replyBy answer c found explain n s order.Nothing = silentReply c found
 replyBy answer c found explain n s (order.Fresh eid aid capacity quota used volatile) =
     firstReply explain (freshOutcome (bytesOf s eid) (bytesOf s aid) capacity quota used volatile)
-replyBy answer c found explain n s (order.Call x room) = replyOf explain found (bytesOf s (partIn x)) (answer (callIn s room x))
+replyBy answer c found explain n s (order.Call x room) = replyOf explain found (bytesIn s x) (answer (callIn s room x))
 replyBy answer c found explain n s (order.Record at) =
     onReading (recordAt s at .reading) (faultReply c found n) (firstReply explain (recordOutcome (recordAt s at .card)))
 replyBy answer c found explain n s (order.Wrong reason) = faultReply c found n reason

@@ -13,9 +13,9 @@ use Rattle.isdp.specs.Sizes.{mostPlaces}
 use Rattle.records.specs.Ascii.{ascii}
 use Rattle.records.proofs.Examples.{dashes}
 use Rattle.records.specs.Arguments.{bytesAt, valueAt}
-use Rattle.script.specs.Orders.{verbOf, counted, inner, valueOr, freshWith, freshAt, commandAt, keyedAt, storedAt, finishedAt, orderBy, orderOf}
+use Rattle.script.specs.Orders.{verbOf, counted, inner, valueOr, sentAt, freshWith, freshAt, commandAt, keyedAt, storedAt, finishedAt, policyAt, orderBy, orderOf}
 use Rattle.records.specs.declared.arguments.Reason.the-variants.{TooLong, UnknownWord, WordsMissing, TooManyWords, BadHex, BadNumber}
-use Rattle.manager.specs.declared.Call.the-variants.{Command, Keyed, Stored, Finished, Tick, Lost}
+use Rattle.manager.specs.declared.Call.the-variants.{Command, Keyed, Stored, Finished, Tick, Lost, Policy}
 use Rattle.script.specs.declared.Order.{Order}
 use Rattle.script.specs.declared.Order.the-variants.{Nothing, Fresh, Record, Wrong}
 use Rattle.script.specs.declared.Order.the-variants as order
@@ -40,6 +40,13 @@ examples =
     ∷ record { line = "finished A000000002 4 255"; says = inner (Finished (record { start = 9; len = 10 }) 4 255) }
     ∷ record { line = "finished A000000002 4 256"; says = Wrong BadNumber }
     ∷ record { line = "finished A000000002 4 1 1"; says = Wrong TooManyWords }
+    ∷ record { line = "policy A000000001 80e2"; says = order.Call (Policy (record { start = 7; len = 10 }) (record { start = 18; len = 4 })) 256 }
+    ∷ record { line = "policy -  80E2 0"; says = order.Call (Policy (record { start = 7; len = 1 }) (record { start = 10; len = 4 })) 0 }
+    ∷ record { line = "policy A0"; says = Wrong WordsMissing }
+    ∷ record { line = "policy A0 80 256 1"; says = Wrong TooManyWords }
+    ∷ record { line = "policy A0F 80 1025"; says = Wrong BadHex }
+    ∷ record { line = "policy A0 8 1025"; says = Wrong BadHex }
+    ∷ record { line = "policy A0 80 1025"; says = Wrong BadNumber }
     ∷ record { line = "Tick"; says = Wrong UnknownWord }
     ∷ record { line = "keyed"; says = Wrong WordsMissing }
     ∷ record { line = "tick tick"; says = Wrong TooManyWords }
@@ -49,7 +56,7 @@ examples =
     ∷ []
 
 says-so : map (λ (e : Example). orderOf (ascii (e .line))) examples ≡ map (λ (e : Example). e .says) examples
-unfolding orderOf orderBy verbOf counted freshWith freshAt commandAt keyedAt storedAt finishedAt bytesAt valueAt valueOr pick atMost isBelow isSame before leading sameBytes wordsOn wordsOf wordFrom wordAt digitsOn decimalOf nibbleOf pairsOf isHex
+unfolding orderOf orderBy verbOf counted freshWith freshAt commandAt keyedAt storedAt finishedAt policyAt sentAt bytesAt valueAt valueOr pick atMost isBelow isSame before leading sameBytes wordsOn wordsOf wordFrom wordAt digitsOn decimalOf nibbleOf pairsOf isHex
 says-so = refl
 
 -- a `card` line with so many words for its places

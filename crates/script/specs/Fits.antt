@@ -21,7 +21,7 @@ pub record Fits (s : List ℕ) (p : Part) : Type 0 where
   pub short : p .start + p .len ≤ longest
   pub hex : isHex (partOf s p) ≡ true
 
--- the one part that a call names
+-- the parts that a call names; of two the first ends before the second begins, so that both together have at most 2,048 bytes
 abbrev pub CallFits : List ℕ → Call → Type 0
 CallFits s (call.Command verdict bytes) = Fits s bytes
 CallFits s (call.Keyed aid) = Fits s aid
@@ -29,6 +29,7 @@ CallFits s (call.Stored aid n) = Fits s aid
 CallFits s (call.Finished aid policy mark) = Fits s aid
 CallFits s call.Tick = Unit {0}
 CallFits s call.Lost = Unit {0}
+CallFits s (call.Policy speaker bytes) = Fits s speaker × (Fits s bytes × (speaker .start + speaker .len ≤ bytes .start))
 
 abbrev pub OrderFits : List ℕ → Order → Type 0
 OrderFits s order.Nothing = Unit {0}

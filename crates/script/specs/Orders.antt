@@ -13,11 +13,14 @@ use Rattle.manager.specs.declared.Call.{Call}
 use Rattle.manager.specs.declared.Call.the-variants as call
 use Rattle.records.specs.Ascii.{ascii}
 use Rattle.records.specs.Arguments.{most32, most8, onBytes, onValue, bytesAt, valueAt}
+use Rattle.records.specs.declared.arguments.Reason.{Reason}
 use Rattle.records.specs.declared.arguments.Reason.the-variants.{TooLong, UnknownWord, WordsMissing, TooManyWords}
 use Rattle.records.specs.declared.arguments.Value.{Value}
 use Rattle.records.specs.declared.arguments.Value.the-variants as value
 use Rattle.script.specs.declared.Verb.{Verb}
 use Rattle.script.specs.declared.Verb.the-variants as verb
+use Rattle.script.specs.declared.Sent.{Sent}
+use Rattle.script.specs.declared.Sent.the-variants as sent
 use Rattle.script.specs.declared.Order.{Order}
 use Rattle.script.specs.declared.Order.the-variants as order
 
@@ -34,7 +37,8 @@ verbOf w =
     (pick (sameBytes w (ascii "finished")) verb.Finished
     (pick (sameBytes w (ascii "tick")) verb.Tick
     (pick (sameBytes w (ascii "lost")) verb.Lost
-    (pick (sameBytes w (ascii "card")) verb.Card verb.Unknown)))))))
+    (pick (sameBytes w (ascii "policy")) verb.Policy
+    (pick (sameBytes w (ascii "card")) verb.Card verb.Unknown))))))))
 
 -- the order of a line of n words, where it should have from `least` to `most`
 unfoldable pub counted : ℕ → ℕ → ℕ → Order → Order
@@ -58,12 +62,27 @@ freshAt s at =
 unfoldable pub valueOr : ℕ → ℕ → List ℕ → ℕ → Value
 valueOr missing most s at = onWord (wordAt s at) (value.Is missing at) λ a e. valueAt most s at
 
--- VERDICT HEX, or VERDICT HEX LENGTH: "a response buffer of 256 bytes, or of LENGTH", 0 to 1,024
+abbrev pub onSent {ℓ} : {X : Type ℓ} → Sent → (Reason → X) → (Part → ℕ → X) → X
+onSent (sent.Wrong why) g f = g why
+onSent (sent.Is bytes room) g f = f bytes room
+
+-- HEX, or HEX LENGTH: a command, and "a response buffer of 256 bytes, or of LENGTH", 0 to 1,024
+unfoldable pub sentAt : List ℕ → ℕ → Sent
+sentAt s at =
+    onBytes (bytesAt s at) sent.Wrong λ bytes b.
+    onValue (valueOr 256 1024 s b) sent.Wrong λ room e. sent.Is bytes room
+
+-- VERDICT HEX, or VERDICT HEX LENGTH
 unfoldable pub commandAt : List ℕ → ℕ → Order
 commandAt s at =
     onValue (valueAt most8 s at) order.Wrong λ verdict b.
-    onBytes (bytesAt s b) order.Wrong λ bytes c.
-    onValue (valueOr 256 1024 s c) order.Wrong λ room e. order.Call (call.Command verdict bytes) room
+    onSent (sentAt s b) order.Wrong λ bytes room. order.Call (call.Command verdict bytes) room
+
+-- SPEAKER HEX, or SPEAKER HEX LENGTH: the AID of the profile whose domain speaks, and the command that this domain was sent
+unfoldable pub policyAt : List ℕ → ℕ → Order
+policyAt s at =
+    onBytes (bytesAt s at) order.Wrong λ speaker b.
+    onSent (sentAt s b) order.Wrong λ bytes room. order.Call (call.Policy speaker bytes) room
 
 -- a call that has no response lends no buffer
 abbrev pub inner : Call → Order
@@ -99,6 +118,7 @@ orderBy verb.Stored n s at = counted 3 3 n (storedAt s at)
 orderBy verb.Finished n s at = counted 3 4 n (finishedAt s at)
 orderBy verb.Tick n s at = counted 1 1 n (inner call.Tick)
 orderBy verb.Lost n s at = counted 1 1 n (inner call.Lost)
+orderBy verb.Policy n s at = counted 3 4 n (policyAt s at)
 orderBy verb.Card n s at = counted recordWords recordWords n (order.Record at)
 orderBy verb.Unknown n s at = order.Wrong UnknownWord
 

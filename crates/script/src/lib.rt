@@ -14,7 +14,7 @@ use text::Word;
 use text::count_words;
 use text::next_word;
 ghost use mathlib.Core.Path.{_≡_};
-ghost use Rattle.script.specs.Orders.{verbOf, counted, inner, valueOr, freshWith, freshAt, commandAt, keyedAt, storedAt, finishedAt, orderBy, orderOf};
+ghost use Rattle.script.specs.Orders.{verbOf, counted, inner, valueOr, sentAt, freshWith, freshAt, commandAt, keyedAt, storedAt, finishedAt, policyAt, orderBy, orderOf};
 
 // A byte string stays in the line, where a part names the word that spells it: an enum holds no array.
 pub enum Order {
@@ -48,6 +48,7 @@ pub enum Verb {
     Finished,
     Tick,
     Lost,
+    Policy,
     Card,
     Unknown,
 }
@@ -75,6 +76,9 @@ fn verb_of(w: &[u8]) -> Verb
     }
     if same(w, b"lost") {
         return Verb::Lost;
+    }
+    if same(w, b"policy") {
+        return Verb::Policy;
     }
     if same(w, b"card") {
         return Verb::Card;
@@ -152,27 +156,60 @@ fn next_or(missing: u32, most: u32, s: &[u8], at: usize) -> Value
     next_value(s, at, most)
 }
 
+// A command as it was sent, and the length of the response buffer lent to it.
+pub enum Sent {
+    Is { bytes: Part, room: usize },
+    Wrong(Reason),
+}
+
+fn next_sent(s: &[u8], at: usize) -> Sent
+    ensures { λ r. ⌜ r ≡ sentAt (now (s .entry)) at ⌝ }
+{
+    match next_bytes(s, at) {
+        Bytes::Wrong(why) => Sent::Wrong(why),
+        Bytes::Is {
+            part: bytes,
+            next: b,
+        } => match next_or(256, 1024, s, b) {
+            Value::Wrong(why) => Sent::Wrong(why),
+            Value::Is { n, next: _ } => {
+                let room = n as usize;
+                Sent::Is { bytes, room }
+            }
+        },
+    }
+}
+
 fn command_order(s: &[u8], at: usize) -> Order
     ensures { λ r. ⌜ r ≡ commandAt (now (s .entry)) at ⌝ }
 {
     match next_value(s, at, 255) {
         Value::Wrong(why) => Order::Wrong(why),
-        Value::Is { n, next: b } => match next_bytes(s, b) {
-            Bytes::Wrong(why) => Order::Wrong(why),
-            Bytes::Is {
-                part: bytes,
-                next: c,
-            } => match next_or(256, 1024, s, c) {
-                Value::Wrong(why) => Order::Wrong(why),
-                Value::Is { n: room, next: _ } => {
-                    let verdict = n as u8;
-                    let call = Call::Command { verdict, bytes };
-                    Order::Call {
-                        call,
-                        room: room as usize,
-                    }
-                }
-            },
+        Value::Is { n, next: b } => match next_sent(s, b) {
+            Sent::Wrong(why) => Order::Wrong(why),
+            Sent::Is { bytes, room } => {
+                let verdict = n as u8;
+                let call = Call::Command { verdict, bytes };
+                Order::Call { call, room }
+            }
+        },
+    }
+}
+
+fn policy_order(s: &[u8], at: usize) -> Order
+    ensures { λ r. ⌜ r ≡ policyAt (now (s .entry)) at ⌝ }
+{
+    match next_bytes(s, at) {
+        Bytes::Wrong(why) => Order::Wrong(why),
+        Bytes::Is {
+            part: speaker,
+            next: b,
+        } => match next_sent(s, b) {
+            Sent::Wrong(why) => Order::Wrong(why),
+            Sent::Is { bytes, room } => {
+                let call = Call::Policy { speaker, bytes };
+                Order::Call { call, room }
+            }
         },
     }
 }
@@ -236,6 +273,7 @@ fn order_by(verb: Verb, n: usize, s: &[u8], at: usize) -> Order
         Verb::Finished => counted(3, 4, n, finished_order(s, at)),
         Verb::Tick => counted(1, 1, n, inner(Call::Tick)),
         Verb::Lost => counted(1, 1, n, inner(Call::Lost)),
+        Verb::Policy => counted(3, 4, n, policy_order(s, at)),
         Verb::Card => counted(RECORD, RECORD, n, Order::Record(at)),
         Verb::Unknown => Order::Wrong(Reason::UnknownWord),
     }

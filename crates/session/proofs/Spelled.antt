@@ -1,37 +1,34 @@
--- What is written to the front of a buffer is read back from it whole: the bytes of a word fit in the buffer lent for them, and a
--- response in the one lent to the call, as the manager promises. Assumes nothing.
-use Prim.Native.Nat.{ℕ, _+_, _*_, _≤_}
+-- What is written to the front of a buffer is read back from it whole: the bytes of a word, or of two one after the other, and a
+-- response, which fits in the buffer lent to the call, as the manager promises. Assumes nothing.
+use Prim.Native.Nat.{ℕ, _+_, _-_, _*_, _≤_}
 use mathlib.Core.Path.{_≡_, sym, ap, _∙_, subst}
 use mathlib.Core.List.{List, _++_, append-assoc}
 use mathlib.Core.Bool.{Bool, true}
 use native.Mathlib.Omega.{arith}
-use lib.ListN.{length, take, drop, take-append-drop}
-use lib.Seq.{take-append-seam, take-append-le, drop-append-le, length-take-le}
-use Rattle.choice.proofs.Branches.{by-lt}
+use lib.ListN.{length, take, drop, take-append-drop, length-append, length-drop}
+use lib.Seq.{take-append-seam, drop-append-seam, drop-append-le, drop-drop, take-all, length-take-le}
 use Rattle.byte_string.specs.Put.{put, Wrote}
-use Rattle.text.specs.Hex.{spelled, spelledIn}
 use Rattle.byte_string.proofs.PutLaws.{put-front, length-put, wrote-as}
 use Rattle.card.specs.Answers.{Outcome, handed}
 use Rattle.card.specs.declared.Card.{Card}
 use Rattle.card.specs.declared.Answer.{Answer}
 use Rattle.byte_string.specs.declared.Part.{Part}
 use Rattle.byte_string.specs.Bytes.{partOf}
-use Rattle.manager.specs.Calls.{callOf}
+use Rattle.manager.specs.Calls.{Call.Policy, callOf}
 use Rattle.manager.specs.Manager.{Served}
 use Rattle.manager.specs.declared.Call as declared
+use Rattle.manager.specs.declared.Call.the-variants as code
 use Rattle.answers.specs.Explained.{mostExplained}
-use Rattle.replies.specs.Replies.{mostBytes, mostRoom, bytesOf, partIn, laid, callIn, answerText, replyOf, answerTo, mostText}
-use Rattle.session.specs.Session.{Replied}
+use Rattle.replies.specs.Replies.{mostRoom, bytesOf, bytesIn, callIn, answerText, replyOf, answerTo, mostText}
+use Rattle.session.specs.Session.{Laid, Replied}
 use Rattle.session.specs.declared.Turn.{Turn}
 
--- read back, from the buffer itself and from a longer one that it is the front of
+-- read back
 taken-put : (l vs : List ℕ) → length vs ≤ length l → take (length vs) (put l 0 vs) ≡ vs
 taken-put l vs h = ap (take (length vs)) (put-front l vs h) ∙ take-append-seam vs (drop (length vs) l)
 
-taken-front : (l vs rest : List ℕ) → length vs ≤ length l → take (length vs) (put l 0 vs ++ rest) ≡ vs
-taken-front l vs rest h =
-    let k : length vs ≤ length (put l 0 vs) = rw (length-put l 0 vs) h in
-    take-append-le (length vs) (put l 0 vs) rest k ∙ taken-put l vs h
+pub front-is : {m vs : List ℕ} {p : Part} (l : List ℕ) → length vs ≤ length l → p ≡ record { start = 0; len = length vs } → m ≡ put l 0 vs → partOf m p ≡ vs
+front-is {vs = vs} l h e f = rw (e, f) (taken-put l vs h)
 
 -- written to the front of a buffer, or to the front of its front
 front-put : (l vs : List ℕ) (n : ℕ) → n ≤ length l → length vs ≤ n → put (take n l) 0 vs ++ drop n l ≡ put l 0 vs
@@ -44,34 +41,89 @@ front-put l vs n h k =
     ∙ ap (λ (x : List ℕ). vs ++ x) (sym (drop-append-le (length vs) (take n l) (drop n l) i) ∙ ap (drop (length vs)) (take-append-drop n l))
     ∙ sym (put-front l vs j)
 
--- the bytes that a part of the line spells
-in-fits : (w : List ℕ) (room : ℕ) → length (spelledIn w room) ≤ room
-in-fits w room = by-lt (λ (x : List ℕ). length x ≤ room) room (length (spelled w)) (λ k. omega arith) (λ k. omega arith)
+-- a call known to be another
+pub still-fits : (l s : List ℕ) {x y : declared.Call} → x ≡ y → length (bytesIn s x) ≤ length l → length (bytesIn s y) ≤ length l
+still-fits l s e h = subst (λ (z : declared.Call). length (bytesIn s z) ≤ length l) e h
 
-bytes-fit : (s : List ℕ) (p : Part) → length (bytesOf s p) ≤ mostBytes
-bytes-fit s p = in-fits (partOf s p) mostBytes
+-- two byte strings, one after the other
+module _ (l us vs : List ℕ) (h : length (us ++ vs) ≤ length l) where
+  two-fit : length us + length vs ≤ length l
+  two-fit = rw (length-append us vs) at h
 
--- in a buffer for a line: the slice of so many bytes can be taken, has that size, and is those bytes
-module _ (s : List ℕ) (p : Part) (l : List ℕ) {m : List ℕ} {n : ℕ}
-    (e : (n ≡ length (bytesOf s p)) × (m ≡ put l 0 (bytesOf s p))) (size : length l ≡ mostBytes) where
-  pub word-fits : n ≤ length m
-  word-fits = rw (e .0, e .1, length-put l 0 (bytesOf s p), size) (bytes-fit s p)
+  two-are : put l 0 (us ++ vs) ≡ us ++ (vs ++ drop (length (us ++ vs)) l)
+  two-are = put-front l (us ++ vs) h ∙ append-assoc us vs (drop (length (us ++ vs)) l)
 
-  pub word-is : take n m ≡ bytesOf s p
-  word-is = rw (e .0, e .1) (taken-put l (bytesOf s p) (rw size (bytes-fit s p)))
+  first-fits : length us ≤ length l
+  first-fits = let k = two-fit in omega arith
 
-  pub word-size : n ≡ length (take n m)
-  word-size = e .0 ∙ sym (ap length word-is)
+  first-left : put l 0 us ≡ us ++ drop (length us) l
+  first-left = put-front l us first-fits
 
--- a call over those bytes, and its response in the first bytes of the buffer lent
-module _ (found : Bool) (c : Card) (s : List ℕ) (x : declared.Call) (room : ℕ) (old : List ℕ) {t new : List ℕ} {n : ℕ} {y : declared.Call} {r : Answer}
-    (h : Served (take room old) (answerTo found c (callOf t (length (take room old)) y)) r new) (over : y ≡ laid n x)
-    (same : t ≡ bytesOf s (partIn x)) (count : n ≡ length (bytesOf s (partIn x))) (size : length old ≡ mostRoom) (small : room ≤ mostRoom) where
+  second-fits : length vs ≤ length (drop (length us) (put l 0 us))
+  second-fits = let k = two-fit in rw (first-left, drop-append-seam us (drop (length us) l), length-drop (length us) l) (omega arith)
+
+  two-left : take (length us) (put l 0 us) ++ put (drop (length us) (put l 0 us)) 0 vs ≡ put l 0 (us ++ vs)
+  two-left =
+      let rest = drop (length us) l in
+      let k = two-fit in
+      let fits : length vs ≤ length rest = rw (length-drop (length us) l) (omega arith) in
+      let past : drop (length vs) rest ≡ drop (length (us ++ vs)) l = drop-drop (length vs) (length us) l ∙ ap (λ (n : ℕ). drop n l) (sym (length-append us vs)) in
+      ap (λ (x : List ℕ). take (length us) x ++ put (drop (length us) x) 0 vs) first-left
+      ∙ rw (take-append-seam us rest, drop-append-seam us rest, put-front rest vs fits, past) (sym two-are)
+
+  first-is : partOf (put l 0 (us ++ vs)) (record { start = 0; len = length us }) ≡ us
+  first-is = rw two-are (take-append-seam us (vs ++ drop (length (us ++ vs)) l))
+
+  second-is : partOf (put l 0 (us ++ vs)) (record { start = length us; len = length vs }) ≡ vs
+  second-is =
+      ap (λ (x : List ℕ). take (length vs) (drop (length us) x)) two-are
+      ∙ ap (take (length vs)) (drop-append-seam us (vs ++ drop (length (us ++ vs)) l))
+      ∙ take-append-seam vs (drop (length (us ++ vs)) l)
+
+-- a policy update, whose command is spelled into what is left of the buffer after its speaker
+pub speaker-fits : (l s : List ℕ) (speaker bytes : Part) → length (bytesIn s (code.Policy speaker bytes)) ≤ length l → length (bytesOf s speaker) ≤ length l
+speaker-fits l s speaker bytes h = first-fits l (bytesOf s speaker) (bytesOf s bytes) h
+
+module _ (l s : List ℕ) (speaker bytes : Part) (h : length (bytesIn s (code.Policy speaker bytes)) ≤ length l)
+    {m : List ℕ} {p : Part} (e : p ≡ record { start = 0; len = length (bytesOf s speaker) }) (f : m ≡ put l 0 (bytesOf s speaker)) where
+  pub left-starts : p .len ≤ length m
+  left-starts = rw (e, f, length-put l 0 (bytesOf s speaker)) (speaker-fits l s speaker bytes h)
+
+  left : take (length m - p .len) (drop (p .len) m) ≡ drop (p .len) m
+  left = take-all (length m - p .len) (drop (p .len) m) (rw (length-drop (p .len) m) (omega arith))
+
+  pub left-fits : length (bytesOf s bytes) ≤ length (take (length m - p .len) (drop (p .len) m))
+  left-fits = rw (left, e, f) (second-fits l (bytesOf s speaker) (bytesOf s bytes) h)
+
+  module _ {t : List ℕ} {q : Part} (i : q ≡ record { start = 0; len = length (bytesOf s bytes) }) (j : t ≡ put (take (length m - p .len) (drop (p .len) m)) 0 (bytesOf s bytes)) where
+    both-left : take (p .len) m ++ (t ++ drop (length m - p .len) (drop (p .len) m)) ≡ put l 0 (bytesOf s speaker ++ bytesOf s bytes)
+    both-left =
+        let n = length-drop (p .len) m in
+        let k : length (bytesOf s bytes) ≤ length (drop (p .len) m) = rw (← left) left-fits in
+        ap (λ (x : List ℕ). take (p .len) m ++ (x ++ drop (length m - p .len) (drop (p .len) m))) j
+        ∙ ap (λ (x : List ℕ). take (p .len) m ++ x) (front-put (drop (p .len) m) (bytesOf s bytes) (length m - p .len) (omega arith) (omega arith))
+        ∙ rw (e, f) (two-left l (bytesOf s speaker) (bytesOf s bytes) h)
+
+    pub update-laid : Laid l s (code.Policy speaker bytes) (code.Policy p (record { start = p .len; len = q .len })) (take (p .len) m ++ (t ++ drop (length m - p .len) (drop (p .len) m)))
+    update-laid =
+        let us = bytesOf s speaker in
+        let vs = bytesOf s bytes in
+        record {
+          same-call = λ room.
+          ap (λ (x : List ℕ). callOf x room (code.Policy p (record { start = p .len; len = q .len }))) both-left
+          ∙ rw (e, i) (ap (λ (x : List ℕ). Policy x (partOf (put l 0 (us ++ vs)) (record { start = length us; len = length vs })) room) (first-is l us vs h) ∙ ap (λ (x : List ℕ). Policy us x room) (second-is l us vs h));
+          content = both-left;
+        }
+
+-- a call over its bytes, and its response in the first bytes of the buffer lent
+module _ (found : Bool) (c : Card) (s : List ℕ) (x : declared.Call) (room : ℕ) (old : List ℕ) {l t new : List ℕ} {y : declared.Call} {r : Answer}
+    (h : Served (take room old) (answerTo found c (callOf t (length (take room old)) y)) r new) (lies : Laid l s x y t)
+    (size : length old ≡ mostRoom) (small : room ≤ mostRoom) where
   lent : length (take room old) ≡ room
   lent = length-take-le room old (omega arith)
 
   as-asked : answerTo found c (callOf t (length (take room old)) y) ≡ answerTo found c (callIn s room x)
-  as-asked = rw (over, same, count, lent)
+  as-asked = ap (λ (k : ℕ). answerTo found c (callOf t k y)) lent ∙ ap (answerTo found c) (lies .same-call room)
 
   pub answer-is : r ≡ handed (answerTo found c (callIn s room x))
   answer-is = h .0 .answer ∙ ap handed as-asked

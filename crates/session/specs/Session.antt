@@ -6,12 +6,19 @@ use mathlib.Core.Bool.{true, false}
 use lib.ListN.{length}
 use Rattle.byte_string.specs.Put.{put, Wrote}
 use Rattle.card.specs.Fresh.{zeroCard}
-use Rattle.replies.specs.Replies.{Reply, mostText}
+use Rattle.manager.specs.Calls.{callOf}
+use Rattle.manager.specs.declared.Call as declared
+use Rattle.replies.specs.Replies.{callIn, bytesIn, Reply, mostText}
 use Rattle.session.specs.declared.Turn.{Turn}
 
 -- "Calls before the first accepted `fresh` or `card` act on the record of zeros", which is not sound
 abbrev pub firstTurn : Turn
 firstTurn = record { card = zeroCard; sound = false; filled = 0; goes = true }
+
+-- a line's call over the buffer lent for its bytes: it names there the bytes that the line asks for, which stand at the front
+pub record Laid (old s : List ℕ) (x y : declared.Call) (new : List ℕ) : Type 0 where
+  pub same-call : (room : ℕ) → callOf new room y ≡ callIn s room x
+  pub content : new ≡ put old 0 (bytesIn s x)
 
 -- a line as the code hands it out: the text stands in the lent buffer from `at` on
 pub record Replied (old : List ℕ) (at : ℕ) (x : Reply) (r : Turn) (new : List ℕ) : Type 0 where

@@ -29,10 +29,11 @@ ghost use Rattle.card.specs.Answers.{handed};
 ghost use Rattle.card.specs.Fresh.{freshOutcome};
 ghost use Rattle.manager.specs.Calls.{callOf};
 ghost use Rattle.manager.specs.Manager.{Served};
+ghost use Rattle.manager.specs.declared.Call.the-variants.{Policy};
 ghost use Rattle.records.specs.Records.{onReading, recordAt};
 ghost use Rattle.answers.specs.Explained.{mostExplained};
-ghost use Rattle.replies.specs.Replies.{mostBytes, mostRoom, bytesOf, partIn, laid, callIn, recordOutcome, answerText, replyOf, firstReply, silentReply, faultReply, answerTo, lineOf, mostText};
-ghost use Rattle.session.specs.Session.{firstTurn, Replied, Used};
+ghost use Rattle.replies.specs.Replies.{mostBytes, mostRoom, bytesOf, bytesIn, callIn, recordOutcome, answerText, replyOf, firstReply, silentReply, faultReply, answerTo, lineOf, mostText};
+ghost use Rattle.session.specs.Session.{firstTurn, Laid, Replied, Used};
 
 // Where a session stands: its card, whether that card is known to be sound, up to where the lent buffer is filled, and whether the run
 // goes on. Soundness is asked where a card is handed in, and kept: every call leaves a sound card sound. Where it is not known, each
@@ -59,53 +60,59 @@ impl Turn {
     }
 }
 
-// A byte string of a line has at most so many bytes.
+// The byte strings of a line's call have together at most so many bytes.
 pub const MOST: usize = 2048;
 
 // The largest response buffer that a line may ask for.
 pub const ROOM: usize = 1024;
 
-// The bytes that a part of the line spells, and how many there are.
-fn spell(s: &[u8], part: Part, out: &mut [u8]) -> usize
-    requires { ⌜ length (now out) ≡ mostBytes ⌝ }
-    ensures { λ r. ⌜ (r ≡ length (bytesOf (now (s .entry)) part)) × (now (out .exit) ≡ put (now (out .entry)) 0 (bytesOf (now (s .entry)) part)) ⌝ }
+// The bytes that a part of the line spells, written to the front of a lent buffer: the part of the buffer that they are then.
+fn spell(s: &[u8], part: Part, out: &mut [u8]) -> Part
+    requires { ⌜ length (bytesOf (now s) part) ≤ length (now out) ⌝ }
+    ensures { λ r. ⌜ (r ≡ record { start = 0; len = length (bytesOf (now (s .entry)) part) }) × (now (out .exit) ≡ put (now (out .entry)) 0 (bytesOf (now (s .entry)) part)) ⌝ }
 {
-    spell_hex(part_of(s, part), out)
+    let n = spell_hex(part_of(s, part), out);
+    Part { start: 0, len: n }
 }
 
-// The part that a call names; a tick and a lost network name none.
-fn part_in(call: Call) -> Part
-    ensures { λ r. ⌜ r ≡ partIn call ⌝ }
+// A policy update over the buffer: the speaker first, and the command after it.
+fn lay_update(s: &[u8], speaker: Part, bytes: Part, out: &mut [u8]) -> Call
+    requires { ⌜ length (bytesIn (now s) (Policy speaker bytes)) ≤ length (now out) ⌝ }
+    ensures { λ r. ⌜ Laid (now (out .entry)) (now (s .entry)) (Policy speaker bytes) r (now (out .exit)) ⌝ }
 {
-    match call {
-        Call::Command { bytes, .. } => bytes,
-        Call::Keyed(aid) => aid,
-        Call::Stored { aid, .. } => aid,
-        Call::Finished { aid, .. } => aid,
-        Call::Tick => Part { start: 0, len: 0 },
-        Call::Lost => Part { start: 0, len: 0 },
+    let first = spell(s, speaker, out);
+    let m = first.len;
+    let second = spell(s, bytes, &mut out[m..]);
+    let n = second.len;
+    Call::Policy {
+        speaker: first,
+        bytes: Part { start: m, len: n },
     }
 }
 
-// The same call over the first bytes of a buffer.
-fn laid(n: usize, call: Call) -> Call
-    ensures { λ r. ⌜ r ≡ laid n call ⌝ }
+// The line's call over the buffer that the bytes of its words are written to.
+fn lay(s: &[u8], call: Call, out: &mut [u8]) -> Call
+    requires { ⌜ length (bytesIn (now s) call) ≤ length (now out) ⌝ }
+    ensures { λ r. ⌜ Laid (now (out .entry)) (now (s .entry)) call r (now (out .exit)) ⌝ }
 {
-    let front = Part { start: 0, len: n };
     match call {
-        Call::Command { verdict, .. } => Call::Command {
+        Call::Command { verdict, bytes } => Call::Command {
             verdict,
-            bytes: front,
+            bytes: spell(s, bytes, out),
         },
-        Call::Keyed(_) => Call::Keyed(front),
-        Call::Stored { n, .. } => Call::Stored { aid: front, n },
-        Call::Finished { policy, mark, .. } => Call::Finished {
-            aid: front,
+        Call::Keyed(aid) => Call::Keyed(spell(s, aid, out)),
+        Call::Stored { aid, n } => Call::Stored {
+            aid: spell(s, aid, out),
+            n,
+        },
+        Call::Finished { aid, policy, mark } => Call::Finished {
+            aid: spell(s, aid, out),
             policy,
             mark,
         },
         Call::Tick => Call::Tick,
         Call::Lost => Call::Lost,
+        Call::Policy { speaker, bytes } => lay_update(s, speaker, bytes, out),
     }
 }
 
@@ -118,13 +125,21 @@ fn fresh(
     used: u32,
     volatile: u32,
 ) -> Answer
+    requires { ⌜ (length (bytesOf (now s) eid) ≤ mostBytes) × (length (bytesOf (now s) aid) ≤ mostBytes) ⌝ }
     ensures { λ r. ⌜ r ≡ handed (freshOutcome (bytesOf (now (s .entry)) eid) (bytesOf (now (s .entry)) aid) capacity quota used volatile) ⌝ }
 {
     let mut first = [0u8; MOST];
     let m = spell(s, eid, &mut first);
     let mut second = [0u8; MOST];
     let n = spell(s, aid, &mut second);
-    manager::fresh(&first[..m], &second[..n], capacity, quota, used, volatile)
+    manager::fresh(
+        part_of(&first, m),
+        part_of(&second, n),
+        capacity,
+        quota,
+        used,
+        volatile,
+    )
 }
 
 // Any record, handed in as the card.
@@ -187,18 +202,12 @@ fn call_reply(
     response: &mut [u8],
     out: &mut [u8],
 ) -> Turn
-    requires { ⌜ (room ≤ mostRoom) × ((length (now bytes) ≡ mostBytes) × (length (now response) ≡ mostRoom)) ⌝ }
-    ensures { λ r. ⌜ Replied (now (out .entry)) (turn .filled) (replyOf explain (turn .sound) (bytesOf (now (s .entry)) (partIn call)) (answerTo (turn .sound) (turn .card) (callIn (now (s .entry)) room call))) r (now (out .exit)) × Used (now (bytes .entry)) (now (response .entry)) (replyOf explain (turn .sound) (bytesOf (now (s .entry)) (partIn call)) (answerTo (turn .sound) (turn .card) (callIn (now (s .entry)) room call))) (now (bytes .exit)) (now (response .exit)) ⌝ }
+    requires { ⌜ ((length (bytesIn (now s) call) ≤ mostBytes) × (room ≤ mostRoom)) × ((length (now bytes) ≡ mostBytes) × (length (now response) ≡ mostRoom)) ⌝ }
+    ensures { λ r. ⌜ Replied (now (out .entry)) (turn .filled) (replyOf explain (turn .sound) (bytesIn (now (s .entry)) call) (answerTo (turn .sound) (turn .card) (callIn (now (s .entry)) room call))) r (now (out .exit)) × Used (now (bytes .entry)) (now (response .entry)) (replyOf explain (turn .sound) (bytesIn (now (s .entry)) call) (answerTo (turn .sound) (turn .card) (callIn (now (s .entry)) room call))) (now (bytes .exit)) (now (response .exit)) ⌝ }
 {
     let card = turn.card;
-    let n = spell(s, part_in(call), bytes);
-    let answer = answer_to(
-        turn.sound,
-        card,
-        laid(n, call),
-        &bytes[..n],
-        &mut response[..room],
-    );
+    let laid = lay(s, call, bytes);
+    let answer = answer_to(turn.sound, card, laid, bytes, &mut response[..room]);
     let length = answer.length;
     let filled = write_text(explain, answer, &response[..length], out, turn.filled);
     let after = answer.card;

@@ -71,11 +71,20 @@ counted-requires-7 c κs = search needs
 enum-told-8 : tie.Need-enum-told-8
 enum-told-8 c = search needs
 
+policy-order-requires : tie.Need-policy-order-requires
+policy-order-requires c κs = search needs
+
 counted-requires-8 : tie.Need-counted-requires-8
 counted-requires-8 c κs = search needs
 
 enum-told-9 : tie.Need-enum-told-9
 enum-told-9 c = search needs
+
+counted-requires-9 : tie.Need-counted-requires-9
+counted-requires-9 c κs = search needs
+
+enum-told-10 : tie.Need-enum-told-10
+enum-told-10 c = search needs
 
 returns : tie.Need-returns
 unfolding orderBy
@@ -107,11 +116,15 @@ returns-7 c = rw (c .before .before .enum-told7 .given .1, ← (c .before .inner
 
 returns-8 : tie.Need-returns-8
 unfolding orderBy
-returns-8 c = rw (c .before .enum-told8 .given .1) (c .counted8 .ensures)
+returns-8 c = rw (c .before .before .enum-told8 .given .1, ← (c .before .policy-order .ensures)) (c .counted8 .ensures)
 
 returns-9 : tie.Need-returns-9
 unfolding orderBy
-returns-9 c = rw (c .enum-told9 .given .1) refl
+returns-9 c = rw (c .before .enum-told9 .given .1) (c .counted9 .ensures)
+
+returns-10 : tie.Need-returns-10
+unfolding orderBy
+returns-10 c = rw (c .enum-told10 .given .1) refl
 
 pub order-by-spec : {M : Type 1} → statement M
 order-by-spec =
@@ -139,8 +152,11 @@ order-by-spec =
     inner-requires-2
     counted-requires-7
     enum-told-8
+    policy-order-requires
     counted-requires-8
     enum-told-9
+    counted-requires-9
+    enum-told-10
     returns
     returns-2
     returns-3
@@ -149,4 +165,5 @@ order-by-spec =
     returns-6
     returns-7
     returns-8
-    returns-9)
+    returns-9
+    returns-10)

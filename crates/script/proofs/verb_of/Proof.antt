@@ -86,9 +86,55 @@ returns-8 : tie.Need-returns-8
 unfolding verbOf
 returns-8 c = no! _ (sym (c .before .before .before .before .before .before .before .before .before .before .before .before .before .before .before .before .before .before .before .before .before .before .same .ensures) ∙ c .before .before .before .before .before .before .before .before .before .before .before .before .before .before .before .before .before .before .before .before .before .if1 .left) (no! _ (sym (c .before .before .before .before .before .before .before .before .before .before .before .before .before .before .before .before .before .before .before .same2 .ensures) ∙ c .before .before .before .before .before .before .before .before .before .before .before .before .before .before .before .before .before .before .if2 .left) (no! _ (sym (c .before .before .before .before .before .before .before .before .before .before .before .before .before .before .before .before .same3 .ensures) ∙ c .before .before .before .before .before .before .before .before .before .before .before .before .before .before .before .if3 .left) (no! _ (sym (c .before .before .before .before .before .before .before .before .before .before .before .before .before .same4 .ensures) ∙ c .before .before .before .before .before .before .before .before .before .before .before .before .if4 .left) (no! _ (sym (c .before .before .before .before .before .before .before .before .before .before .same5 .ensures) ∙ c .before .before .before .before .before .before .before .before .before .if5 .left) (no! _ (sym (c .before .before .before .before .before .before .before .same6 .ensures) ∙ c .before .before .before .before .before .before .if6 .left) (no! _ (sym (c .before .before .before .before .same7 .ensures) ∙ c .before .before .before .if7 .left) (yes! _ (sym (c .before .same8 .ensures) ∙ c .if8 .taken) refl)))))))
 
+slice-aggregate-same-9 : tie.Need-slice-aggregate-same-9
+slice-aggregate-same-9 c = search needs
+
+same-requires-9 : tie.Need-same-requires-9
+same-requires-9 c κs = search needs
+
 returns-9 : tie.Need-returns-9
 unfolding verbOf
-returns-9 c = no! _ (sym (c .before .before .before .before .before .before .before .before .before .before .before .before .before .before .before .before .before .before .before .before .before .before .same .ensures) ∙ c .before .before .before .before .before .before .before .before .before .before .before .before .before .before .before .before .before .before .before .before .before .if1 .left) (no! _ (sym (c .before .before .before .before .before .before .before .before .before .before .before .before .before .before .before .before .before .before .before .same2 .ensures) ∙ c .before .before .before .before .before .before .before .before .before .before .before .before .before .before .before .before .before .before .if2 .left) (no! _ (sym (c .before .before .before .before .before .before .before .before .before .before .before .before .before .before .before .before .same3 .ensures) ∙ c .before .before .before .before .before .before .before .before .before .before .before .before .before .before .before .if3 .left) (no! _ (sym (c .before .before .before .before .before .before .before .before .before .before .before .before .before .same4 .ensures) ∙ c .before .before .before .before .before .before .before .before .before .before .before .before .if4 .left) (no! _ (sym (c .before .before .before .before .before .before .before .before .before .before .same5 .ensures) ∙ c .before .before .before .before .before .before .before .before .before .if5 .left) (no! _ (sym (c .before .before .before .before .before .before .before .same6 .ensures) ∙ c .before .before .before .before .before .before .if6 .left) (no! _ (sym (c .before .before .before .before .same7 .ensures) ∙ c .before .before .before .if7 .left) (no! _ (sym (c .before .same8 .ensures) ∙ c .if8 .left) refl)))))))
+returns-9 c =
+    let w9 = c in
+    let w8 = w9 .before .before .before in
+    let w7 = w8 .before .before .before in
+    let w6 = w7 .before .before .before in
+    let w5 = w6 .before .before .before in
+    let w4 = w5 .before .before .before in
+    let w3 = w4 .before .before .before in
+    let w2 = w3 .before .before .before in
+    let w1 = w2 .before .before .before in
+    no! _ (sym (w1 .before .same .ensures) ∙ w1 .if1 .left)
+    (no! _ (sym (w2 .before .same2 .ensures) ∙ w2 .if2 .left)
+    (no! _ (sym (w3 .before .same3 .ensures) ∙ w3 .if3 .left)
+    (no! _ (sym (w4 .before .same4 .ensures) ∙ w4 .if4 .left)
+    (no! _ (sym (w5 .before .same5 .ensures) ∙ w5 .if5 .left)
+    (no! _ (sym (w6 .before .same6 .ensures) ∙ w6 .if6 .left)
+    (no! _ (sym (w7 .before .same7 .ensures) ∙ w7 .if7 .left)
+    (no! _ (sym (w8 .before .same8 .ensures) ∙ w8 .if8 .left)
+    (yes! _ (sym (w9 .before .same9 .ensures) ∙ w9 .if9 .taken) refl))))))))
+
+returns-10 : tie.Need-returns-10
+unfolding verbOf
+returns-10 c =
+    let w9 = c in
+    let w8 = w9 .before .before .before in
+    let w7 = w8 .before .before .before in
+    let w6 = w7 .before .before .before in
+    let w5 = w6 .before .before .before in
+    let w4 = w5 .before .before .before in
+    let w3 = w4 .before .before .before in
+    let w2 = w3 .before .before .before in
+    let w1 = w2 .before .before .before in
+    no! _ (sym (w1 .before .same .ensures) ∙ w1 .if1 .left)
+    (no! _ (sym (w2 .before .same2 .ensures) ∙ w2 .if2 .left)
+    (no! _ (sym (w3 .before .same3 .ensures) ∙ w3 .if3 .left)
+    (no! _ (sym (w4 .before .same4 .ensures) ∙ w4 .if4 .left)
+    (no! _ (sym (w5 .before .same5 .ensures) ∙ w5 .if5 .left)
+    (no! _ (sym (w6 .before .same6 .ensures) ∙ w6 .if6 .left)
+    (no! _ (sym (w7 .before .same7 .ensures) ∙ w7 .if7 .left)
+    (no! _ (sym (w8 .before .same8 .ensures) ∙ w8 .if8 .left)
+    (no! _ (sym (w9 .before .same9 .ensures) ∙ w9 .if9 .left) refl))))))))
 
 pub verb-of-spec : {M : Type 1} → statement M
 verb-of-spec =
@@ -118,4 +164,7 @@ verb-of-spec =
     slice-aggregate-same-8
     same-requires-8
     returns-8
-    returns-9)
+    slice-aggregate-same-9
+    same-requires-9
+    returns-9
+    returns-10)

@@ -1,116 +1,89 @@
--- `session::call_reply`: the slice handed on is the bytes of the word, and the response is what stands at the front of the buffer lent.
-use mathlib.Core.Path.{refl, sym, ap, _∙_}
-use lib.ListN.{length}
+-- `session::call_reply`: the call is answered over the bytes that are laid, and the response is what stands at the front of the buffer lent.
+use mathlib.Core.Path.{refl, sym}
 use lib.Seq.{length-take-le}
 use native.Mathlib.Omega.{arith}
 use denote.Ref.{now}
-use Rattle.byte_string.specs.Put.{put}
-use Rattle.byte_string.specs.declared.Part.{Part}
-use Rattle.replies.specs.Replies.{bytesOf, partIn, callIn, answerTo}
-use Rattle.session.proofs.Spelled.{word-fits, word-is, word-size, answer-is, response-left, response-is, response-size, response-fits, text-short, replied}
+use Rattle.replies.specs.Replies.{bytesIn, callIn, answerTo}
+use Rattle.session.proofs.Spelled.{answer-is, response-left, response-is, response-size, response-fits, text-short, replied}
 use borrow.Author.Needs.{needs}
 use Rattle.session.proofs.call_reply.Statement.{statement}
 use Rattle.session.proofs.call_reply.Tie as tie
 
-part-in-requires : tie.Need-part-in-requires
-part-in-requires c κs = search needs
+abbrev start : tie.After-card → tie.Start
+start c = c .before .before .before .before .before
 
-spell-requires : tie.Need-spell-requires
-spell-requires c κs = search needs
+-- where the call was laid, from where it was answered
+abbrev laid : tie.After-answer-to → tie.After-lay
+laid o = o .before .before .before .before .before
 
-laid-requires : tie.Need-laid-requires
-laid-requires c κs = search needs
-
-slice-reshare-prefix-answer-to : tie.Need-slice-reshare-prefix-answer-to
-slice-reshare-prefix-answer-to c = let a = c .before .before .before .before .before .before .before .before .before .before .before .args in
-    let wide = c .before .before .before .before .before .before .before .before .before .before .before .pre .1 .0 in
-    word-fits (now (a .s)) (c .before .before .before .before .before .part-in .result) _ (c .before .before .before .spell .ensures) wide
-
-slice-aggregate-answer-to : tie.Need-slice-aggregate-answer-to
-slice-aggregate-answer-to c = let a = c .before .before .before .before .before .before .before .before .before .before .before .before .args in
-    let wide = c .before .before .before .before .before .before .before .before .before .before .before .before .pre .1 .0 in
-    word-size (now (a .s)) (c .before .before .before .before .before .before .part-in .result) _ (c .before .before .before .before .spell .ensures) wide
+lay-requires : tie.Need-lay-requires
+lay-requires c κs =
+    let s = start (c .before) in
+    let fits = s .pre .0 .0 in
+    let wide = s .pre .1 .0 in
+    omega arith
 
 slice-relend-prefix-answer-to : tie.Need-slice-relend-prefix-answer-to
 slice-relend-prefix-answer-to c = search needs
 
-slice-aggregate-answer-to-2 : tie.Need-slice-aggregate-answer-to-2
-slice-aggregate-answer-to-2 c = let a = c .before .before .before .before .before .before .before .before .before .before .before .before .before .args in
-    let small = c .before .before .before .before .before .before .before .before .before .before .before .before .before .pre .0 in
-    let size = c .before .before .before .before .before .before .before .before .before .before .before .before .before .pre .1 .1 in
-    sym (length-take-le (a .room) _ (omega arith))
-
-answer-to-requires : tie.Need-answer-to-requires
-answer-to-requires c κs = search needs
+slice-aggregate-answer-to : tie.Need-slice-aggregate-answer-to
+slice-aggregate-answer-to c =
+    let s = start (c .before .before .before .before .before .before) in
+    let small = s .pre .0 .1 in
+    let size = s .pre .1 .1 in
+    sym (length-take-le (s .args .room) _ (omega arith))
 
 slice-reshare-prefix-write-text : tie.Need-slice-reshare-prefix-write-text
-slice-reshare-prefix-write-text c = let a = c .before .before .before .before .before .before .before .before .before .before .before .before .before .before .before .before .args in
-    let small = c .before .before .before .before .before .before .before .before .before .before .before .before .before .before .before .before .pre .0 in
-    let wide = c .before .before .before .before .before .before .before .before .before .before .before .before .before .before .before .before .pre .1 .0 in
-    let size = c .before .before .before .before .before .before .before .before .before .before .before .before .before .before .before .before .pre .1 .1 in
-    let part = c .before .before .before .before .before .before .before .before .before .before .part-in .ensures in
-    let spelt = c .before .before .before .before .before .before .before .before .spell .ensures in
-    let same = word-is (now (a .s)) (c .before .before .before .before .before .before .before .before .before .before .part-in .result) _ spelt wide ∙ ap (bytesOf (now (a .s))) part in
-    let count = spelt .0 ∙ ap (λ (p : Part). length (bytesOf (now (a .s)) p)) part in
-    response-fits (a .turn .sound) (a .turn .card) (now (a .s)) (a .call) (a .room) (now (a .response)) (c .before .before .answer-to .ensures) (c .before .before .before .before .before .laid .ensures) same count size small
+slice-reshare-prefix-write-text c =
+    let o = c .before .before in
+    let k = laid o in
+    let s = start (k .before .before) in
+    let a = s .args in
+    response-fits (a .turn .sound) (a .turn .card) (now (a .s)) (a .call) (a .room) (now (a .response)) (o .answer-to .ensures) (k .lay .ensures) (s .pre .1 .1) (s .pre .0 .1)
 
 slice-aggregate-write-text : tie.Need-slice-aggregate-write-text
-slice-aggregate-write-text c = let a = c .before .before .before .before .before .before .before .before .before .before .before .before .before .before .before .before .before .args in
-    let small = c .before .before .before .before .before .before .before .before .before .before .before .before .before .before .before .before .before .pre .0 in
-    let wide = c .before .before .before .before .before .before .before .before .before .before .before .before .before .before .before .before .before .pre .1 .0 in
-    let size = c .before .before .before .before .before .before .before .before .before .before .before .before .before .before .before .before .before .pre .1 .1 in
-    let part = c .before .before .before .before .before .before .before .before .before .before .before .part-in .ensures in
-    let spelt = c .before .before .before .before .before .before .before .before .before .spell .ensures in
-    let same = word-is (now (a .s)) (c .before .before .before .before .before .before .before .before .before .before .before .part-in .result) _ spelt wide ∙ ap (bytesOf (now (a .s))) part in
-    let count = spelt .0 ∙ ap (λ (p : Part). length (bytesOf (now (a .s)) p)) part in
-    response-size (a .turn .sound) (a .turn .card) (now (a .s)) (a .call) (a .room) (now (a .response)) (c .before .before .before .answer-to .ensures) (c .before .before .before .before .before .before .laid .ensures) same count size small
-
-write-text-requires : tie.Need-write-text-requires
-write-text-requires c κs = search needs
-
-same-length : tie.Need-same-length
-same-length c = search needs
-
-same-length-2 : tie.Need-same-length-2
-same-length-2 c = search needs
-
-same-length-3 : tie.Need-same-length-3
-same-length-3 c = search needs
+slice-aggregate-write-text c =
+    let o = c .before .before .before in
+    let k = laid o in
+    let s = start (k .before .before) in
+    let a = s .args in
+    response-size (a .turn .sound) (a .turn .card) (now (a .s)) (a .call) (a .room) (now (a .response)) (o .answer-to .ensures) (k .lay .ensures) (s .pre .1 .1) (s .pre .0 .1)
 
 returns : tie.Need-returns
-returns c = let a = c .before .before .before .before .before .before .before .before .before .before .before .before .before .before .before .before .before .before .before .before .before .before .args in
-    let small = c .before .before .before .before .before .before .before .before .before .before .before .before .before .before .before .before .before .before .before .before .before .before .pre .0 in
-    let wide = c .before .before .before .before .before .before .before .before .before .before .before .before .before .before .before .before .before .before .before .before .before .before .pre .1 .0 in
-    let size = c .before .before .before .before .before .before .before .before .before .before .before .before .before .before .before .before .before .before .before .before .before .before .pre .1 .1 in
-    let part = c .before .before .before .before .before .before .before .before .before .before .before .before .before .before .before .before .part-in .ensures in
-    let spelt = c .before .before .before .before .before .before .before .before .before .before .before .before .before .before .spell .ensures in
-    let same = word-is (now (a .s)) (c .before .before .before .before .before .before .before .before .before .before .before .before .before .before .before .before .part-in .result) _ spelt wide ∙ ap (bytesOf (now (a .s))) part in
-    let count = spelt .0 ∙ ap (λ (p : Part). length (bytesOf (now (a .s)) p)) part in
-    let bytes = ap (bytesOf (now (a .s))) part in (
-      replied (a .explain) (a .turn .sound) (bytesOf (now (a .s)) (partIn (a .call))) (answerTo (a .turn .sound) (a .turn .card) (callIn (now (a .s)) (a .room) (a .call)))
-          (answer-is (a .turn .sound) (a .turn .card) (now (a .s)) (a .call) (a .room) (now (a .response)) (c .before .before .before .before .before .before .before .before .answer-to .ensures) (c .before .before .before .before .before .before .before .before .before .before .before .laid .ensures) same count size small)
-          (response-is (a .turn .sound) (a .turn .card) (now (a .s)) (a .call) (a .room) (now (a .response)) (c .before .before .before .before .before .before .before .before .answer-to .ensures) (c .before .before .before .before .before .before .before .before .before .before .before .laid .ensures) same count size small)
-          refl refl refl (c .before .before .before .write-text .ensures .0)
-          (text-short (a .turn .sound) (a .turn .card) (now (a .s)) (a .call) (a .room) (now (a .response)) (c .before .before .before .before .before .before .before .before .answer-to .ensures) (c .before .before .before .before .before .before .before .before .before .before .before .laid .ensures) same count size small _ (c .before .before .before .write-text .ensures .1)),
-      record { left-bytes = spelt .1 ∙ ap (put (now (a .bytes)) 0) bytes; left-response = response-left (a .turn .sound) (a .turn .card) (now (a .s)) (a .call) (a .room) (now (a .response)) (c .before .before .before .before .before .before .before .before .answer-to .ensures) (c .before .before .before .before .before .before .before .before .before .before .before .laid .ensures) same count size small },
+returns c =
+    let w = c .before .before .before in
+    let o = w .before .before .before .before .before in
+    let k = laid o in
+    let s = start (k .before .before) in
+    let a = s .args in
+    let found = a .turn .sound in
+    let card = a .turn .card in
+    let line = now (a .s) in
+    let old = now (a .response) in
+    let served = o .answer-to .ensures in
+    let lies = k .lay .ensures in
+    let size = s .pre .1 .1 in
+    let small = s .pre .0 .1 in (
+      replied (a .explain) found (bytesIn line (a .call)) (answerTo found card (callIn line (a .room) (a .call)))
+          (answer-is found card line (a .call) (a .room) old served lies size small)
+          (response-is found card line (a .call) (a .room) old served lies size small)
+          refl refl refl (w .write-text .ensures .0)
+          (text-short found card line (a .call) (a .room) old served lies size small _ (w .write-text .ensures .1)),
+      record { left-bytes = lies .content; left-response = response-left found card line (a .call) (a .room) old served lies size small },
     )
 
 pub call-reply-spec : {M : Type 1} → statement M
 call-reply-spec =
     tie.close
     (tie.spec
-    part-in-requires
-    spell-requires
-    laid-requires
-    slice-reshare-prefix-answer-to
-    slice-aggregate-answer-to
+    lay-requires
     slice-relend-prefix-answer-to
-    slice-aggregate-answer-to-2
-    answer-to-requires
+    slice-aggregate-answer-to
+    (λ c κs. search needs)
     slice-reshare-prefix-write-text
     slice-aggregate-write-text
-    write-text-requires
-    same-length
-    same-length-2
-    same-length-3
+    (λ c κs. search needs)
+    (λ c. search needs)
+    (λ c. search needs)
+    (λ c. search needs)
     returns)

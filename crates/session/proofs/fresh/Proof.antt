@@ -1,11 +1,10 @@
--- `session::fresh`: the slices handed on are the bytes of the two words.
-use mathlib.Core.Path.{_≡_, refl, ap, _∙_}
+-- `session::fresh`: the byte strings handed on are the bytes of the two words.
+use mathlib.Core.Path.{_≡_, ap, _∙_}
 use mathlib.Core.List.{List}
 use Prim.Native.Nat.{ℕ}
-use denote.Ref.{now}
 use Rattle.card.specs.Answers.{handed}
 use Rattle.card.specs.Fresh.{freshOutcome}
-use Rattle.session.proofs.Spelled.{word-fits, word-is, word-size}
+use Rattle.session.proofs.Spelled.{front-is}
 use borrow.Author.Needs.{needs}
 use Rattle.session.proofs.fresh.Statement.{statement}
 use Rattle.session.proofs.fresh.Tie as tie
@@ -20,34 +19,38 @@ slice-aggregate-spell : tie.Need-slice-aggregate-spell
 slice-aggregate-spell c = search needs
 
 spell-requires : tie.Need-spell-requires
-spell-requires c κs = search needs
+spell-requires c κs = c .before .before .pre .0
 
 slice-aggregate-spell-2 : tie.Need-slice-aggregate-spell-2
 slice-aggregate-spell-2 c = search needs
 
 spell-requires-2 : tie.Need-spell-requires-2
-spell-requires-2 c κs = search needs
+spell-requires-2 c κs = c .before .before .before .before .before .pre .1
 
-array-share-prefix-first : tie.Need-array-share-prefix-first
-array-share-prefix-first c = let a = c .before .before .before .before .before .before .before .args in word-fits (now (a .s)) (a .eid) _ (c .before .before .before .before .spell .ensures) refl
+slice-aggregate-part-of : tie.Need-slice-aggregate-part-of
+slice-aggregate-part-of c = search needs
 
-slice-aggregate-fresh : tie.Need-slice-aggregate-fresh
-slice-aggregate-fresh c = let a = c .before .before .before .before .before .before .before .before .args in word-size (now (a .s)) (a .eid) _ (c .before .before .before .before .before .spell .ensures) refl
+part-of-requires : tie.Need-part-of-requires
+part-of-requires c κs = search needs
 
-array-share-prefix-second : tie.Need-array-share-prefix-second
-array-share-prefix-second c = let a = c .before .before .before .before .before .before .before .before .args in word-fits (now (a .s)) (a .aid) _ (c .before .before .spell2 .ensures) refl
+slice-aggregate-part-of-2 : tie.Need-slice-aggregate-part-of-2
+slice-aggregate-part-of-2 c = search needs
 
-slice-aggregate-fresh-2 : tie.Need-slice-aggregate-fresh-2
-slice-aggregate-fresh-2 c = let a = c .before .before .before .before .before .before .before .before .before .args in word-size (now (a .s)) (a .aid) _ (c .before .before .before .spell2 .ensures) refl
+part-of-requires-2 : tie.Need-part-of-requires-2
+part-of-requires-2 c κs = search needs
 
 fresh-requires : tie.Need-fresh-requires
 fresh-requires c κs = search needs
 
 returns : tie.Need-returns
-returns c = let a = c .before .before .before .before .before .before .before .before .before .before .args in
-    let eid = word-is (now (a .s)) (a .eid) _ (c .before .before .before .before .before .before .before .spell .ensures) refl in
-    let aid = word-is (now (a .s)) (a .aid) _ (c .before .before .before .before .spell2 .ensures) refl in
-    c .fresh .ensures ∙ same-fresh (a .capacity) (a .quota) (a .used) (a .volatile) eid aid
+returns c =
+    let first = c .before .before .before in
+    let second-spelt = first .before .before .before in
+    let first-spelt = second-spelt .before .before .before in
+    let s = first-spelt .before .before .before in
+    let eid = first .part-of .ensures ∙ front-is _ (s .pre .0) (first-spelt .spell .ensures .0) (first-spelt .spell .ensures .1) in
+    let aid = c .before .part-of2 .ensures ∙ front-is _ (s .pre .1) (second-spelt .spell2 .ensures .0) (second-spelt .spell2 .ensures .1) in
+    c .fresh .ensures ∙ same-fresh (s .args .capacity) (s .args .quota) (s .args .used) (s .args .volatile) eid aid
 
 pub fresh-spec : {M : Type 1} → statement M
 fresh-spec =
@@ -57,9 +60,9 @@ fresh-spec =
     spell-requires
     slice-aggregate-spell-2
     spell-requires-2
-    array-share-prefix-first
-    slice-aggregate-fresh
-    array-share-prefix-second
-    slice-aggregate-fresh-2
+    slice-aggregate-part-of
+    part-of-requires
+    slice-aggregate-part-of-2
+    part-of-requires-2
     fresh-requires
     returns)

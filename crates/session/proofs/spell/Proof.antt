@@ -1,12 +1,13 @@
--- `session::spell`: what is spelled is the part's bytes, in a buffer of 2,048.
-use mathlib.Core.Path.{_≡_, ap, _∙_}
+-- `session::spell`: the part's bytes have room, so what is spelled is all of them.
+use mathlib.Core.Path.{_≡_, refl, ap, sym, _∙_}
 use Prim.Native.Nat.{ℕ}
 use mathlib.Core.List.{List}
 use lib.ListN.{length}
+use Rattle.choice.proofs.Branches.{nlt!}
 use Rattle.byte_string.specs.Put.{put}
-use Rattle.text.specs.Hex.{spelledIn}
 use Rattle.byte_string.specs.Bytes.{partOf}
-use Rattle.replies.specs.Replies.{mostBytes}
+use Rattle.byte_string.specs.declared.Part.{Part}
+use Rattle.text.specs.Hex.{spelled, spelledIn}
 use borrow.Author.Needs.{needs}
 use Rattle.session.proofs.spell.Statement.{statement}
 use Rattle.session.proofs.spell.Tie as tie
@@ -22,10 +23,12 @@ same-length c = search needs
 
 returns : tie.Need-returns
 returns c = let s = c .before .before .before .before .before .before .before in
+    let old = s .args .out .now in
     let w = partOf (s .args .s .now) (s .args .part) in
-    let m : length (s .args .out .now) ≡ mostBytes = search needs in
-    let both = ap (λ (l : List ℕ). spelledIn l (length (s .args .out .now))) (c .before .before .before .before .part-of .ensures) ∙ ap (spelledIn w) m in
-    (c .before .before .spell-hex .ensures .0 ∙ ap length both, c .before .before .spell-hex .ensures .1 ∙ ap (put (s .args .out .now) 0) both)
+    let whole : spelled w ≡ spelledIn w (length old) = nlt! _ (s .pre) refl in
+    let both = ap (λ (l : List ℕ). spelledIn l (length old)) (c .before .before .before .before .part-of .ensures) ∙ sym whole in
+    let front : ℕ → Part = λ n. record { start = 0; len = n } in
+    (ap front (c .before .before .spell-hex .ensures .0 ∙ ap length both), c .before .before .spell-hex .ensures .1 ∙ ap (put old 0) both)
 
 pub spell-spec : {M : Type 1} → statement M
 spell-spec = tie.close (tie.spec part-of-requires spell-hex-requires same-length returns)

@@ -3,7 +3,7 @@ use mathlib.Core.Path.{refl, ap, sym, _∙_}
 use native.Mathlib.Omega.{arith}
 use denote.Ref.{now}
 use Rattle.byte_string.proofs.PutLaws.{wrote-none}
-use Rattle.script.proofs.Fits.{orders-fit}
+use Rattle.replies.proofs.Room.{nothing-cut}
 use Rattle.records.specs.Records.{recordAt}
 use Rattle.session.specs.declared.Turn.{Turn}
 use Rattle.session.proofs.Silent.{fresh-silent, first-replied, fault-replied, unused, record-unused, as-ordered}
@@ -24,7 +24,7 @@ enum-known-order : tie.Need-enum-known-order
 enum-known-order c = search needs
 
 fresh-requires : tie.Need-fresh-requires
-fresh-requires c κs = search needs
+fresh-requires c κs = nothing-cut _ _ (sym (c .before .order .given .1) ∙ c .before .before .before .read-line .ensures)
 
 first-reply-requires : tie.Need-first-reply-requires
 first-reply-requires c κs = search needs
@@ -33,7 +33,7 @@ enum-known-order-2 : tie.Need-enum-known-order-2
 enum-known-order-2 c = search needs
 
 call-reply-requires : tie.Need-call-reply-requires
-call-reply-requires c κs = (orders-fit _ _ (sym (c .before .before .before .before .order2 .given .1) ∙ c .before .before .before .before .before .before .read-line .ensures) .1, search needs)
+call-reply-requires c κs = (nothing-cut _ _ (sym (c .before .before .before .before .order2 .given .1) ∙ c .before .before .before .before .before .before .read-line .ensures), search needs)
 
 same-length : tie.Need-same-length
 same-length c = search needs

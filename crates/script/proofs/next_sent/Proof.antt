@@ -1,0 +1,58 @@
+-- `script::next_sent` meets its contract: the bytes, then the length.
+use mathlib.Core.Path.{refl, sym, _∙_}
+use Rattle.script.specs.Orders.{sentAt}
+use borrow.Author.Needs.{needs}
+use Rattle.script.proofs.next_sent.Statement.{statement}
+use Rattle.script.proofs.next_sent.Tie as tie
+
+next-bytes-requires : tie.Need-next-bytes-requires
+next-bytes-requires c κs = search needs
+
+enum-known-why : tie.Need-enum-known-why
+enum-known-why c = search needs
+
+enum-known-bytes : tie.Need-enum-known-bytes
+enum-known-bytes c = search needs
+
+next-or-requires : tie.Need-next-or-requires
+next-or-requires c κs = search needs
+
+enum-known-why-2 : tie.Need-enum-known-why-2
+enum-known-why-2 c = search needs
+
+enum-known-n : tie.Need-enum-known-n
+enum-known-n c = search needs
+
+cast-room : tie.Need-cast-room
+cast-room c = search needs
+
+returns : tie.Need-returns
+unfolding sentAt
+returns c = rw (← (sym (c .before .why .given .1) ∙ c .before .before .before .next-bytes .ensures)) refl
+
+returns-2 : tie.Need-returns-2
+unfolding sentAt
+returns-2 c =
+    let k = c .before .before .before .before in
+    rw (← (sym (k .before .bytes .given .1) ∙ k .before .before .before .next-bytes .ensures)) (rw (← (sym (c .before .why2 .given .1) ∙ c .before .before .before .next-or .ensures)) refl)
+
+returns-3 : tie.Need-returns-3
+unfolding sentAt
+returns-3 c =
+    let k = c .before .before .before .before in
+    rw (← (sym (k .before .bytes .given .1) ∙ k .before .before .before .next-bytes .ensures)) (rw (← (sym (c .before .n .given .1) ∙ c .before .before .before .next-or .ensures)) refl)
+
+pub next-sent-spec : {M : Type 1} → statement M
+next-sent-spec =
+    tie.close
+    (tie.spec
+    next-bytes-requires
+    enum-known-why
+    enum-known-bytes
+    next-or-requires
+    enum-known-why-2
+    enum-known-n
+    cast-room
+    returns
+    returns-2
+    returns-3)
