@@ -72,6 +72,21 @@ byte-at-requires-4 c κs = search needs
 enum-told-8 : tie.Need-enum-told-8
 enum-told-8 c = search needs
 
+speaker-stop-requires : tie.Need-speaker-stop-requires
+speaker-stop-requires c κs = search needs
+
+add-part-5 : tie.Need-add-part-5
+add-part-5 c = search needs
+
+part-requires-6 : tie.Need-part-requires-6
+part-requires-6 c κs = search needs
+
+part-requires-7 : tie.Need-part-requires-7
+part-requires-7 c κs = search needs
+
+enum-told-9 : tie.Need-enum-told-9
+enum-told-9 c = search needs
+
 returns : tie.Need-returns
 returns c = rw (c .before .before .enum-told .given .1, c .before .byte-at .ensures, c .part .ensures)
 
@@ -94,7 +109,10 @@ returns-7 : tie.Need-returns-7
 returns-7 c = rw (c .before .before .before .enum-told7 .given .1, c .before .before .part5 .ensures, c .before .byte-at3 .ensures, c .byte-at4 .ensures)
 
 returns-8 : tie.Need-returns-8
-returns-8 c = search needs
+returns-8 c = rw (c .before .before .before .enum-told8 .given .1, c .before .part6 .ensures, c .part7 .ensures, c .before .before .speaker-stop .ensures)
+
+returns-9 : tie.Need-returns-9
+returns-9 c = search needs
 
 pub call-in-spec : {M : Type 1} → statement M
 call-in-spec =
@@ -123,6 +141,11 @@ call-in-spec =
     add-byte-at
     byte-at-requires-4
     enum-told-8
+    speaker-stop-requires
+    add-part-5
+    part-requires-6
+    part-requires-7
+    enum-told-9
     returns
     returns-2
     returns-3
@@ -130,4 +153,5 @@ call-in-spec =
     returns-5
     returns-6
     returns-7
-    returns-8)
+    returns-8
+    returns-9)
