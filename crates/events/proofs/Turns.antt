@@ -17,7 +17,7 @@ use Rattle.choice.proofs.Branches.{on-lt}
 use Rattle.manager.specs.Calls as manager
 use Rattle.manager.specs.Table.{leastBuffer}
 use Rattle.manager.specs.declared.Call.{Call}
-use Rattle.events.specs.Kinds.{kindOf, isUnknown, speakerStop, lengthWrong, callFor}
+use Rattle.events.specs.Kinds.{kindOf, isUnknown, speakerSize, lengthWrong, callFor}
 use Rattle.events.specs.Events.{Event, headSize, firstStop, firstEvent, eventsWithin, eventsOf, cutWithin, cutShort, someEvent, ofUnknownKind, ofWrongLength, kindUnknown, wrongLength, checkedOf, callOfEvent, callIn, stopOf, nextOf}
 use Rattle.events.specs.declared.Kind.{Kind}
 use Rattle.events.specs.declared.Kind.the-variants as kind
@@ -188,7 +188,7 @@ module _ (b : List ℕ) (from n : ℕ) where
       rw (byte-first (omega arith), byte-in 1 (omega arith), part-in 2 (omega arith))
   call-in kind.Policy e =
       let m = byte (take n (drop from b)) 0 in
-      let h = least (speakerStop (take n (drop from b)) 0) e in
+      let h = least (speakerSize (take n (drop from b)) 0) e in
       rw (byte-first (omega arith), part-within 1 m (omega arith), part-in (1 + m) (omega arith))
   call-in kind.Unknown e = refl
 

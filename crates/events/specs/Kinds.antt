@@ -33,12 +33,11 @@ isUnknown FinishedWithMark = false
 isUnknown Policy = false
 isUnknown Unknown = true
 
--- "the speaker's length (1), the speaker": where the speaker stops of a policy update whose bytes stand from `from` on
-abbrev pub speakerStop : List ℕ → ℕ → ℕ
-speakerStop b from = from + (1 + byte b from)
+-- "the speaker's length (1), the speaker": the bytes that both have, at a place
+abbrev pub speakerSize : List ℕ → ℕ → ℕ
+speakerSize b at = 1 + byte b at
 
--- too few or too many bytes for an event of this kind; a byte that is not there counts as 00, so that the speaker of a policy update of no
--- bytes would stop past them
+-- too few or too many bytes for an event of this kind; a byte that is not there counts as 00, so a policy update of no bytes has too few
 abbrev pub lengthWrong : Kind → List ℕ → Bool
 lengthWrong Command bytes = ltb (length bytes) 1
 lengthWrong Keyed bytes = false
@@ -47,7 +46,7 @@ lengthWrong Finished bytes = ltb (length bytes) 1
 lengthWrong Tick bytes = not (eqb (length bytes) 0)
 lengthWrong Lost bytes = not (eqb (length bytes) 0)
 lengthWrong FinishedWithMark bytes = ltb (length bytes) 2
-lengthWrong Policy bytes = ltb (length bytes) (speakerStop bytes 0)
+lengthWrong Policy bytes = ltb (length bytes) (speakerSize bytes 0)
 lengthWrong Unknown bytes = false
 
 -- the manager's call; "the response buffer of a command and of a policy update has 256 bytes"; request 2026-02: "Old finished events count as marked".
@@ -60,5 +59,5 @@ callFor Finished bytes = manager.Call.Finished (drop 1 bytes) (byte bytes 0) 1
 callFor Tick bytes = manager.Call.Tick
 callFor Lost bytes = manager.Call.Lost
 callFor FinishedWithMark bytes = manager.Call.Finished (drop 2 bytes) (byte bytes 0) (byte bytes 1)
-callFor Policy bytes = manager.Call.Policy (take (byte bytes 0) (drop 1 bytes)) (drop (speakerStop bytes 0) bytes) leastBuffer
+callFor Policy bytes = manager.Call.Policy (take (byte bytes 0) (drop 1 bytes)) (drop (speakerSize bytes 0) bytes) leastBuffer
 callFor Unknown bytes = manager.Call.Lost

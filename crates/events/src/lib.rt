@@ -9,7 +9,7 @@ ghost use mathlib.Core.Path.{_≡_};
 ghost use Prim.Native.Nat.{_+_, _≤_, _<_};
 ghost use lib.ListN.{length};
 ghost use Rattle.byte_string.specs.Bytes.{between};
-ghost use Rattle.events.specs.Kinds.{kindOf, isUnknown, speakerStop, lengthWrong};
+ghost use Rattle.events.specs.Kinds.{kindOf, isUnknown, speakerSize, lengthWrong};
 ghost use Rattle.events.specs.Events.{callIn, checkedOf, headSize, nextOf, stopOf};
 
 pub enum Kind {
@@ -88,7 +88,7 @@ impl Kind {
             Kind::Tick => length != 0,
             Kind::Lost => length != 0,
             Kind::FinishedWithMark => length < 2,
-            Kind::Policy => length < speaker_stop(bytes, 0),
+            Kind::Policy => length < speaker_size(bytes, 0),
             Kind::Unknown => false,
         }
     }
@@ -107,13 +107,12 @@ fn part(start: usize, stop: usize) -> Part
     }
 }
 
-// Where the speaker of a policy update stops, as the byte before it says; the update's bytes stand from `from` on.
-fn speaker_stop(b: &[u8], from: usize) -> usize
-    requires { ⌜ from ≤ length (now b) ⌝ }
-    ensures { λ r. ⌜ r ≡ speakerStop (now (b .entry)) from ⌝ }
+// The bytes of a speaker's length and of the speaker, at a place.
+fn speaker_size(b: &[u8], at: usize) -> usize
+    ensures { λ r. ⌜ r ≡ speakerSize (now (b .entry)) at ⌝ }
 {
-    let length = byte_at(b, from) as usize;
-    from + (1 + length)
+    let length = byte_at(b, at) as usize;
+    1 + length
 }
 
 // Where the event at a place stops, as its length says.
@@ -153,7 +152,7 @@ fn call_in(b: &[u8], kind: Kind, from: usize, to: usize) -> Call
             mark: byte_at(b, from + 1),
         },
         Kind::Policy => {
-            let stop = speaker_stop(b, from);
+            let stop = from + speaker_size(b, from);
             Call::Policy {
                 speaker: part(from + 1, stop),
                 bytes: part(stop, to),

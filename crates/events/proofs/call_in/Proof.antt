@@ -1,4 +1,5 @@
 -- `call_in` meets its contract: each row of the table of kinds.
+use native.Mathlib.Omega.{arith}
 use borrow.Author.Needs.{needs}
 use Rattle.events.proofs.call_in.Statement.{statement}
 use Rattle.events.proofs.call_in.Tie as tie
@@ -72,8 +73,13 @@ byte-at-requires-4 c κs = search needs
 enum-told-8 : tie.Need-enum-told-8
 enum-told-8 c = search needs
 
-speaker-stop-requires : tie.Need-speaker-stop-requires
-speaker-stop-requires c κs = search needs
+speaker-size-requires : tie.Need-speaker-size-requires
+speaker-size-requires c κs = search needs
+
+add-stop : tie.Need-add-stop
+add-stop c =
+    let known = c .before .before .before in
+    omega (arith, known .shared-slice-known .given (known .before .args .from))
 
 add-part-5 : tie.Need-add-part-5
 add-part-5 c = search needs
@@ -109,7 +115,7 @@ returns-7 : tie.Need-returns-7
 returns-7 c = rw (c .before .before .before .enum-told7 .given .1, c .before .before .part5 .ensures, c .before .byte-at3 .ensures, c .byte-at4 .ensures)
 
 returns-8 : tie.Need-returns-8
-returns-8 c = rw (c .before .before .before .enum-told8 .given .1, c .before .part6 .ensures, c .part7 .ensures, c .before .before .speaker-stop .ensures)
+returns-8 c = rw (c .before .before .before .enum-told8 .given .1, c .before .part6 .ensures, c .part7 .ensures, c .before .before .speaker-size .ensures)
 
 returns-9 : tie.Need-returns-9
 returns-9 c = search needs
@@ -141,7 +147,8 @@ call-in-spec =
     add-byte-at
     byte-at-requires-4
     enum-told-8
-    speaker-stop-requires
+    speaker-size-requires
+    add-stop
     add-part-5
     part-requires-6
     part-requires-7

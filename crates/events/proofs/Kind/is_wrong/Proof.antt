@@ -27,8 +27,8 @@ enum-told-7 c = search needs
 enum-told-8 : tie.Need-enum-told-8
 enum-told-8 c = search needs
 
-speaker-stop-requires : tie.Need-speaker-stop-requires
-speaker-stop-requires c κs = search needs
+speaker-size-requires : tie.Need-speaker-size-requires
+speaker-size-requires c κs = search needs
 
 enum-told-9 : tie.Need-enum-told-9
 enum-told-9 c = search needs
@@ -55,7 +55,7 @@ returns-7 : tie.Need-returns-7
 returns-7 c = rw (c .enum-told7 .given .1)
 
 returns-8 : tie.Need-returns-8
-returns-8 c = rw (c .before .enum-told8 .given .1, c .speaker-stop .ensures)
+returns-8 c = rw (c .before .enum-told8 .given .1, c .speaker-size .ensures)
 
 returns-9 : tie.Need-returns-9
 returns-9 c = search needs
@@ -72,7 +72,7 @@ is-wrong-spec =
     enum-told-6
     enum-told-7
     enum-told-8
-    speaker-stop-requires
+    speaker-size-requires
     enum-told-9
     returns
     returns-2
