@@ -64,7 +64,7 @@ tick = 5 ∷ 0 ∷ 0 ∷ []
 
 -- a kind that is not known, a tick with a byte, and an event that is cut
 abbrev pub unknown : List ℕ
-unknown = 8 ∷ 0 ∷ 0 ∷ []
+unknown = 9 ∷ 0 ∷ 0 ∷ []
 
 abbrev pub long : List ℕ
 long = 5 ∷ 0 ∷ 1 ∷ 0 ∷ []

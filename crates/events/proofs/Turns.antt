@@ -6,8 +6,9 @@ use mathlib.Core.List.{List, [], _∷_}
 use mathlib.Core.Bool.{Bool, true, false, _||_, false≢true, or-false, or-assoc}
 use native.Mathlib.Nat.{add-zero}
 use native.Mathlib.Omega.{arith}
-use lib.ListN.{length, take, drop, length-drop, drop-of-length-le}
-use lib.Seq.{getD-drop, getD-take, drop-drop, length-take-le}
+use lib.ListN.{length, take, drop, length-take, length-drop, drop-of-length-le}
+use lib.Seq.{getD-drop, getD-take, drop-drop, take-take}
+use lib.Dec.{ltb}
 use borrow.Author.Tests.{lt-ltb, le-ltb, ltb-false}
 use Rattle.byte_string.specs.Bytes.{byte, pairAt, fourAt}
 use Rattle.byte_string.proofs.Parts.{part-cut}
@@ -16,7 +17,7 @@ use Rattle.choice.proofs.Branches.{on-lt}
 use Rattle.manager.specs.Calls as manager
 use Rattle.manager.specs.Table.{leastBuffer}
 use Rattle.manager.specs.declared.Call.{Call}
-use Rattle.events.specs.Kinds.{kindOf, isUnknown, lengthWrong, callFor}
+use Rattle.events.specs.Kinds.{kindOf, isUnknown, speakerSize, lengthWrong, callFor}
 use Rattle.events.specs.Events.{Event, headSize, firstStop, firstEvent, eventsWithin, eventsOf, cutWithin, cutShort, someEvent, ofUnknownKind, ofWrongLength, kindUnknown, wrongLength, checkedOf, callOfEvent, callIn, stopOf, nextOf}
 use Rattle.events.specs.declared.Kind.{Kind}
 use Rattle.events.specs.declared.Kind.the-variants as kind
@@ -96,6 +97,12 @@ module _ (b : List ℕ) (at : ℕ) where
       ∙ ap (λ (n : ℕ). record { kind = byte b at; bytes = take n (drop headSize (drop at b)) }) pair-from
       ∙ ap (λ (l : List ℕ). record { kind = byte b at; bytes = take (pairAt b (at + 1)) l }) (drop-drop headSize at b)
 
+  -- its bytes stand from its head to where it stops
+  bytes-from : eventAt b at .bytes ≡ take (stopOf b at - (at + headSize)) (drop (at + headSize) b)
+  bytes-from =
+      let n : pairAt b (at + 1) ≡ stopOf b at - (at + headSize) = omega arith in
+      ap (λ (k : ℕ). take k (drop (at + headSize) b)) n
+
 module _ (b : List ℕ) (at : ℕ) (h : at < length b) where
   pub turn-cut : length b < stopOf b at → cutShort (drop at b) ≡ true
   turn-cut k =
@@ -116,12 +123,6 @@ module _ (b : List ℕ) (at : ℕ) (h : at < length b) where
       events-on (drop at b) (omega arith) (omega arith)
       ∙ ap (λ (f : Event). f ∷ eventsOf (drop (firstStop (drop at b)) (drop at b))) (event-from b at)
       ∙ ap (λ (r : List ℕ). eventAt b at ∷ eventsOf r) (rest-from b at)
-
-  pub turn-length : stopOf b at ≤ length b → length (eventAt b at .bytes) ≡ stopOf b at - (at + headSize)
-  turn-length k =
-      let l = length-drop (at + headSize) b in
-      let e = length-take-le (pairAt b (at + 1)) (drop (at + headSize) b) (omega arith) in
-      omega arith
 
 -- at the end
 pub events-end : (b : List ℕ) (at : ℕ) → length b ≤ at → eventsOf (drop at b) ≡ []
@@ -144,6 +145,14 @@ module _ (b : List ℕ) (from n : ℕ) where
       ∙ sym (part-cut k (n - k) (drop from b))
       ∙ ap (λ (m : ℕ). drop k (take m (drop from b))) (sym f)
 
+  -- a part that does not run past them
+  part-within : (k m : ℕ) → k + m ≤ n → take (from + (k + m) - (from + k)) (drop (from + k) b) ≡ take m (drop k (take n (drop from b)))
+  part-within k m h =
+      let e : from + (k + m) - (from + k) ≡ m = omega arith in
+      ap (λ (x : ℕ). take x (drop (from + k) b)) e
+      ∙ sym (take-take m (from + n - (from + k)) (drop (from + k) b) (omega arith))
+      ∙ ap (take m) (part-in k (omega arith))
+
   byte-first : 0 < n → byte b from ≡ byte (take n (drop from b)) 0
   byte-first h = ap (byte b) (sym (add-zero from)) ∙ byte-in 0 h
 
@@ -152,25 +161,35 @@ module _ (b : List ℕ) (from n : ℕ) where
       let e : from + 2 + 1 ≡ from + 3 = omega arith in
       rw (e, byte-first (omega arith), byte-in 1 (omega arith), byte-in 2 (omega arith), byte-in 3 (omega arith))
 
-  -- the call over the body is the call of the event's bytes, where their number is right
-  call-in : (k : Kind) → lengthWrong k n ≡ false → manager.callOf b leastBuffer (callIn b k from (from + n)) ≡ callFor k (take n (drop from b))
+  -- so many bytes are in the body, where the event has them
+  least : (m : ℕ) → ltb (length (take n (drop from b))) m ≡ false → m ≤ n
+  least m e =
+      let h = ltb-false (length (take n (drop from b))) m e in
+      omega (arith, length-take n (drop from b))
+
+  -- the call over the body is the call of the event's bytes, where these are neither too few nor too many
+  call-in : (k : Kind) → lengthWrong k (take n (drop from b)) ≡ false → manager.callOf b leastBuffer (callIn b k from (from + n)) ≡ callFor k (take n (drop from b))
   call-in kind.Command e =
-      let h = ltb-false n 1 e in
+      let h = least 1 e in
       rw (byte-first (omega arith), part-in 1 (omega arith))
   call-in kind.Keyed e =
       let f : from + n - from ≡ n = omega arith in
       rw f
   call-in kind.Stored e =
-      let h = ltb-false n 4 e in
+      let h = least 4 e in
       rw (four-in (omega arith), part-in 4 (omega arith))
   call-in kind.Finished e =
-      let h = ltb-false n 1 e in
+      let h = least 1 e in
       rw (byte-first (omega arith), part-in 1 (omega arith))
   call-in kind.Tick e = refl
   call-in kind.Lost e = refl
   call-in kind.FinishedWithMark e =
-      let h = ltb-false n 2 e in
+      let h = least 2 e in
       rw (byte-first (omega arith), byte-in 1 (omega arith), part-in 2 (omega arith))
+  call-in kind.Policy e =
+      let m = byte (take n (drop from b)) 0 in
+      let h = least (speakerSize (take n (drop from b)) 0) e in
+      rw (byte-first (omega arith), part-within 1 m (omega arith), part-in (1 + m) (omega arith))
   call-in kind.Unknown e = refl
 
 -- from this place on no event is cut, and none has a wrong length
@@ -220,7 +239,6 @@ module _ (b : List ℕ) (at : ℕ) where
       let n = pairAt b (at + 1) in
       let l : at < length b = omega arith in
       let g = none-first ofWrongLength (drop at b) (eventAt b at) (drop (stopOf b at) b) (turn-events b at l h) (f .lengths) in
-      let m : length (eventAt b at .bytes) ≡ n = turn-length b at l h ∙ omega arith in
       let s : stopOf b at ≡ at + headSize + n = omega arith in
       record {
         event = eventAt b at;
@@ -230,7 +248,7 @@ module _ (b : List ℕ) (at : ℕ) where
         events = turn-events b at l h;
         asks =
             ap (λ (k : ℕ). manager.callOf b leastBuffer (callIn b (kindOf (byte b at)) (at + headSize) k)) s
-            ∙ call-in b (at + headSize) n (kindOf (byte b at)) (ap (lengthWrong (kindOf (byte b at))) (sym m) ∙ g .0);
+            ∙ call-in b (at + headSize) n (kindOf (byte b at)) (g .0);
         rest = record { whole = sym (turn-whole b at l h) ∙ f .whole; lengths = g .1 };
       }
 
@@ -290,8 +308,8 @@ module _ (b : List ℕ) (at : ℕ) (unknown wrong : Bool) where
 
   pub checked-on : at < length b → stopOf b at ≤ length b
       → checkedFrom b at unknown wrong
-      ≡ checkedFrom b (stopOf b at) (unknown || isUnknown (kindOf (byte b at))) (wrong || lengthWrong (kindOf (byte b at)) (stopOf b at - (at + headSize)))
+      ≡ checkedFrom b (stopOf b at) (unknown || isUnknown (kindOf (byte b at))) (wrong || lengthWrong (kindOf (byte b at)) (take (stopOf b at - (at + headSize)) (drop (at + headSize) b)))
   unfolding checkedFrom kindUnknown wrongLength
   checked-on h k =
       let some = some-turn h k in
-      rw (turn-whole b at h k, some ofUnknownKind, some ofWrongLength, turn-length b at h k, or-assoc unknown, or-assoc wrong)
+      rw (turn-whole b at h k, some ofUnknownKind, some ofWrongLength, bytes-from b at, or-assoc unknown, or-assoc wrong)

@@ -10,7 +10,7 @@ use Rattle.choice.specs.Choice.{pick}
 use Rattle.manager.specs.Calls as manager
 use Rattle.manager.specs.declared.Call as declared
 use Rattle.manager.specs.declared.Call.the-variants as call
-use Rattle.events.specs.Kinds.{kindOf, isUnknown, lengthWrong, callFor}
+use Rattle.events.specs.Kinds.{kindOf, isUnknown, speakerSize, lengthWrong, callFor}
 use Rattle.events.specs.declared.Kind.{Kind}
 use Rattle.events.specs.declared.Kind.the-variants as kind
 use Rattle.events.specs.declared.Checked.{Checked}
@@ -64,7 +64,7 @@ abbrev pub ofUnknownKind : Event → Bool
 ofUnknownKind e = isUnknown (kindOf (e .kind))
 
 abbrev pub ofWrongLength : Event → Bool
-ofWrongLength e = lengthWrong (kindOf (e .kind)) (length (e .bytes))
+ofWrongLength e = lengthWrong (kindOf (e .kind)) (e .bytes)
 
 unfoldable pub kindUnknown : List ℕ → Bool
 kindUnknown b = someEvent ofUnknownKind (eventsOf b)
@@ -93,6 +93,7 @@ callIn b kind.Finished from to = call.Finished (between (from + 1) to) (byte b f
 callIn b kind.Tick from to = call.Tick
 callIn b kind.Lost from to = call.Lost
 callIn b kind.FinishedWithMark from to = call.Finished (between (from + 2) to) (byte b from) (byte b (from + 1))
+callIn b kind.Policy from to = call.Policy (between (from + 1) (from + speakerSize b from)) (between (from + speakerSize b from) to)
 callIn b kind.Unknown from to = call.Lost
 
 -- the event at a place; none where the body ends there or within it

@@ -4,7 +4,7 @@ use Prim.Native.Nat.{ℕ}
 use mathlib.Core.Path.{_≡_}
 use mathlib.Core.List.{List, [], _∷_}
 use lib.ListN.{replicate}
-use Rattle.manager.specs.Calls.{Call.Command, Call.Keyed, Call.Stored, Call.Finished, Call.Tick, Call.Lost}
+use Rattle.manager.specs.Calls.{Call.Command, Call.Keyed, Call.Stored, Call.Finished, Call.Tick, Call.Lost, Call.Policy}
 use Rattle.events.specs.Events.{eventsOf, callsOf, checkedOf}
 use Rattle.events.specs.declared.Checked.{Checked}
 use Rattle.events.specs.declared.Checked.the-variants.{CutShort, UnknownKind, WrongLength, Right}
@@ -31,14 +31,14 @@ cases =
     ∷ case CutShort (2 ∷ 1 ∷ 0 ∷ replicate 255 0xA0)
     ∷ case Right (2 ∷ 1 ∷ 0 ∷ replicate 256 0xA0)
     -- a cut event is told before a kind that is not known and a wrong length, though these come earlier
-    ∷ case CutShort (8 ∷ 0 ∷ 0 ∷ 5 ∷ 0 ∷ [])
+    ∷ case CutShort (9 ∷ 0 ∷ 0 ∷ 5 ∷ 0 ∷ [])
     ∷ case CutShort (5 ∷ 0 ∷ 1 ∷ 0 ∷ 5 ∷ 0 ∷ [])
     -- "some event has a kind that is not in the table": before and after the kinds there are, and before a wrong length
     ∷ case UnknownKind (0 ∷ 0 ∷ 0 ∷ [])
-    ∷ case UnknownKind (8 ∷ 0 ∷ 0 ∷ [])
+    ∷ case UnknownKind (9 ∷ 0 ∷ 0 ∷ [])
     ∷ case UnknownKind (255 ∷ 0 ∷ 1 ∷ 0 ∷ 5 ∷ 0 ∷ 0 ∷ [])
-    ∷ case UnknownKind (8 ∷ 0 ∷ 0 ∷ 5 ∷ 0 ∷ 1 ∷ 0 ∷ [])
-    ∷ case UnknownKind (5 ∷ 0 ∷ 1 ∷ 0 ∷ 8 ∷ 0 ∷ 0 ∷ [])
+    ∷ case UnknownKind (9 ∷ 0 ∷ 0 ∷ 5 ∷ 0 ∷ 1 ∷ 0 ∷ [])
+    ∷ case UnknownKind (5 ∷ 0 ∷ 1 ∷ 0 ∷ 9 ∷ 0 ∷ 0 ∷ [])
     -- a wrong length of each kind
     ∷ case WrongLength (1 ∷ 0 ∷ 0 ∷ [])
     ∷ case Right (1 ∷ 0 ∷ 1 ∷ 0 ∷ [])
@@ -53,6 +53,19 @@ cases =
     ∷ case WrongLength (7 ∷ 0 ∷ 1 ∷ 0 ∷ [])
     ∷ case Right (7 ∷ 0 ∷ 2 ∷ 0 ∷ 0 ∷ [])
     ∷ case WrongLength (5 ∷ 0 ∷ 0 ∷ 6 ∷ 0 ∷ 1 ∷ 0 ∷ 5 ∷ 0 ∷ 0 ∷ [])
+    -- "0 bytes, or fewer than the speaker's length says after its byte": a speaker of none and one of one byte, with and without a command
+    ∷ case WrongLength (8 ∷ 0 ∷ 0 ∷ [])
+    ∷ case Right (8 ∷ 0 ∷ 1 ∷ 0 ∷ [])
+    ∷ case Right (8 ∷ 0 ∷ 2 ∷ 0 ∷ 0x80 ∷ [])
+    ∷ case WrongLength (8 ∷ 0 ∷ 1 ∷ 1 ∷ [])
+    ∷ case Right (8 ∷ 0 ∷ 2 ∷ 1 ∷ 0xA0 ∷ [])
+    ∷ case Right (8 ∷ 0 ∷ 3 ∷ 1 ∷ 0xA0 ∷ 0x80 ∷ [])
+    ∷ case WrongLength (8 ∷ 0 ∷ 3 ∷ 3 ∷ 0xA0 ∷ 0xA0 ∷ [])
+    ∷ case Right (8 ∷ 0 ∷ 3 ∷ 2 ∷ 0xA0 ∷ 0xA0 ∷ [])
+    -- a speaker does not reach into the next event; the longest has 255 bytes
+    ∷ case WrongLength (8 ∷ 0 ∷ 1 ∷ 3 ∷ 5 ∷ 0 ∷ 0 ∷ [])
+    ∷ case WrongLength (8 ∷ 0 ∷ 255 ∷ 255 ∷ replicate 254 0xA0)
+    ∷ case Right (8 ∷ 1 ∷ 0 ∷ 255 ∷ replicate 255 0xA0)
     ∷ []
 
 unfoldable pub found : List Case → List Checked
@@ -73,7 +86,9 @@ pub record EventsExamples : Type 0 where
       ∷ 4 ∷ 0 ∷ 2 ∷ 0x02 ∷ 0xA0
       ∷ 5 ∷ 0 ∷ 0
       ∷ 6 ∷ 0 ∷ 0
-      ∷ 7 ∷ 0 ∷ 3 ∷ 0x02 ∷ 0x00 ∷ 0xA0 ∷ []))
+      ∷ 7 ∷ 0 ∷ 3 ∷ 0x02 ∷ 0x00 ∷ 0xA0
+      ∷ 8 ∷ 0 ∷ 5 ∷ 0x02 ∷ 0xA0 ∷ 0xA1 ∷ 0x80 ∷ 0xE2
+      ∷ 8 ∷ 0 ∷ 1 ∷ 0x00 ∷ []))
       ≡ Command 0x55 (0x80 ∷ 0xF2 ∷ []) 256
       ∷ Keyed (0xA0 ∷ [])
       ∷ Stored (0xA0 ∷ []) 0x01020304
@@ -81,4 +96,6 @@ pub record EventsExamples : Type 0 where
       ∷ Tick
       ∷ Lost
       ∷ Finished (0xA0 ∷ []) 0x02 0
+      ∷ Policy (0xA0 ∷ 0xA1 ∷ []) (0x80 ∷ 0xE2 ∷ []) 256
+      ∷ Policy [] [] 256
       ∷ []

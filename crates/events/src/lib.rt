@@ -9,7 +9,7 @@ ghost use mathlib.Core.Path.{_≡_};
 ghost use Prim.Native.Nat.{_+_, _≤_, _<_};
 ghost use lib.ListN.{length};
 ghost use Rattle.byte_string.specs.Bytes.{between};
-ghost use Rattle.events.specs.Kinds.{kindOf, isUnknown, lengthWrong};
+ghost use Rattle.events.specs.Kinds.{kindOf, isUnknown, speakerSize, lengthWrong};
 ghost use Rattle.events.specs.Events.{callIn, checkedOf, headSize, nextOf, stopOf};
 
 pub enum Kind {
@@ -21,6 +21,7 @@ pub enum Kind {
     Tick,
     Lost,
     FinishedWithMark,
+    Policy,
     Unknown,
 }
 
@@ -53,6 +54,7 @@ impl Kind {
             5 => Kind::Tick,
             6 => Kind::Lost,
             7 => Kind::FinishedWithMark,
+            8 => Kind::Policy,
             _ => Kind::Unknown,
         }
     }
@@ -68,14 +70,16 @@ impl Kind {
             Kind::Tick => false,
             Kind::Lost => false,
             Kind::FinishedWithMark => false,
+            Kind::Policy => false,
             Kind::Unknown => true,
         }
     }
 
-    // Must no event of this kind have so many bytes?
-    fn is_wrong_at(self, length: usize) -> bool
-        ensures { λ r. ⌜ r ≡ lengthWrong self length ⌝ }
+    // Are these too few or too many bytes for an event of this kind?
+    fn is_wrong(self, bytes: &[u8]) -> bool
+        ensures { λ r. ⌜ r ≡ lengthWrong self (now (bytes .entry)) ⌝ }
     {
+        let length = bytes.len();
         match self {
             Kind::Command => length < 1,
             Kind::Keyed => false,
@@ -84,6 +88,7 @@ impl Kind {
             Kind::Tick => length != 0,
             Kind::Lost => length != 0,
             Kind::FinishedWithMark => length < 2,
+            Kind::Policy => length < speaker_size(bytes, 0),
             Kind::Unknown => false,
         }
     }
@@ -100,6 +105,14 @@ fn part(start: usize, stop: usize) -> Part
         start,
         len: stop - start,
     }
+}
+
+// The bytes of a speaker's length and of the speaker, at a place.
+fn speaker_size(b: &[u8], at: usize) -> usize
+    ensures { λ r. ⌜ r ≡ speakerSize (now (b .entry)) at ⌝ }
+{
+    let length = byte_at(b, at) as usize;
+    1 + length
 }
 
 // Where the event at a place stops, as its length says.
@@ -138,6 +151,13 @@ fn call_in(b: &[u8], kind: Kind, from: usize, to: usize) -> Call
             policy: byte_at(b, from),
             mark: byte_at(b, from + 1),
         },
+        Kind::Policy => {
+            let stop = from + speaker_size(b, from);
+            Call::Policy {
+                speaker: part(from + 1, stop),
+                bytes: part(stop, to),
+            }
+        }
         Kind::Unknown => Call::Lost,
     }
 }
@@ -156,7 +176,8 @@ pub fn check_events(b: &[u8]) -> Checked
         }
         let kind = Kind::of(b[at]);
         unknown = unknown | kind.is_unknown();
-        wrong = wrong | kind.is_wrong_at(stop - (at + HEAD));
+        let from = at + HEAD;
+        wrong = wrong | kind.is_wrong(&b[from..stop]);
         at = stop;
     }
     if unknown {

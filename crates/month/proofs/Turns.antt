@@ -129,6 +129,7 @@ tick-alike b s m n (code.Stored aid k) = refl
 tick-alike b s m n (code.Finished aid policy mark) = refl
 tick-alike b s m n code.Tick = refl
 tick-alike b s m n code.Lost = refl
+tick-alike b s m n (code.Policy speaker bytes) = refl
 
 module _ {first : Card} {b minutes : List ℕ} {names : Names} {line : ℕ} {c : Card} {ticks events refused at : ℕ} (st : Stands first b minutes names line c ticks events refused at) where
   line-within : line ≤ restLine

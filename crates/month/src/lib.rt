@@ -28,7 +28,7 @@ pub struct Month {
     pub tally: Tally,
 }
 
-// A command's response buffer.
+// The response buffer of a command and of a policy update.
 const BUFFER: usize = 256;
 
 fn is_tick(call: Call) -> bool
@@ -41,6 +41,7 @@ fn is_tick(call: Call) -> bool
         Call::Finished { .. } => false,
         Call::Tick => true,
         Call::Lost => false,
+        Call::Policy { .. } => false,
     }
 }
 

@@ -40,6 +40,7 @@ namedOn c aid (status life fallback) last = last
 namedOn c aid keyed last = last
 namedOn c aid (stored n) last = last
 namedOn c aid (finished policy mark) last = last
+namedOn c aid (setPolicy policy) last = last
 
 abbrev pub namedBy : Card → Asked → Aid → Aid
 namedBy c a last = onTarget last (λ aid act. namedOn c aid act last) a

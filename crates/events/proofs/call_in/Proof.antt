@@ -1,4 +1,5 @@
 -- `call_in` meets its contract: each row of the table of kinds.
+use native.Mathlib.Omega.{arith}
 use borrow.Author.Needs.{needs}
 use Rattle.events.proofs.call_in.Statement.{statement}
 use Rattle.events.proofs.call_in.Tie as tie
@@ -72,6 +73,26 @@ byte-at-requires-4 c κs = search needs
 enum-told-8 : tie.Need-enum-told-8
 enum-told-8 c = search needs
 
+speaker-size-requires : tie.Need-speaker-size-requires
+speaker-size-requires c κs = search needs
+
+add-stop : tie.Need-add-stop
+add-stop c =
+    let known = c .before .before .before in
+    omega (arith, known .shared-slice-known .given (known .before .args .from))
+
+add-part-5 : tie.Need-add-part-5
+add-part-5 c = search needs
+
+part-requires-6 : tie.Need-part-requires-6
+part-requires-6 c κs = search needs
+
+part-requires-7 : tie.Need-part-requires-7
+part-requires-7 c κs = search needs
+
+enum-told-9 : tie.Need-enum-told-9
+enum-told-9 c = search needs
+
 returns : tie.Need-returns
 returns c = rw (c .before .before .enum-told .given .1, c .before .byte-at .ensures, c .part .ensures)
 
@@ -94,7 +115,10 @@ returns-7 : tie.Need-returns-7
 returns-7 c = rw (c .before .before .before .enum-told7 .given .1, c .before .before .part5 .ensures, c .before .byte-at3 .ensures, c .byte-at4 .ensures)
 
 returns-8 : tie.Need-returns-8
-returns-8 c = search needs
+returns-8 c = rw (c .before .before .before .enum-told8 .given .1, c .before .part6 .ensures, c .part7 .ensures, c .before .before .speaker-size .ensures)
+
+returns-9 : tie.Need-returns-9
+returns-9 c = search needs
 
 pub call-in-spec : {M : Type 1} → statement M
 call-in-spec =
@@ -123,6 +147,12 @@ call-in-spec =
     add-byte-at
     byte-at-requires-4
     enum-told-8
+    speaker-size-requires
+    add-stop
+    add-part-5
+    part-requires-6
+    part-requires-7
+    enum-told-9
     returns
     returns-2
     returns-3
@@ -130,4 +160,5 @@ call-in-spec =
     returns-5
     returns-6
     returns-7
-    returns-8)
+    returns-8
+    returns-9)

@@ -37,24 +37,32 @@ of-requires c κs = search needs
 is-unknown-requires : tie.Need-is-unknown-requires Inv-loop μ-loop
 is-unknown-requires c κs = search needs
 
-add-is-wrong-at : tie.Need-add-is-wrong-at Inv-loop μ-loop
-add-is-wrong-at c = search needs
+add-from : tie.Need-add-from Inv-loop μ-loop
+add-from c = search needs
 
-sub-is-wrong-at : tie.Need-sub-is-wrong-at Inv-loop μ-loop
-sub-is-wrong-at c = search needs
+sub-is-wrong : tie.Need-sub-is-wrong Inv-loop μ-loop
+sub-is-wrong c = search needs
 
-is-wrong-at-requires : tie.Need-is-wrong-at-requires Inv-loop μ-loop
-is-wrong-at-requires c κs = search needs
+part-is-wrong-start : tie.Need-part-is-wrong-start Inv-loop μ-loop
+part-is-wrong-start c = search needs
+
+part-is-wrong-end : tie.Need-part-is-wrong-end Inv-loop μ-loop
+part-is-wrong-end c = search needs
+
+is-wrong-requires : tie.Need-is-wrong-requires Inv-loop μ-loop
+is-wrong-requires c κs = search needs
 
 loop-less : tie.Need-loop-less Inv-loop μ-loop
 loop-less c = search needs
 
 loop-again : tie.Need-loop-again Inv-loop μ-loop
 loop-again c =
-    let s = c .before .before .before .before .before .before .before .before .before .args .b .now in
-    let l = c .before .before .before .before .before .before .before .loop in
-    let e = c .before .before .before .before .before .stop-of .ensures in
-    (omega arith, rw (c .is-wrong-at .ensures, c .before .is-unknown .ensures, c .before .before .of .ensures, e) (sym (checked-on s (l .at) (l .unknown) (l .wrong) (omega arith) (omega arith)) ∙ l .inv .1))
+    let unknown = c .before .before in
+    let stopped = unknown .before .before .before .before in
+    let l = stopped .before .before .loop in
+    let s = stopped .before .before .before .before .args .b .now in
+    let e = stopped .stop-of .ensures in
+    (omega arith, rw (c .is-wrong .ensures, unknown .is-unknown .ensures, unknown .before .of .ensures, e) (sym (checked-on s (l .at) (l .unknown) (l .wrong) (omega arith) (omega arith)) ∙ l .inv .1))
 
 returns-2 : tie.Need-returns-2 Inv-loop μ-loop
 returns-2 c =
@@ -83,9 +91,11 @@ check-events-spec =
     shared-slice-read-of
     of-requires
     is-unknown-requires
-    add-is-wrong-at
-    sub-is-wrong-at
-    is-wrong-at-requires
+    add-from
+    sub-is-wrong
+    part-is-wrong-start
+    part-is-wrong-end
+    is-wrong-requires
     loop-less
     loop-again
     returns-2

@@ -36,8 +36,12 @@ returns-7 c = ne! _ (omega arith) (ne! _ (omega arith) (ne! _ (omega arith) (ne!
 
 returns-8 : tie.Need-returns-8
 unfolding kindOf
-returns-8 c = let r = c .match .rest in
-    ne! _ (r .0 .0 .0 .0 .0 .0 .1) (ne! _ (r .0 .0 .0 .0 .0 .1) (ne! _ (r .0 .0 .0 .0 .1) (ne! _ (r .0 .0 .0 .1) (ne! _ (r .0 .0 .1) (ne! _ (r .0 .1) (ne! _ (r .1) refl))))))
+returns-8 c = ne! _ (omega arith) (ne! _ (omega arith) (ne! _ (omega arith) (ne! _ (omega arith) (ne! _ (omega arith) (ne! _ (omega arith) (ne! _ (omega arith) (eq! _ (omega arith) refl)))))))
+
+returns-9 : tie.Need-returns-9
+unfolding kindOf
+returns-9 c = let r = c .match .rest in
+    ne! _ (r .0 .0 .0 .0 .0 .0 .0 .1) (ne! _ (r .0 .0 .0 .0 .0 .0 .1) (ne! _ (r .0 .0 .0 .0 .0 .1) (ne! _ (r .0 .0 .0 .0 .1) (ne! _ (r .0 .0 .0 .1) (ne! _ (r .0 .0 .1) (ne! _ (r .0 .1) (ne! _ (r .1) refl)))))))
 
 pub of-spec : {M : Type 1} → statement M
-of-spec = tie.close (tie.spec returns returns-2 returns-3 returns-4 returns-5 returns-6 returns-7 returns-8)
+of-spec = tie.close (tie.spec returns returns-2 returns-3 returns-4 returns-5 returns-6 returns-7 returns-8 returns-9)

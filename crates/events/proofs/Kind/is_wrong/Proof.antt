@@ -1,7 +1,7 @@
--- `Kind::is_wrong_at` meets its contract: each row of the table of kinds.
+-- `Kind::is_wrong` meets its contract: each row of the table of kinds.
 use borrow.Author.Needs.{needs}
-use Rattle.events.proofs.Kind.is_wrong_at.Statement.{statement}
-use Rattle.events.proofs.Kind.is_wrong_at.Tie as tie
+use Rattle.events.proofs.Kind.is_wrong.Statement.{statement}
+use Rattle.events.proofs.Kind.is_wrong.Tie as tie
 
 enum-told : tie.Need-enum-told
 enum-told c = search needs
@@ -27,6 +27,12 @@ enum-told-7 c = search needs
 enum-told-8 : tie.Need-enum-told-8
 enum-told-8 c = search needs
 
+speaker-size-requires : tie.Need-speaker-size-requires
+speaker-size-requires c κs = search needs
+
+enum-told-9 : tie.Need-enum-told-9
+enum-told-9 c = search needs
+
 returns : tie.Need-returns
 returns c = rw (c .enum-told .given .1)
 
@@ -49,10 +55,13 @@ returns-7 : tie.Need-returns-7
 returns-7 c = rw (c .enum-told7 .given .1)
 
 returns-8 : tie.Need-returns-8
-returns-8 c = search needs
+returns-8 c = rw (c .before .enum-told8 .given .1, c .speaker-size .ensures)
 
-pub is-wrong-at-spec : {M : Type 1} → statement M
-is-wrong-at-spec =
+returns-9 : tie.Need-returns-9
+returns-9 c = search needs
+
+pub is-wrong-spec : {M : Type 1} → statement M
+is-wrong-spec =
     tie.close
     (tie.spec
     enum-told
@@ -63,6 +72,8 @@ is-wrong-at-spec =
     enum-told-6
     enum-told-7
     enum-told-8
+    speaker-size-requires
+    enum-told-9
     returns
     returns-2
     returns-3
@@ -70,4 +81,5 @@ is-wrong-at-spec =
     returns-5
     returns-6
     returns-7
-    returns-8)
+    returns-8
+    returns-9)
