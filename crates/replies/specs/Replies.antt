@@ -4,7 +4,6 @@ use Prim.Native.Nat.{ℕ, suc, _+_, _*_}
 use mathlib.Core.Path.{_≡_}
 use mathlib.Core.List.{List, [], _∷_, _++_}
 use mathlib.Core.Bool.{Bool, true, false, cond, _&&_}
-use lib.ListN.{length}
 use Rattle.text.specs.Hex.{spelled}
 use Rattle.status.specs.StatusWords.{isDone}
 use Rattle.status.specs.declared.Status.the-variants.{Done}

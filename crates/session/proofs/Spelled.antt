@@ -110,8 +110,8 @@ module _ (l s : List ℕ) (speaker bytes : Part) (h : length (bytesIn s (code.Po
         let vs = bytesOf s bytes in
         record {
           same-call = λ room.
-          ap (λ (x : List ℕ). callOf x room (code.Policy p (record { start = p .len; len = q .len }))) both-left
-          ∙ rw (e, i) (ap (λ (x : List ℕ). Policy x (partOf (put l 0 (us ++ vs)) (record { start = length us; len = length vs })) room) (first-is l us vs h) ∙ ap (λ (x : List ℕ). Policy us x room) (second-is l us vs h));
+              ap (λ (x : List ℕ). callOf x room (code.Policy p (record { start = p .len; len = q .len }))) both-left
+              ∙ rw (e, i) (ap (λ (x : List ℕ). Policy x (partOf (put l 0 (us ++ vs)) (record { start = length us; len = length vs })) room) (first-is l us vs h) ∙ ap (λ (x : List ℕ). Policy us x room) (second-is l us vs h));
           content = both-left;
         }
 

@@ -1,19 +1,18 @@
 -- `session::fresh`: the byte strings handed on are the bytes of the two words.
-use mathlib.Core.Path.{_≡_, ap, _∙_}
+use mathlib.Core.Path.{_≡_, _∙_}
 use mathlib.Core.List.{List}
 use Prim.Native.Nat.{ℕ}
 use Rattle.card.specs.Answers.{handed}
 use Rattle.card.specs.Fresh.{freshOutcome}
+use Rattle.card.specs.declared.Answer.{Answer}
 use Rattle.session.proofs.Spelled.{front-is}
 use borrow.Author.Needs.{needs}
 use Rattle.session.proofs.fresh.Statement.{statement}
 use Rattle.session.proofs.fresh.Tie as tie
 
-same-fresh : {eid₁ eid₂ aid₁ aid₂ : List ℕ} (capacity quota used volatile : ℕ) → eid₁ ≡ eid₂ → aid₁ ≡ aid₂
-    → handed (freshOutcome eid₁ aid₁ capacity quota used volatile) ≡ handed (freshOutcome eid₂ aid₂ capacity quota used volatile)
-same-fresh {eid₁} {eid₂} {aid₁} capacity quota used volatile e f =
-    ap (λ (x : List ℕ). handed (freshOutcome x aid₁ capacity quota used volatile)) e
-    ∙ ap (λ (x : List ℕ). handed (freshOutcome eid₂ x capacity quota used volatile)) f
+same-fresh : {r : Answer} {eid₁ eid₂ aid₁ aid₂ : List ℕ} (capacity quota used volatile : ℕ) → r ≡ handed (freshOutcome eid₁ aid₁ capacity quota used volatile)
+    → eid₁ ≡ eid₂ → aid₁ ≡ aid₂ → r ≡ handed (freshOutcome eid₂ aid₂ capacity quota used volatile)
+same-fresh capacity quota used volatile p e f = rw (← e, ← f) p
 
 slice-aggregate-spell : tie.Need-slice-aggregate-spell
 slice-aggregate-spell c = search needs
@@ -50,7 +49,7 @@ returns c =
     let s = first-spelt .before .before .before in
     let eid = first .part-of .ensures ∙ front-is _ (s .pre .0) (first-spelt .spell .ensures .0) (first-spelt .spell .ensures .1) in
     let aid = c .before .part-of2 .ensures ∙ front-is _ (s .pre .1) (second-spelt .spell2 .ensures .0) (second-spelt .spell2 .ensures .1) in
-    c .fresh .ensures ∙ same-fresh (s .args .capacity) (s .args .quota) (s .args .used) (s .args .volatile) eid aid
+    same-fresh (s .args .capacity) (s .args .quota) (s .args .used) (s .args .volatile) (c .fresh .ensures) eid aid
 
 pub fresh-spec : {M : Type 1} → statement M
 fresh-spec =

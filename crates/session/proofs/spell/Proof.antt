@@ -3,7 +3,7 @@ use mathlib.Core.Path.{_≡_, refl, ap, sym, _∙_}
 use Prim.Native.Nat.{ℕ}
 use mathlib.Core.List.{List}
 use lib.ListN.{length}
-use Rattle.choice.proofs.Branches.{nlt!}
+use Rattle.choice.proofs.Branches.{nlt! }
 use Rattle.byte_string.specs.Put.{put}
 use Rattle.byte_string.specs.Bytes.{partOf}
 use Rattle.byte_string.specs.declared.Part.{Part}
