@@ -30,8 +30,8 @@ call-room s (code.Finished aid policy mark) h = let k = h .short in let n = byte
 call-room s code.Tick h = omega arith
 call-room s code.Lost h = omega arith
 call-room s (code.Policy speaker bytes) h =
-    let k = h .1 .0 .short in
-    let before = h .1 .1 in
+    let before = h .0 in
+    let k = h .1 .1 .short in
     let m = bytes-half s speaker in
     let n = bytes-half s bytes in
     simp length-append (omega arith)

@@ -78,7 +78,9 @@ module _ (s : List ℕ) (l : length s ≤ longest) where
   by-sent at f g =
       let P : Sent → Type 0 = λ x. OrderFits s (onSent x order.Wrong f) in
       bytes-as P (λ why. tt) at _ λ p b h.
-      value-as P (λ why. tt) (valueOr _ _ s b) _ λ room e r. g p room (h .0) (h .1 .0) (or-within s _ _ b room e (omega arith) r)
+      value-as P (λ why. tt) (valueOr _ _ s b) _ λ room e r.
+      let k = or-within s _ _ b room e (omega arith) r in
+      g p room (h .0) (h .1 .0) (omega arith)
 
   by-count : (least most n : ℕ) (o : Order) → OrderFits s o → OrderFits s (counted least most n o)
   unfolding counted
@@ -113,7 +115,7 @@ module _ (s : List ℕ) (l : length s ≤ longest) where
       by-count 3 4 n _
       (by-bytes at _ λ speaker b h.
       by-sent b _ λ x room k i r.
-      ((h .0, (k, let e = h .1 .1 in omega arith)), r))
+      ((let e = h .1 .1 in omega arith, (h .0, k)), r))
   verb-fits verb.Card n at = by-count recordWords recordWords n (order.Record at) tt
   verb-fits verb.Unknown n at = tt
 

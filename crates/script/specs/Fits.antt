@@ -29,7 +29,7 @@ CallFits s (call.Stored aid n) = Fits s aid
 CallFits s (call.Finished aid policy mark) = Fits s aid
 CallFits s call.Tick = Unit {0}
 CallFits s call.Lost = Unit {0}
-CallFits s (call.Policy speaker bytes) = Fits s speaker × (Fits s bytes × (speaker .start + speaker .len ≤ bytes .start))
+CallFits s (call.Policy speaker bytes) = (speaker .start + speaker .len ≤ bytes .start) × (Fits s speaker × Fits s bytes)
 
 abbrev pub OrderFits : List ℕ → Order → Type 0
 OrderFits s order.Nothing = Unit {0}
