@@ -1,11 +1,10 @@
 -- Document 01, 'Reading a command', from the writer's side: the string of each command, for every legal value, class, and Le or not.
 -- Reading such a string gives the value back, and whatever is accepted is such a string; an AID counts by its bytes.
-use Prim.Native.Nat.{ℕ, _≤_}
+use Prim.Native.Nat.{ℕ}
 use mathlib.Core.Path.{_≡_}
 use mathlib.Core.List.{List, [], _∷_}
 use mathlib.Core.Option.{Option, none, some}
 use mathlib.Core.Bool.{Bool, true, false}
-use lib.ListN.{length}
 use Rattle.tlv.specs.Encoding.{Bytes}
 use Rattle.fields.specs.Places.{RequestIn}
 use Rattle.fields.specs.Grammar.{EncodesStored, EncodesDeleted, EncodesListed, Asked, asked, Wanted, create, storeData, deletion, getStatus, getData, wantedOf}
@@ -13,7 +12,7 @@ use Rattle.install.specs.Grammar.{EncodesCreated}
 use Rattle.fields.specs.declared.request.Request.{Request}
 use Rattle.command.specs.declared.Reading.{Reading}
 use Rattle.command.specs.declared.Reading.the-variants as reading
-use Rattle.framing.specs.Framing.{classRight, parametersRight}
+use Rattle.framing.specs.Framing.{classRight}
 use Rattle.framing.specs.Frame.{framed, Framed}
 use Rattle.command.specs.Reading.{readOf}
 

@@ -31,7 +31,7 @@ use Rattle.install.specs.Parameters.{protocolsWithin, protocolsAt, numberAt, gr
 use Rattle.install.specs.Install.{prefixedOf, prefixedAt, namesAt, rightsAt, installOf}
 use Rattle.framing.specs.Framing.{lengthWrong, classRight, classWrong, instructionWrong, parametersRight, parametersWrong, shapeRight, shapeWrong}
 use Rattle.command.specs.Requests.{fieldOf, dataWrong}
-use Rattle.manager.specs.Calls.{Call, Call.Tick, Call.Lost, Call.Policy}
+use Rattle.manager.specs.Calls.{Call, Call.Tick, Call.Lost}
 use Rattle.manager.specs.Manager.{step}
 use Rattle.demands.specs.Change.{enabledBytes, isTick}
 use Rattle.demands.specs.Inputs.{freshOf}

@@ -24,7 +24,7 @@ use Rattle.operator.specs.declared.Update.{Update}
 use Rattle.operator.specs.declared.Update.the-variants as update
 use Rattle.operator.proofs.Answers.{passes-done, done-read, refused-word}
 use Rattle.operator.proofs.UpdateGrammar.{update-back, update-written}
-use Rattle.steps.specs.Asked.{Act.setPolicy, Asked, Asked.on}
+use Rattle.steps.specs.Asked.{Act.setPolicy, Asked}
 use Rattle.steps.specs.Steps.{stepOf, responseOf, successOf, innerWork}
 use Rattle.manager.specs.Calls.{Call.Policy, asked}
 use Rattle.manager.specs.Table.{leastBuffer, updateWrong, rowsAfter}

@@ -7,8 +7,8 @@ use mathlib.Core.List.{List, [], _∷_, _++_}
 use lib.ListN.{replicate}
 use Rattle.card.specs.Cards.{keeping}
 use Rattle.card.specs.Fresh.{zeroCard}
-use Rattle.manager.specs.Calls.{Call, Call.Keyed, Call.Tick, Call.Lost, Call.Policy}
-use Rattle.demands.specs.Examples.{aid, command, getStatus, setFallBack, enable, disable, confirm, delete, create, fresh, load, ticks}
+use Rattle.manager.specs.Calls.{Call, Call.Keyed, Call.Lost, Call.Policy}
+use Rattle.demands.specs.Examples.{aid, command, enable, disable, confirm, delete, fresh, ticks}
 use Rattle.demands.specs.StatusTable.{Case, case, next, quiet, opening, begun, onto, allTold, allMeant}
 
 -- STORE DATA with this P1 and this policy (000, Tables 67 to 69)

@@ -11,7 +11,6 @@ use Rattle.byte_string.specs.Bytes.{byte}
 use Rattle.choice.proofs.Branches.{no!, each, by-eq, eq! }
 use Rattle.tlv.specs.declared.Element.the-variants as element
 use Rattle.tlv.specs.Lists.{listWrong}
-use Rattle.tlv.specs.Filled.{Filled}
 use Rattle.tlv.specs.Encoding.{window, Bytes, encodeElement}
 use Rattle.tlv.proofs.Branches.{each-found}
 use Rattle.tlv.proofs.Windows.{window-starts}
