@@ -3,7 +3,7 @@
 use Prim.Native.Nat.{ℕ}
 use mathlib.Core.Path.{_≡_, refl, sym}
 use mathlib.Core.List.{List, _++_}
-use mathlib.Core.Bool.{true, false, false≢true}
+use mathlib.Core.Bool.{false, false≢true}
 use native.Mathlib.Omega.{arith}
 use Rattle.status.specs.StatusWords.{isDone}
 use Rattle.status.specs.Rows.{Row, wordOf}
@@ -58,13 +58,10 @@ requests =
 module _ (s : List ℕ) (capacity : ℕ) where
   -- for a table that goes on after these rows: it stops at them, or goes past them
   pub rows-stop : (success : Status) (more : List Row) → isDone (wordOf status.Done (readingRows s capacity)) ≡ false → wordOf success (readingRows s capacity ++ more) ≡ wordOf status.Done (readingRows s capacity)
-  rows-stop = rows.rows-stop (lengthWrong s) (classWrong s) (instructionWrong s) (parametersWrong s) (shapeWrong s) (dataWrong s capacity)
+  rows-stop success more = rows.rows-stop (lengthWrong s) (classWrong s) (instructionWrong s) (parametersWrong s) (shapeWrong s) (dataWrong s capacity) (dataWrong s capacity) success more (λ e. e)
 
   pub rows-pass : (success : Status) (more : List Row) → Passes s capacity → wordOf success (readingRows s capacity ++ more) ≡ wordOf success more
   rows-pass = rows.rows-pass (lengthWrong s) (classWrong s) (instructionWrong s) (parametersWrong s) (shapeWrong s) (dataWrong s capacity)
-
-  pub done-passes : isDone (wordOf status.Done (readingRows s capacity)) ≡ true → Passes s capacity
-  done-passes = rows.done-passes (lengthWrong s) (classWrong s) (instructionWrong s) (parametersWrong s) (shapeWrong s) (dataWrong s capacity)
 
   pub passes-done : Passes s capacity → wordOf status.Done (readingRows s capacity) ≡ status.Done
   passes-done = rows.passes-done (lengthWrong s) (classWrong s) (instructionWrong s) (parametersWrong s) (shapeWrong s) (dataWrong s capacity)
@@ -73,10 +70,6 @@ module _ (s : List ℕ) (capacity : ℕ) where
   pub refused-word : (w : Status) → reading.Refused w ≡ readOf s capacity → (w ≡ wordOf status.Done (readingRows s capacity)) × (isDone w ≡ false)
   unfolding readOf dataWrong
   refused-word = answers.refused-word requests (lengthWrong s) (classWrong s) (instructionWrong s) (parametersWrong s) (shapeWrong s) (fieldOf s capacity)
-
-  pub word-refused : isDone (wordOf status.Done (readingRows s capacity)) ≡ false → reading.Refused (wordOf status.Done (readingRows s capacity)) ≡ readOf s capacity
-  unfolding readOf dataWrong
-  word-refused = answers.word-refused requests (lengthWrong s) (classWrong s) (instructionWrong s) (parametersWrong s) (shapeWrong s) (fieldOf s capacity)
 
   -- `Read r` exactly where the rows' word is 90 00; r is then what the data field's reader found
   pub read-done : (r : Request) → reading.Read r ≡ readOf s capacity → (wordOf status.Done (readingRows s capacity) ≡ status.Done) × (field.Found r ≡ fieldOf s capacity)

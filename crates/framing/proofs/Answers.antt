@@ -56,9 +56,6 @@ module _ (k : Reader) (length class instruction parameters shape : Bool) (f : k 
   pub refused-word : (w : Status) → k .refused w ≡ answer → (w ≡ word) × (isDone w ≡ false)
   refused-word w q = let r = refused-case k f word (isDone word) w (λ h. done-passed h .dataRight) q in (r .0, ap isDone (r .0) ∙ r .1)
 
-  pub word-refused : isDone word ≡ false → k .refused word ≡ answer
-  word-refused h = rw h refl
-
   -- a value exactly where the rows' word is 90 00; it is what was found
   pub read-done : (v : k .Value) → k .read v ≡ answer → (word ≡ status.Done) × (k .found v ≡ f)
   read-done v q = let p = read-case k f word (isDone word) v q in (passed-done (done-passed (p .0)), p .1)

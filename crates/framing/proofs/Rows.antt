@@ -1,8 +1,8 @@
 -- The six rows that a command meets while it is read, by their conditions: a success exactly where none holds, and a table that goes on after
--- them stops at them or goes past them. By the law of tables, and by induction over rows that refuse.
+-- them stops at them or goes past them. By the law of tables, and by the first condition that holds.
 use mathlib.Core.Path.{_≡_, refl, sym}
-use mathlib.Core.List.{List, [], _∷_, _++_}
-use mathlib.Core.Bool.{Bool, true, false, cond, false≢true}
+use mathlib.Core.List.{List, [], _++_}
+use mathlib.Core.Bool.{Bool, true, false, false≢true}
 use Rattle.status.specs.StatusWords.{isDone}
 use Rattle.status.specs.Rows.{Row, wordOf}
 use Rattle.status.specs.declared.Status.{Status}
@@ -19,16 +19,18 @@ pub record Passes (length class instruction parameters shape field : Bool) : Typ
   pub shapeRight : shape ≡ false
   pub dataRight : field ≡ false
 
--- rows after a row that refuses are not asked
-word-case : (success : Status) (b : Bool) (w : Status) (rs more : List Row) → isDone (cond b w (wordOf status.Done rs)) ≡ false
-    → (isDone (wordOf status.Done rs) ≡ false → wordOf success (rs ++ more) ≡ wordOf status.Done rs) → cond b w (wordOf success (rs ++ more)) ≡ cond b w (wordOf status.Done rs)
-word-case success true w rs more h f = refl
-word-case success false w rs more h f = f h
-
-word-stops : (success : Status) (rs more : List Row) → isDone (wordOf status.Done rs) ≡ false → wordOf success (rs ++ more) ≡ wordOf status.Done rs
+-- rows of which the last may hold more often, with others after them: they stop where these stop
+stops : (length class instruction parameters shape field wider : Bool) (success : Status) (more : List Row) → (field ≡ true → wider ≡ true)
+    → isDone (wordOf status.Done (rowsBy length class instruction parameters shape field)) ≡ false
+    → wordOf success (rowsBy length class instruction parameters shape wider ++ more) ≡ wordOf status.Done (rowsBy length class instruction parameters shape field)
 unfolding wordOf
-word-stops success [] more h = absurd (false≢true (sym h))
-word-stops success (r ∷ rs) more h = word-case success (r .when) (r .word) rs more h (word-stops success rs more)
+stops true b c d e f g success more h q = refl
+stops false true c d e f g success more h q = refl
+stops false false true d e f g success more h q = refl
+stops false false false true e f g success more h q = refl
+stops false false false false true f g success more h q = refl
+stops false false false false false true g success more h q = rw (h refl) refl
+stops false false false false false false g success more h q = absurd (false≢true (sym q))
 
 module _ (length class instruction parameters shape field : Bool) where
   abbrev rows : List Row
@@ -37,9 +39,10 @@ module _ (length class instruction parameters shape field : Bool) where
   abbrev Pass : Type 0
   Pass = Passes length class instruction parameters shape field
 
-  -- for a table that goes on after these rows: it stops at them, or goes past them
-  pub rows-stop : (success : Status) (more : List Row) → isDone (wordOf status.Done rows) ≡ false → wordOf success (rows ++ more) ≡ wordOf status.Done rows
-  rows-stop success more h = word-stops success rows more h
+  -- for a table that goes on after these rows, whose last may hold more often: it stops at them, or goes past them
+  pub rows-stop : (wider : Bool) (success : Status) (more : List Row) → (field ≡ true → wider ≡ true) → isDone (wordOf status.Done rows) ≡ false
+      → wordOf success (rowsBy length class instruction parameters shape wider ++ more) ≡ wordOf status.Done rows
+  rows-stop wider success more h q = stops length class instruction parameters shape field wider success more h q
 
   pub rows-pass : (success : Status) (more : List Row) → Pass → wordOf success (rows ++ more) ≡ wordOf success more
   unfolding wordOf

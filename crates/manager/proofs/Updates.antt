@@ -2,43 +2,29 @@
 -- row refuses the table's row of the values refuses too, so that the table stops where the reader does. Assumes nothing.
 use mathlib.Core.Path.{_≡_, refl, ap, sym, _∙_}
 use Prim.Native.Nat.{ℕ, _≤_}
-use mathlib.Core.List.{List, _++_}
-use mathlib.Core.Bool.{Bool, true, false, cond, false≢true}
+use mathlib.Core.List.{List}
+use mathlib.Core.Bool.{true, cond, false≢true}
 use lib.Dec.{ltb}
 use borrow.Author.Tests.{le-ltb}
 use Rattle.status.specs.StatusWords.{isDone}
-use Rattle.status.specs.Rows.{Row, wordOf}
+use Rattle.status.specs.Rows.{wordOf}
 use Rattle.status.specs.declared.Status.{Status}
-use Rattle.status.specs.declared.Status.the-variants.{BufferShort, Done}
+use Rattle.status.specs.declared.Status.the-variants.{BufferShort}
 use Rattle.card.specs.Ticks.{ticksByPhase}
 use Rattle.card.specs.Answers.{refusedAt, known}
 use Rattle.card.specs.declared.Card.{Card}
-use Rattle.framing.specs.Framing.{lengthWrong, classWrong, parametersWrong, shapeWrong}
-use Rattle.framing.specs.Rows.{rowsBy}
 use Rattle.operator.specs.Field.{policyOf, isWrong}
-use Rattle.operator.specs.Reading.{notStoreData, policyWrong, updateOf}
+use Rattle.operator.specs.Reading.{policyWrong, updateOf}
 use Rattle.operator.specs.declared.Policy as operator
 use Rattle.operator.specs.declared.Policy.the-variants as policy
 use Rattle.operator.specs.declared.Update.the-variants as update
-use Rattle.operator.proofs.Answers.{refused-word, read-done, read-passes}
+use Rattle.operator.proofs.Answers.{rows-stop, refused-word, read-done, read-passes}
 use Rattle.steps.specs.Asked.{Act.setPolicy, Asked.on}
 use Rattle.steps.specs.Conditions.{cardRows}
 use Rattle.steps.specs.Steps.{innerWork}
 use Rattle.manager.specs.Calls.{Call, Call.Policy, policyAsks, asked}
 use Rattle.manager.specs.Table.{leastBuffer, updateWrong, rowsAfter}
 use Rattle.manager.specs.Manager.{work, onSound}
-
--- rows that hold wherever the reader's do, with others after them, stop where the reader stops
-stops : (success : Status) (a b c d e f g : Bool) (more : List Row) → (f ≡ true → g ≡ true) → isDone (wordOf Done (rowsBy a b c d e f)) ≡ false
-    → wordOf success (rowsBy a b c d e g ++ more) ≡ wordOf Done (rowsBy a b c d e f)
-unfolding wordOf
-stops success true b c d e f g more h q = refl
-stops success false true c d e f g more h q = refl
-stops success false false true d e f g more h q = refl
-stops success false false false true e f g more h q = refl
-stops success false false false false true f g more h q = refl
-stops success false false false false false true g more h q = rw (h refl) refl
-stops success false false false false false false g more h q = absurd (false≢true (sym q))
 
 wrong-too : (speaker : List ℕ) (p : operator.Policy) → isWrong p ≡ true → updateWrong speaker p ≡ true
 wrong-too speaker policy.Wrong e = refl
@@ -58,7 +44,7 @@ module _ (c : Card) (success : Status) (speaker s : List ℕ) (room : ℕ) where
   policy-refused w q =
       let r = refused-word s w q in
       ap (cond (ltb room leastBuffer) BufferShort)
-      (stops success (lengthWrong s) (classWrong s) (notStoreData s) (parametersWrong s) (shapeWrong s) (policyWrong s) (updateWrong speaker (policyOf s)) (cardRows c (asked c call)) (field-too speaker s) (ap isDone (sym (r .0)) ∙ r .1)
+      (rows-stop s (updateWrong speaker (policyOf s)) success (cardRows c (asked c call)) (field-too speaker s) (ap isDone (sym (r .0)) ∙ r .1)
       ∙ sym (r .0))
 
   -- the row of the values and the card's rows, behind it

@@ -3,13 +3,14 @@
 use Prim.Native.Nat.{ℕ}
 use mathlib.Core.Path.{_≡_, refl, sym}
 use mathlib.Core.List.{List, _++_}
-use mathlib.Core.Bool.{true, false, false≢true}
+use mathlib.Core.Bool.{Bool, true, false, false≢true}
 use native.Mathlib.Omega.{arith}
 use Rattle.status.specs.StatusWords.{isDone}
 use Rattle.status.specs.Rows.{Row, wordOf}
 use Rattle.status.specs.declared.Status.{Status}
 use Rattle.status.specs.declared.Status.the-variants as status
 use Rattle.framing.specs.Framing.{lengthWrong, classWrong, parametersWrong, shapeWrong}
+use Rattle.framing.specs.Rows.{rowsBy}
 use Rattle.framing.proofs.Rows as rows
 use Rattle.framing.proofs.Answers as answers
 use Rattle.operator.specs.declared.Policy.{Policy}
@@ -55,15 +56,10 @@ policies =
     }
 
 module _ (s : List ℕ) where
-  -- for a table that goes on after these rows: it stops at them, or goes past them
-  pub rows-stop : (success : Status) (more : List Row) → isDone (wordOf status.Done (updateRows s)) ≡ false → wordOf success (updateRows s ++ more) ≡ wordOf status.Done (updateRows s)
+  -- a table whose row of the values refuses what this reader does, and more: it stops where the reader stops
+  pub rows-stop : (wider : Bool) (success : Status) (more : List Row) → (policyWrong s ≡ true → wider ≡ true) → isDone (wordOf status.Done (updateRows s)) ≡ false
+      → wordOf success (rowsBy (lengthWrong s) (classWrong s) (notStoreData s) (parametersWrong s) (shapeWrong s) wider ++ more) ≡ wordOf status.Done (updateRows s)
   rows-stop = rows.rows-stop (lengthWrong s) (classWrong s) (notStoreData s) (parametersWrong s) (shapeWrong s) (policyWrong s)
-
-  pub rows-pass : (success : Status) (more : List Row) → Passes s → wordOf success (updateRows s ++ more) ≡ wordOf success more
-  rows-pass = rows.rows-pass (lengthWrong s) (classWrong s) (notStoreData s) (parametersWrong s) (shapeWrong s) (policyWrong s)
-
-  pub done-passes : isDone (wordOf status.Done (updateRows s)) ≡ true → Passes s
-  done-passes = rows.done-passes (lengthWrong s) (classWrong s) (notStoreData s) (parametersWrong s) (shapeWrong s) (policyWrong s)
 
   pub passes-done : Passes s → wordOf status.Done (updateRows s) ≡ status.Done
   passes-done = rows.passes-done (lengthWrong s) (classWrong s) (notStoreData s) (parametersWrong s) (shapeWrong s) (policyWrong s)
@@ -72,10 +68,6 @@ module _ (s : List ℕ) where
   pub refused-word : (w : Status) → update.Refused w ≡ updateOf s → (w ≡ wordOf status.Done (updateRows s)) × (isDone w ≡ false)
   unfolding updateOf policyWrong
   refused-word = answers.refused-word policies (lengthWrong s) (classWrong s) (notStoreData s) (parametersWrong s) (shapeWrong s) (policyOf s)
-
-  pub word-refused : isDone (wordOf status.Done (updateRows s)) ≡ false → update.Refused (wordOf status.Done (updateRows s)) ≡ updateOf s
-  unfolding updateOf policyWrong
-  word-refused = answers.word-refused policies (lengthWrong s) (classWrong s) (notStoreData s) (parametersWrong s) (shapeWrong s) (policyOf s)
 
   -- `Read p` exactly where the rows' word is 90 00; p is then what the data field's reader found
   pub read-done : (p : ℕ) → update.Read p ≡ updateOf s → (wordOf status.Done (updateRows s) ≡ status.Done) × (policy.Found p ≡ policyOf s)

@@ -1,6 +1,6 @@
 -- A policy update, both directions. What is accepted passed all rows, so it is framed, and its data field came by the one branch that finds a
 -- policy. Framed, it passes the rows before its data field, which is read back as a DGI with one element alone in it.
-use Prim.Native.Nat.{ℕ, _+_, _≤_, _<_}
+use Prim.Native.Nat.{ℕ, _+_, _≤_}
 use mathlib.Core.Path.{_≡_, refl, sym, ap, _∙_}
 use mathlib.Core.List.{List, [], _∷_}
 use mathlib.Core.Bool.{false}
@@ -85,10 +85,6 @@ update-written s p b q =
 
 pub update-filled : UpdateFilled
 update-filled s p q = let r = found-parts s p q in dgi-filled s 5 (dataEnd s) 0x3A06 (r .contents) (r .opened) (r .listed)
-
--- a policy that is read is a byte of the string
-pub read-byte : (s : List ℕ) (p : ℕ) → Bytes s → update.Read p ≡ updateOf s → p < 256
-read-byte s p b q = let r = found-parts s p q in let e = r .value in let h = b (r .start) in omega arith
 
 -- ---- an encoded update is read back
 

@@ -5,12 +5,9 @@ use borrow.Author.Needs.{needs}
 use Rattle.operator.proofs.not_store_data.Statement.{statement}
 use Rattle.operator.proofs.not_store_data.Tie as tie
 
-byte-at-requires : tie.Need-byte-at-requires
-byte-at-requires c κs = search needs
-
 returns : tie.Need-returns
 unfolding notStoreData
 returns c = rw (c .byte-at .ensures) refl
 
 pub not-store-data-spec : {M : Type 1} → statement M
-not-store-data-spec = tie.close (tie.spec byte-at-requires returns)
+not-store-data-spec = tie.close (tie.spec (λ c κs. search needs) returns)

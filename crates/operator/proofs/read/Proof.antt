@@ -6,15 +6,9 @@ use borrow.Author.Needs.{needs}
 use Rattle.operator.proofs.read.Statement.{statement}
 use Rattle.operator.proofs.read.Tie as tie
 
-length-wrong-requires : tie.Need-length-wrong-requires
-length-wrong-requires c κs = search needs
-
 returns : tie.Need-returns
 unfolding updateOf wordOf
 returns c = rw (← c .before .length-wrong .ensures, c .if1 .taken) refl
-
-class-wrong-requires : tie.Need-class-wrong-requires
-class-wrong-requires c κs = search needs
 
 returns-2 : tie.Need-returns-2
 unfolding updateOf wordOf
@@ -23,9 +17,6 @@ returns-2 c =
     let l = k .before .before in
     rw (← l .length-wrong .ensures, k .before .if1 .left, ← k .class-wrong .ensures, c .if2 .taken) refl
 
-not-store-data-requires : tie.Need-not-store-data-requires
-not-store-data-requires c κs = search needs
-
 returns-3 : tie.Need-returns-3
 unfolding updateOf wordOf
 returns-3 c =
@@ -33,9 +24,6 @@ returns-3 c =
     let k = i .before .before in
     let l = k .before .before in
     rw (← l .length-wrong .ensures, k .before .if1 .left, ← k .class-wrong .ensures, i .before .if2 .left, ← i .not-store-data .ensures, c .if3 .taken) refl
-
-parameters-wrong-requires : tie.Need-parameters-wrong-requires
-parameters-wrong-requires c κs = search needs
 
 returns-4 : tie.Need-returns-4
 unfolding updateOf wordOf
@@ -46,9 +34,6 @@ returns-4 c =
     let l = k .before .before in
     rw (← l .length-wrong .ensures, k .before .if1 .left, ← k .class-wrong .ensures, i .before .if2 .left, ← i .not-store-data .ensures, p .before .if3 .left, ← p .parameters-wrong .ensures, c .if4 .taken) refl
 
-shape-wrong-requires : tie.Need-shape-wrong-requires
-shape-wrong-requires c κs = search needs
-
 returns-5 : tie.Need-returns-5
 unfolding updateOf wordOf
 returns-5 c =
@@ -58,15 +43,6 @@ returns-5 c =
     let k = i .before .before in
     let l = k .before .before in
     rw (← l .length-wrong .ensures, k .before .if1 .left, ← k .class-wrong .ensures, i .before .if2 .left, ← i .not-store-data .ensures, p .before .if3 .left, ← p .parameters-wrong .ensures, s .before .if4 .left, ← s .shape-wrong .ensures, c .if5 .taken) refl
-
-read-policy-requires : tie.Need-read-policy-requires
-read-policy-requires c κs = search needs
-
-enum-known-policy : tie.Need-enum-known-policy
-enum-known-policy c = search needs
-
-enum-told : tie.Need-enum-told
-enum-told c = search needs
 
 returns-6 : tie.Need-returns-6
 unfolding updateOf wordOf policyWrong
@@ -94,18 +70,18 @@ pub read-spec : {M : Type 1} → statement M
 read-spec =
     tie.close
     (tie.spec
-    length-wrong-requires
+    (λ c κs. search needs)
     returns
-    class-wrong-requires
+    (λ c κs. search needs)
     returns-2
-    not-store-data-requires
+    (λ c κs. search needs)
     returns-3
-    parameters-wrong-requires
+    (λ c κs. search needs)
     returns-4
-    shape-wrong-requires
+    (λ c κs. search needs)
     returns-5
-    read-policy-requires
-    enum-known-policy
-    enum-told
+    (λ c κs. search needs)
+    (λ c. search needs)
+    (λ c. search needs)
     returns-6
     returns-7)

@@ -5,15 +5,9 @@ use borrow.Author.Needs.{needs}
 use Rattle.operator.proofs.read_policy.Statement.{statement}
 use Rattle.operator.proofs.read_policy.Tie as tie
 
-data-end-requires : tie.Need-data-end-requires
-data-end-requires c κs = search needs
-
-policy-at-requires : tie.Need-policy-at-requires
-policy-at-requires c κs = search needs
-
 returns : tie.Need-returns
 unfolding policyOf
 returns c = rw (c .policy-at .ensures) (rw (c .before .data-end .ensures) refl)
 
 pub read-policy-spec : {M : Type 1} → statement M
-read-policy-spec = tie.close (tie.spec data-end-requires policy-at-requires returns)
+read-policy-spec = tie.close (tie.spec (λ c κs. search needs) (λ c κs. search needs) returns)

@@ -5,27 +5,6 @@ use borrow.Author.Needs.{needs}
 use Rattle.script.proofs.next_sent.Statement.{statement}
 use Rattle.script.proofs.next_sent.Tie as tie
 
-next-bytes-requires : tie.Need-next-bytes-requires
-next-bytes-requires c κs = search needs
-
-enum-known-why : tie.Need-enum-known-why
-enum-known-why c = search needs
-
-enum-known-bytes : tie.Need-enum-known-bytes
-enum-known-bytes c = search needs
-
-next-or-requires : tie.Need-next-or-requires
-next-or-requires c κs = search needs
-
-enum-known-why-2 : tie.Need-enum-known-why-2
-enum-known-why-2 c = search needs
-
-enum-known-n : tie.Need-enum-known-n
-enum-known-n c = search needs
-
-cast-room : tie.Need-cast-room
-cast-room c = search needs
-
 returns : tie.Need-returns
 unfolding sentAt
 returns c = rw (← (sym (c .before .why .given .1) ∙ c .before .before .before .next-bytes .ensures)) refl
@@ -46,13 +25,13 @@ pub next-sent-spec : {M : Type 1} → statement M
 next-sent-spec =
     tie.close
     (tie.spec
-    next-bytes-requires
-    enum-known-why
-    enum-known-bytes
-    next-or-requires
-    enum-known-why-2
-    enum-known-n
-    cast-room
+    (λ c κs. search needs)
+    (λ c. search needs)
+    (λ c. search needs)
+    (λ c κs. search needs)
+    (λ c. search needs)
+    (λ c. search needs)
+    (λ c. search needs)
     returns
     returns-2
     returns-3)

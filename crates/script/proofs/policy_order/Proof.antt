@@ -5,24 +5,6 @@ use borrow.Author.Needs.{needs}
 use Rattle.script.proofs.policy_order.Statement.{statement}
 use Rattle.script.proofs.policy_order.Tie as tie
 
-next-bytes-requires : tie.Need-next-bytes-requires
-next-bytes-requires c κs = search needs
-
-enum-known-why : tie.Need-enum-known-why
-enum-known-why c = search needs
-
-enum-known-speaker : tie.Need-enum-known-speaker
-enum-known-speaker c = search needs
-
-next-sent-requires : tie.Need-next-sent-requires
-next-sent-requires c κs = search needs
-
-enum-known-why-2 : tie.Need-enum-known-why-2
-enum-known-why-2 c = search needs
-
-enum-known-bytes : tie.Need-enum-known-bytes
-enum-known-bytes c = search needs
-
 returns : tie.Need-returns
 unfolding policyAt
 returns c = rw (← (sym (c .before .why .given .1) ∙ c .before .before .before .next-bytes .ensures)) refl
@@ -43,12 +25,12 @@ pub policy-order-spec : {M : Type 1} → statement M
 policy-order-spec =
     tie.close
     (tie.spec
-    next-bytes-requires
-    enum-known-why
-    enum-known-speaker
-    next-sent-requires
-    enum-known-why-2
-    enum-known-bytes
+    (λ c κs. search needs)
+    (λ c. search needs)
+    (λ c. search needs)
+    (λ c κs. search needs)
+    (λ c. search needs)
+    (λ c. search needs)
     returns
     returns-2
     returns-3)

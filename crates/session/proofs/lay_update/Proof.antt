@@ -23,17 +23,11 @@ part-spell-start c =
     let s = start k in
     left-starts (now (s .args .out)) (now (s .args .s)) (s .args .speaker) (s .args .bytes) (s .pre) (k .spell .ensures .0) (k .spell .ensures .1)
 
-part-spell-end : tie.Need-part-spell-end
-part-spell-end c = search needs
-
 spell-requires-2 : tie.Need-spell-requires-2
 spell-requires-2 c κs =
     let k = c .before .before .before in
     let s = start k in
     left-fits (now (s .args .out)) (now (s .args .s)) (s .args .speaker) (s .args .bytes) (s .pre) (k .spell .ensures .0) (k .spell .ensures .1)
-
-same-length : tie.Need-same-length
-same-length c = search needs
 
 returns : tie.Need-returns
 returns c =
@@ -49,7 +43,7 @@ lay-update-spec =
     spell-requires
     sub-spell
     part-spell-start
-    part-spell-end
+    (λ c. search needs)
     spell-requires-2
-    same-length
+    (λ c. search needs)
     returns)

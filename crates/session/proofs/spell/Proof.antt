@@ -12,15 +12,6 @@ use borrow.Author.Needs.{needs}
 use Rattle.session.proofs.spell.Statement.{statement}
 use Rattle.session.proofs.spell.Tie as tie
 
-part-of-requires : tie.Need-part-of-requires
-part-of-requires c κs = search needs
-
-spell-hex-requires : tie.Need-spell-hex-requires
-spell-hex-requires c κs = search needs
-
-same-length : tie.Need-same-length
-same-length c = search needs
-
 returns : tie.Need-returns
 returns c = let s = c .before .before .before .before .before .before .before in
     let old = s .args .out .now in
@@ -31,4 +22,4 @@ returns c = let s = c .before .before .before .before .before .before .before in
     (ap front (c .before .before .spell-hex .ensures .0 ∙ ap length both), c .before .before .spell-hex .ensures .1 ∙ ap (put old 0) both)
 
 pub spell-spec : {M : Type 1} → statement M
-spell-spec = tie.close (tie.spec part-of-requires spell-hex-requires same-length returns)
+spell-spec = tie.close (tie.spec (λ c κs. search needs) (λ c κs. search needs) (λ c. search needs) returns)

@@ -3,41 +3,8 @@ use borrow.Author.Needs.{needs}
 use Rattle.events.proofs.Kind.is_wrong.Statement.{statement}
 use Rattle.events.proofs.Kind.is_wrong.Tie as tie
 
-enum-told : tie.Need-enum-told
-enum-told c = search needs
-
-enum-told-2 : tie.Need-enum-told-2
-enum-told-2 c = search needs
-
-enum-told-3 : tie.Need-enum-told-3
-enum-told-3 c = search needs
-
-enum-told-4 : tie.Need-enum-told-4
-enum-told-4 c = search needs
-
-enum-told-5 : tie.Need-enum-told-5
-enum-told-5 c = search needs
-
-enum-told-6 : tie.Need-enum-told-6
-enum-told-6 c = search needs
-
-enum-told-7 : tie.Need-enum-told-7
-enum-told-7 c = search needs
-
-enum-told-8 : tie.Need-enum-told-8
-enum-told-8 c = search needs
-
-speaker-size-requires : tie.Need-speaker-size-requires
-speaker-size-requires c κs = search needs
-
-enum-told-9 : tie.Need-enum-told-9
-enum-told-9 c = search needs
-
 returns : tie.Need-returns
 returns c = rw (c .enum-told .given .1)
-
-returns-2 : tie.Need-returns-2
-returns-2 c = search needs
 
 returns-3 : tie.Need-returns-3
 returns-3 c = rw (c .enum-told3 .given .1)
@@ -57,29 +24,26 @@ returns-7 c = rw (c .enum-told7 .given .1)
 returns-8 : tie.Need-returns-8
 returns-8 c = rw (c .before .enum-told8 .given .1, c .speaker-size .ensures)
 
-returns-9 : tie.Need-returns-9
-returns-9 c = search needs
-
 pub is-wrong-spec : {M : Type 1} → statement M
 is-wrong-spec =
     tie.close
     (tie.spec
-    enum-told
-    enum-told-2
-    enum-told-3
-    enum-told-4
-    enum-told-5
-    enum-told-6
-    enum-told-7
-    enum-told-8
-    speaker-size-requires
-    enum-told-9
+    (λ c. search needs)
+    (λ c. search needs)
+    (λ c. search needs)
+    (λ c. search needs)
+    (λ c. search needs)
+    (λ c. search needs)
+    (λ c. search needs)
+    (λ c. search needs)
+    (λ c κs. search needs)
+    (λ c. search needs)
     returns
-    returns-2
+    (λ c. search needs)
     returns-3
     returns-4
     returns-5
     returns-6
     returns-7
     returns-8
-    returns-9)
+    (λ c. search needs))
