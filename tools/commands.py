@@ -26,6 +26,16 @@ MODULE = "A0000005591010FFFFFFFF8900000E00"
 C9 = "C90481020370"
 
 
+def class_is_right(cla):
+    """The three ranges in the printed order (GP 11.1.4; 01, row 6E 00), for every INS (ruling 5)."""
+    return 0x80 <= cla <= 0x8F or 0xC0 <= cla <= 0xCF or 0xE0 <= cla <= 0xEF
+
+
+def in_each_class(command):
+    """A command with each of the 256 classes, and whether that class is right."""
+    return [(f"{cla:02X}{command[2:]}", class_is_right(cla)) for cla in range(256)]
+
+
 def ef(quota, digits=8):
     return tlv("EF", tlv("83", f"{quota:0{digits}X}"))
 

@@ -73,21 +73,16 @@ r("80E60C000105", NO)
 r("80E288000000", SHAPE)
 r("80E288000200", SHAPE)
 
-group("row 6E 00: every edge of the three class ranges")
-for cla in ("00", "01", "40", "7F", "90", "9F", "A0", "AF", "B0", "BF", "D0", "DF", "F0", "FF"):
-    r(cla + "CAFF2100", "6E00")
-for cla in ("80", "81", "84", "8E", "8F", "C0", "C1", "CF", "E0", "E1", "EF"):
-    r(cla + "CAFF2100", "get-data")
-group("ruling 5: the three ranges hold for every INS")
-r("84" + ENABLE[2:], "enable " + B)
-r("C3" + ENABLE[2:], "enable " + B)
-r("EF" + ENABLE[2:], "enable " + B)
-r("8F" + create()[2:], f"create {B} 50")
-r("CF" + delete(four_f())[2:], "delete " + B)
-r("E0" + status("4F00")[2:], "get-status all 4F,9F70,53")
-r("90" + ENABLE[2:], "6E00")
-group("6E 00 stands before 6D 00")
-r("90E18800", "6E00")
+# The three ranges hold for every INS, so each CLA is read with a right command of each.
+for command, answer in (
+    ("80CAFF2100", "get-data"), (create(), f"create {B} 50"), (delete(four_f()), "delete " + B), (ENABLE, "enable " + B), (status("4F00"), "get-status all 4F,9F70,53"),
+):
+    group(f"row 6E 00, ruling 5: each CLA with INS {command[2:4]}")
+    for one, right in in_each_class(command):
+        r(one, answer if right else "6E00")
+group("6E 00 stands before 6D 00: each CLA with an INS that is not known")
+for one, right in in_each_class("80E18800"):
+    r(one, "6D00" if right else "6E00")
 r("BFFFFFFF00", "6E00")
 
 group("row 6D 00: neighbours of each INS")

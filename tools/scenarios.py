@@ -3338,10 +3338,16 @@ confirms(11, done(response=f"80074F05{aid(5)}"))
 updates(2, 1)
 enables(1, no("69E1"))
 
-name("B81: each CLA: 80 to 8F, C0 to CF and E0 to EF are taken, all others are 6E 00")
-five()
-for cla in range(256):
-    speaks(2, update(0, cla=f"{cla:02X}"), done() if cla >> 4 in (0x8, 0xC, 0xE) else no("6E00"))
+name("B81: each CLA, 00 sent where 01 is held: 80 to 8F, C0 to CF and E0 to EF set it, all others are 6E 00 and leave it")
+five(1)
+for data, right in in_each_class(RIGHT):
+    speaks(2, data, done() if right else no("6E00"))
+    if right:
+        forbids_disabling(False)
+        # A change is open now, in which every update is refused.
+        five(1)
+    else:
+        disables(2, no("69E1"))
 
 name("B81: each INS but E2 is 6D 00, with the data of an update and as the root domain would take it")
 for ins in range(256):
@@ -3733,6 +3739,25 @@ assert len(line) == 4096
 call(line, no("6F02"))
 call(f"policy {'A0' * 1021} {'80' * 1021} 256", no("6700"))
 forbids_disabling(False)
+
+# ---------------------------------------------------------------- request 2026-07: the class byte as the three ranges
+
+name("2026-07, ruling 5: each CLA with GET DATA: 80 to 8F, C0 to CF and E0 to EF are answered, all others are 6E 00")
+fresh()
+for data, right in in_each_class(GET_DATA):
+    command(data, done(response="FF210F810101820400000384830401020304") if right else no("6E00"))
+
+name("2026-07, ruling 5: each CLA with set fall-back on the one of two that has it not: it moves or, with 6E 00, stays where it was")
+HELD_BY = {1: [(1, E, True), (2, D)], 2: [(1, E), (2, D, True)]}
+fresh()
+profile(2)
+holder, other = 1, 2
+for cla in range(256):
+    right = class_is_right(cla)
+    command(store("3A05", four_f(aid(other)), cla=f"{cla:02X}"), done() if right else no("6E00"))
+    if right:
+        holder, other = other, holder
+    table(*HELD_BY[holder])
 store_away("scenarios")
 
 # ---------------------------------------------------------------- the mark, and what a deletion leaves, in the explained form

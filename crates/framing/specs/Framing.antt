@@ -12,10 +12,16 @@ use Rattle.byte_string.specs.Bytes.{byte}
 unfoldable pub lengthWrong : List ℕ → Bool
 lengthWrong s = ltb (length s) 4 || ltb 261 (length s)
 
--- 80-8F, C0-CF, E0-EF
+-- low to high, both taken
+abbrev pub isWithin : ℕ → ℕ → ℕ → Bool
+isWithin low high value = leb low value && leb value high
+
+-- GP 11.1.4 in its printed order: 80-8F, C0-CF, E0-EF
 unfoldable pub classRight : ℕ → Bool
 classRight class =
-    (leb 0x80 class && leb class 0x8F) || ((leb 0xC0 class && leb class 0xCF) || (leb 0xE0 class && leb class 0xEF))
+    isWithin 0x80 0x8F class
+    || isWithin 0xC0 0xCF class
+    || isWithin 0xE0 0xEF class
 
 -- 6E 00: CLA outside 80-8F, C0-CF, E0-EF
 unfoldable pub classWrong : List ℕ → Bool
@@ -33,7 +39,7 @@ unfoldable pub parametersRight : ℕ → ℕ → ℕ → Bool
 parametersRight instruction p1 p2 =
     (eqb instruction 0xE6 && (eqb p1 0x0C && eqb p2 0x00))
     || ((eqb instruction 0xE4 && (eqb p1 0x00 && eqb p2 0x40))
-    || ((eqb instruction 0xE2 && ((leb 0x88 p1 && leb p1 0x8F) && eqb p2 0x00))
+    || ((eqb instruction 0xE2 && (isWithin 0x88 0x8F p1 && eqb p2 0x00))
     || ((eqb instruction 0xF2 && (eqb p1 0x40 && (eqb p2 0x02 || eqb p2 0x03))) || (eqb instruction 0xCA && (eqb p1 0xFF && eqb p2 0x21)))))
 
 -- 6A 86: P1 or P2 not as below

@@ -26,11 +26,16 @@ pub fn length_wrong(bytes: &[u8]) -> bool
     (length < 4) | (261 < length)
 }
 
+// GP 11.1.4, the three ranges in its printed order.
 pub fn class_right(class: u8) -> bool
     ensures { λ r. ⌜ r ≡ classRight class ⌝ }
 {
-    ((0x80 <= class) & (class <= 0x8F))
-        | (((0xC0 <= class) & (class <= 0xCF)) | ((0xE0 <= class) & (class <= 0xEF)))
+    match class {
+        0x80..=0x8F => true,
+        0xC0..=0xCF => true,
+        0xE0..=0xEF => true,
+        _ => false,
+    }
 }
 
 pub fn class_wrong(bytes: &[u8]) -> bool
