@@ -6,7 +6,7 @@ use mathlib.Core.Bool.{Bool}
 use native.Mathlib.Omega.{arith}
 use Rattle.choice.proofs.Branches.{on-eq}
 use Rattle.framing.specs.Framing.{classRight}
-use Rattle.framing.specs.Classes.{printedClasses, isAmong, yesUnder, classRightBefore, ClassByte}
+use Rattle.framing.specs.Classes.{isAmong, isPrinted, yesUnder, classRightBefore, ClassByte}
 
 answersUnder : (ℕ → Bool) → ℕ → List Bool
 answersUnder test zero = []
@@ -22,15 +22,12 @@ alike one other (suc n) e value h =
     (λ (last : value ≡ n). rw last (head-eq-of-cons-eq e))
     (λ (earlier : value ≡ n → ⊥). alike one other n (tail-eq-of-cons-eq e) value (omega arith))
 
-isPrinted : ℕ → Bool
-isPrinted class = isAmong class printedClasses
-
 is : answersUnder classRight 256 ≡ answersUnder isPrinted 256
-unfolding answersUnder classRight isPrinted isAmong
+unfolding answersUnder classRight isAmong
 is = refl
 
 was : answersUnder classRightBefore 256 ≡ answersUnder isPrinted 256
-unfolding answersUnder classRightBefore isPrinted isAmong
+unfolding answersUnder classRightBefore isAmong
 was = refl
 
 counted : yesUnder classRight 256 ≡ 48
@@ -38,7 +35,6 @@ unfolding yesUnder classRight
 counted = refl
 
 pub class-byte : ClassByte
-unfolding isPrinted
 class-byte = record {
   as-it-is = alike classRight isPrinted 256 is;
   as-it-was = alike classRightBefore isPrinted 256 was;

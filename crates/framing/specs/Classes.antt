@@ -18,9 +18,12 @@ unfoldable pub isAmong : ℕ → List ℕ → Bool
 isAmong value [] = false
 isAmong value (first ∷ rest) = eqb value first || isAmong value rest
 
--- a test says yes for exactly the values printed
+abbrev pub isPrinted : ℕ → Bool
+isPrinted class = isAmong class printedClasses
+
+-- a test that says yes for exactly the values printed
 abbrev pub TakesPrinted : (ℕ → Bool) → Type 0
-TakesPrinted test = (class : ℕ) → class < 256 → test class ≡ isAmong class printedClasses
+TakesPrinted test = (class : ℕ) → class < 256 → test class ≡ isPrinted class
 
 -- for how many values under a bound a test says yes
 unfoldable pub yesUnder : (ℕ → Bool) → ℕ → ℕ
