@@ -3350,6 +3350,7 @@ for data, right in in_each_class(RIGHT):
         disables(2, no("69E1"))
 
 name("B81: each INS but E2 is 6D 00, with the data of an update and as the root domain would take it")
+five(1)
 for ins in range(256):
     if ins != 0xE2:
         speaks(2, f"80{ins:02X}8800063A0603810100", no("6D00"))
@@ -3359,13 +3360,22 @@ for data in (
     "80E40040", "80F24002", "80E60C00", "80A40400", "80E28800063A0603810100".replace("E2", "DA"),
 ):
     speaks(2, data, no("6D00"))
+disables(2, no("69E1"))
 
 name("B81: each P1: 88 to 8F are taken, all others 6A 86; so is each P2 but 00")
+five(1)
 for p1 in range(256):
-    speaks(2, update(0, p1=f"{p1:02X}"), done() if 0x88 <= p1 <= 0x8F else no("6A86"))
+    if not 0x88 <= p1 <= 0x8F:
+        speaks(2, update(0, p1=f"{p1:02X}"), no("6A86"))
 for p2 in ("01", "02", "03", "06", "40", "7F", "80", "88", "FF"):
     speaks(2, RIGHT.replace("80E28800", f"80E288{p2}"), no("6A86"))
     speaks(2, RIGHT.replace("80E28800", f"80E28F{p2}", 1), no("6A86"))
+disables(2, no("69E1"))
+for p1 in range(0x88, 0x90):
+    speaks(2, update(0, p1=f"{p1:02X}"), done())
+    forbids_disabling(False)
+    # A change is open now, in which every update is refused.
+    five(1)
 
 name("B81: Lc 1 to 255, Lc bytes, then nothing or Le 00; every other length is 67 00")
 for cut in range(len(RIGHT) // 2):
