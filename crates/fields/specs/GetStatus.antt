@@ -59,7 +59,7 @@ rowsOf next start stop life fallBack =
     (pick (isBelow (stop - start) 5) field.Wrong
     (field.Found (request.GetStatusOfOne (between start stop) life fallBack))))
 
--- `next`: does the listing go on from the kept place (P2 03), or begin anew (P2 02)?
+-- `next`: with P2 03 the listing goes on from the kept place, with P2 02 it begins anew
 unfoldable pub listingAt : Bool → List ℕ → ℕ → ℕ → Field
 listingAt next s at end =
     pick (listWrong s at end) field.Wrong
