@@ -7,46 +7,25 @@ use borrow.Author.Needs.{needs}
 use Rattle.command.proofs.read.Statement.{statement}
 use Rattle.command.proofs.read.Tie as tie
 
-length-wrong-requires : tie.Need-length-wrong-requires
-length-wrong-requires c κs = search needs
-
 returns : tie.Need-returns
 unfolding readOf wordOf
 returns c = rw (← c .before .length-wrong .ensures) (rw (c .if1 .taken) (refl))
-
-class-wrong-requires : tie.Need-class-wrong-requires
-class-wrong-requires c κs = search needs
 
 returns-2 : tie.Need-returns-2
 unfolding readOf wordOf
 returns-2 c = rw (← c .before .before .before .length-wrong .ensures) (rw (c .before .before .if1 .left) (rw (← c .before .class-wrong .ensures) (rw (c .if2 .taken) (refl))))
 
-instruction-wrong-requires : tie.Need-instruction-wrong-requires
-instruction-wrong-requires c κs = search needs
-
 returns-3 : tie.Need-returns-3
 unfolding readOf wordOf
 returns-3 c = rw (← c .before .before .before .before .before .length-wrong .ensures) (rw (c .before .before .before .before .if1 .left) (rw (← c .before .before .before .class-wrong .ensures) (rw (c .before .before .if2 .left) (rw (← c .before .instruction-wrong .ensures) (rw (c .if3 .taken) (refl))))))
-
-parameters-wrong-requires : tie.Need-parameters-wrong-requires
-parameters-wrong-requires c κs = search needs
 
 returns-4 : tie.Need-returns-4
 unfolding readOf wordOf
 returns-4 c = rw (← c .before .before .before .before .before .before .before .length-wrong .ensures) (rw (c .before .before .before .before .before .before .if1 .left) (rw (← c .before .before .before .before .before .class-wrong .ensures) (rw (c .before .before .before .before .if2 .left) (rw (← c .before .before .before .instruction-wrong .ensures) (rw (c .before .before .if3 .left) (rw (← c .before .parameters-wrong .ensures) (rw (c .if4 .taken) (refl))))))))
 
-shape-wrong-requires : tie.Need-shape-wrong-requires
-shape-wrong-requires c κs = search needs
-
 returns-5 : tie.Need-returns-5
 unfolding readOf wordOf
 returns-5 c = rw (← c .before .before .before .before .before .before .before .before .before .length-wrong .ensures) (rw (c .before .before .before .before .before .before .before .before .if1 .left) (rw (← c .before .before .before .before .before .before .before .class-wrong .ensures) (rw (c .before .before .before .before .before .before .if2 .left) (rw (← c .before .before .before .before .before .instruction-wrong .ensures) (rw (c .before .before .before .before .if3 .left) (rw (← c .before .before .before .parameters-wrong .ensures) (rw (c .before .before .if4 .left) (rw (← c .before .shape-wrong .ensures) (rw (c .if5 .taken) (refl))))))))))
-
-read-field-requires : tie.Need-read-field-requires
-read-field-requires c κs = search needs
-
-enum-known-request : tie.Need-enum-known-request
-enum-known-request c = search needs
 
 enum-told : tie.Need-enum-told
 enum-told c = search needs
@@ -63,18 +42,18 @@ pub read-spec : {M : Type 1} → statement M
 read-spec =
     tie.close
     (tie.spec
-    length-wrong-requires
+    (λ c κs. search needs)
     returns
-    class-wrong-requires
+    (λ c κs. search needs)
     returns-2
-    instruction-wrong-requires
+    (λ c κs. search needs)
     returns-3
-    parameters-wrong-requires
+    (λ c κs. search needs)
     returns-4
-    shape-wrong-requires
+    (λ c κs. search needs)
     returns-5
-    read-field-requires
-    enum-known-request
+    (λ c κs. search needs)
+    (λ c. search needs)
     enum-told
     returns-6
     returns-7)

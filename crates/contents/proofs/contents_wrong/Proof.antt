@@ -12,31 +12,19 @@ returns c = too-long (c .before .before .args .s .now) (omega arith)
 returns-2 : tie.Need-returns-2
 returns-2 c = too-short (c .before .before .before .args .s .now) (omega arith) (omega arith)
 
-contents-end-requires : tie.Need-contents-end-requires
-contents-end-requires c κs = search needs
-
 returns-3 : tie.Need-returns-3
 returns-3 c = fits-not (c .before .before .before .before .before .args .s .now) (omega arith) (omega arith) (omega arith)
-
-some-kind-wrong-requires : tie.Need-some-kind-wrong-requires
-some-kind-wrong-requires c κs = search needs
 
 returns-4 : tie.Need-returns-4
 returns-4 c = let s = c .before .before .before .before .before .before .before .args .s .now in
     let k = sym (c .before .some-kind-wrong .ensures) ∙ c .if4 .taken in
     rw (fits s (omega arith) (omega arith) (omega arith), k)
 
-some-body-wrong-requires : tie.Need-some-body-wrong-requires
-some-body-wrong-requires c κs = search needs
-
 returns-5 : tie.Need-returns-5
 returns-5 c = let s = c .before .before .before .before .before .before .before .before .before .args .s .now in
     let k = sym (c .before .before .before .some-kind-wrong .ensures) ∙ c .before .before .if4 .left in
     let l = sym (c .before .some-body-wrong .ensures) ∙ c .if5 .taken in
     rw (fits s (omega arith) (omega arith) (omega arith), k, l)
-
-not-filled-requires : tie.Need-not-filled-requires
-not-filled-requires c κs = search needs
 
 returns-6 : tie.Need-returns-6
 returns-6 c = let s = c .before .before .before .before .before .before .before .before .before .before .args .s .now in
@@ -50,11 +38,11 @@ contents-wrong-spec =
     (tie.spec
     returns
     returns-2
-    contents-end-requires
+    (λ c κs. search needs)
     returns-3
-    some-kind-wrong-requires
+    (λ c κs. search needs)
     returns-4
-    some-body-wrong-requires
+    (λ c κs. search needs)
     returns-5
-    not-filled-requires
+    (λ c κs. search needs)
     returns-6)

@@ -3,20 +3,8 @@ use borrow.Author.Needs.{needs}
 use Rattle.contents.proofs.length_at.Statement.{statement}
 use Rattle.contents.proofs.length_at.Tie as tie
 
-entry-at-requires : tie.Need-entry-at-requires
-entry-at-requires c κs = search needs
-
-add-at : tie.Need-add-at
-add-at c = search needs
-
-read-four-requires : tie.Need-read-four-requires
-read-four-requires c κs = search needs
-
-cast-result : tie.Need-cast-result
-cast-result c = search needs
-
 returns : tie.Need-returns
 returns c = rw (← c .before .entry-at .ensures) (c .read-four .ensures)
 
 pub length-at-spec : {M : Type 1} → statement M
-length-at-spec = tie.close (tie.spec entry-at-requires add-at read-four-requires cast-result returns)
+length-at-spec = tie.close (tie.spec (λ c κs. search needs) (λ c. search needs) (λ c κs. search needs) (λ c. search needs) returns)

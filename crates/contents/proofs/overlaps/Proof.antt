@@ -7,21 +7,6 @@ use Rattle.contents.specs.Contents.{apart}
 use Rattle.contents.proofs.overlaps.Statement.{statement}
 use Rattle.contents.proofs.overlaps.Tie as tie
 
-start-at-requires : tie.Need-start-at-requires
-start-at-requires c κs = search needs
-
-stop-at-requires : tie.Need-stop-at-requires
-stop-at-requires c κs = search needs
-
-start-at-requires-2 : tie.Need-start-at-requires-2
-start-at-requires-2 c κs = search needs
-
-stop-at-requires-2 : tie.Need-stop-at-requires-2
-stop-at-requires-2 c κs = search needs
-
-apart-requires : tie.Need-apart-requires
-apart-requires c κs = search needs
-
 alike : {a a′ b b′ c c′ d d′ : ℕ} → a ≡ a′ → b ≡ b′ → c ≡ c′ → d ≡ d′ → apart a b c d ≡ apart a′ b′ c′ d′
 alike p q r s = cc
 
@@ -33,4 +18,4 @@ returns c = let j = c .before in
 pub overlaps-spec : {M : Type 1} → statement M
 overlaps-spec =
     tie.close
-    (tie.spec start-at-requires stop-at-requires start-at-requires-2 stop-at-requires-2 apart-requires returns)
+    (tie.spec (λ c κs. search needs) (λ c κs. search needs) (λ c κs. search needs) (λ c κs. search needs) (λ c κs. search needs) returns)

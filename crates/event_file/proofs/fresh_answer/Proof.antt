@@ -9,27 +9,6 @@ use borrow.Author.Needs.{needs}
 use Rattle.event_file.proofs.fresh_answer.Statement.{statement}
 use Rattle.event_file.proofs.fresh_answer.Tie as tie
 
-read-four-requires : tie.Need-read-four-requires
-read-four-requires c κs = search needs
-
-read-four-requires-2 : tie.Need-read-four-requires-2
-read-four-requires-2 c κs = search needs
-
-read-four-requires-3 : tie.Need-read-four-requires-3
-read-four-requires-3 c κs = search needs
-
-read-four-requires-4 : tie.Need-read-four-requires-4
-read-four-requires-4 c κs = search needs
-
-part-of-requires : tie.Need-part-of-requires
-part-of-requires c κs = search needs
-
-part-of-requires-2 : tie.Need-part-of-requires-2
-part-of-requires-2 c κs = search needs
-
-fresh-requires : tie.Need-fresh-requires
-fresh-requires c κs = search needs
-
 returns : tie.Need-returns
 unfolding freshAnswer
 returns c =
@@ -47,11 +26,11 @@ pub fresh-answer-spec : {M : Type 1} → statement M
 fresh-answer-spec =
     tie.close
     (tie.spec
-    read-four-requires
-    read-four-requires-2
-    read-four-requires-3
-    read-four-requires-4
-    part-of-requires
-    part-of-requires-2
-    fresh-requires
+    (λ c κs. search needs)
+    (λ c κs. search needs)
+    (λ c κs. search needs)
+    (λ c κs. search needs)
+    (λ c κs. search needs)
+    (λ c κs. search needs)
+    (λ c κs. search needs)
     returns)

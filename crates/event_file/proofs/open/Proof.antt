@@ -14,43 +14,16 @@ use borrow.Author.Needs.{needs}
 use Rattle.event_file.proofs.open.Statement.{statement}
 use Rattle.event_file.proofs.open.Tie as tie
 
-contents-wrong-requires : tie.Need-contents-wrong-requires
-contents-wrong-requires c κs = search needs
-
-refused-requires : tie.Need-refused-requires
-refused-requires c κs = search needs
-
 returns : tie.Need-returns
 returns c = c .refused .ensures ∙ contents-stop _ (sym (c .before .before .contents-wrong .ensures) ∙ c .before .if1 .taken)
 
-section-of-requires : tie.Need-section-of-requires
-section-of-requires c κs = search needs
-
-enum-known-inputs : tie.Need-enum-known-inputs
-enum-known-inputs c = search needs
-
 enum-told : tie.Need-enum-told
 enum-told c = search needs
-
-refused-requires-2 : tie.Need-refused-requires-2
-refused-requires-2 c κs = search needs
 
 returns-2 : tie.Need-returns-2
 returns-2 c = let q = c .before .before .before in
     let p = sym (q .before .before .contents-wrong .ensures) ∙ q .before .if1 .left in
     c .refused2 .ensures ∙ fresh-missing _ p (sym (q .section-of .ensures) ∙ c .before .enum-told .given .1)
-
-section-of-requires-2 : tie.Need-section-of-requires-2
-section-of-requires-2 c κs = search needs
-
-enum-known-events : tie.Need-enum-known-events
-enum-known-events c = search needs
-
-enum-told-2 : tie.Need-enum-told-2
-enum-told-2 c = search needs
-
-refused-requires-3 : tie.Need-refused-requires-3
-refused-requires-3 c κs = search needs
 
 returns-3 : tie.Need-returns-3
 returns-3 c = let v = c .before .before .before in
@@ -59,12 +32,6 @@ returns-3 c = let v = c .before .before .before in
     let p = sym (q .before .before .contents-wrong .ensures) ∙ q .before .if1 .left in
     let l = sym (q .section-of .ensures) ∙ i .inputs .given .1 in
     c .refused3 .ensures ∙ events-missing _ p _ l (sym (v .section-of2 .ensures) ∙ c .before .enum-told2 .given .1)
-
-part-of-requires : tie.Need-part-of-requires
-part-of-requires c κs = search needs
-
-refused-requires-4 : tie.Need-refused-requires-4
-refused-requires-4 c κs = search needs
 
 returns-4 : tie.Need-returns-4
 returns-4 c =
@@ -77,15 +44,6 @@ returns-4 c =
     let l = sym (q .section-of .ensures) ∙ i .inputs .given .1 in
     let m = sym (v .section-of2 .ensures) ∙ e .events .given .1 in
     c .refused4 .ensures ∙ bad-stop _ p _ l _ m (ap freshBad (sym (w .part-of .ensures)) ∙ bad-short _ (omega arith))
-
-fresh-answer-requires : tie.Need-fresh-answer-requires
-fresh-answer-requires c κs = search needs
-
-is-done-requires : tie.Need-is-done-requires
-is-done-requires c κs = search needs
-
-refused-requires-5 : tie.Need-refused-requires-5
-refused-requires-5 c κs = search needs
 
 returns-5 : tie.Need-returns-5
 returns-5 c =
@@ -101,33 +59,6 @@ returns-5 c =
     let m = sym (v .section-of2 .ensures) ∙ e .events .given .1 in
     let x = sym (d .is-done .ensures ∙ ap (λ (o : Answer). isDone (o .status)) (a .fresh-answer .ensures)) ∙ not-true _ (c .before .if3 .taken) in
     c .refused5 .ensures ∙ bad-stop _ p _ l _ m (ap freshBad (sym (w .part-of .ensures)) ∙ bad-refused _ (omega arith) x)
-
-part-of-requires-2 : tie.Need-part-of-requires-2
-part-of-requires-2 c κs = search needs
-
-check-events-requires : tie.Need-check-events-requires
-check-events-requires c κs = search needs
-
-enum-told-3 : tie.Need-enum-told-3
-enum-told-3 c = search needs
-
-refused-requires-6 : tie.Need-refused-requires-6
-refused-requires-6 c κs = search needs
-
-enum-told-4 : tie.Need-enum-told-4
-enum-told-4 c = search needs
-
-refused-requires-7 : tie.Need-refused-requires-7
-refused-requires-7 c κs = search needs
-
-enum-told-5 : tie.Need-enum-told-5
-enum-told-5 c = search needs
-
-refused-requires-8 : tie.Need-refused-requires-8
-refused-requires-8 c κs = search needs
-
-enum-told-6 : tie.Need-enum-told-6
-enum-told-6 c = search needs
 
 returns-6 : tie.Need-returns-6
 returns-6 c =
@@ -211,35 +142,35 @@ pub open-spec : {M : Type 1} → statement M
 open-spec =
     tie.close
     (tie.spec
-    contents-wrong-requires
-    refused-requires
+    (λ c κs. search needs)
+    (λ c κs. search needs)
     returns
-    section-of-requires
-    enum-known-inputs
+    (λ c κs. search needs)
+    (λ c. search needs)
     enum-told
-    refused-requires-2
+    (λ c κs. search needs)
     returns-2
-    section-of-requires-2
-    enum-known-events
-    enum-told-2
-    refused-requires-3
+    (λ c κs. search needs)
+    (λ c. search needs)
+    (λ c. search needs)
+    (λ c κs. search needs)
     returns-3
-    part-of-requires
-    refused-requires-4
+    (λ c κs. search needs)
+    (λ c κs. search needs)
     returns-4
-    fresh-answer-requires
-    is-done-requires
-    refused-requires-5
+    (λ c κs. search needs)
+    (λ c κs. search needs)
+    (λ c κs. search needs)
     returns-5
-    part-of-requires-2
-    check-events-requires
-    enum-told-3
-    refused-requires-6
-    enum-told-4
-    refused-requires-7
-    enum-told-5
-    refused-requires-8
-    enum-told-6
+    (λ c κs. search needs)
+    (λ c κs. search needs)
+    (λ c. search needs)
+    (λ c κs. search needs)
+    (λ c. search needs)
+    (λ c κs. search needs)
+    (λ c. search needs)
+    (λ c κs. search needs)
+    (λ c. search needs)
     returns-6
     returns-7
     returns-8

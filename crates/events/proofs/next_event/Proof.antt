@@ -9,23 +9,8 @@ use Rattle.events.proofs.next_event.Tie as tie
 returns : tie.Need-returns
 returns c = sym (next-ends _ _ (omega arith))
 
-stop-of-requires : tie.Need-stop-of-requires
-stop-of-requires c κs = search needs
-
 returns-2 : tie.Need-returns-2
 returns-2 c = sym (next-ends _ _ (omega arith))
-
-shared-slice-read-of : tie.Need-shared-slice-read-of
-shared-slice-read-of c = search needs
-
-of-requires : tie.Need-of-requires
-of-requires c κs = search needs
-
-add-call-in : tie.Need-add-call-in
-add-call-in c = search needs
-
-call-in-requires : tie.Need-call-in-requires
-call-in-requires c κs = search needs
 
 returns-3 : tie.Need-returns-3
 returns-3 c =
@@ -37,10 +22,10 @@ next-event-spec =
     tie.close
     (tie.spec
     returns
-    stop-of-requires
+    (λ c κs. search needs)
     returns-2
-    shared-slice-read-of
-    of-requires
-    add-call-in
-    call-in-requires
+    (λ c. search needs)
+    (λ c κs. search needs)
+    (λ c. search needs)
+    (λ c κs. search needs)
     returns-3)

@@ -11,8 +11,5 @@ returns c =
     let e : c .before .args .stop - c .before .args .start ≡ 0 = omega arith in
     rw e
 
-returns-2 : tie.Need-returns-2
-returns-2 c = search needs
-
 pub part-spec : {M : Type 1} → statement M
-part-spec = tie.close (tie.spec returns returns-2)
+part-spec = tie.close (tie.spec returns (λ c. search needs))

@@ -20,12 +20,6 @@ returns-3 : tie.Need-returns-3
 unfolding dgiAt
 returns-3 c = nlt! _ (omega arith) (lt! _ (omega arith) refl)
 
-add-place : tie.Need-add-place
-add-place c = search needs
-
-shared-slice-read-count : tie.Need-shared-slice-read-count
-shared-slice-read-count c = search needs
-
 cast-count : tie.Need-cast-count
 cast-count c = fits-8-64 (c .shared-slice-known2 .given _)
 
@@ -33,18 +27,9 @@ returns-4 : tie.Need-returns-4
 unfolding dgiAt
 returns-4 c = nlt! _ (omega arith) (nlt! _ (omega arith) (lt! _ (omega arith) refl))
 
-add-start : tie.Need-add-start
-add-start c = search needs
-
-sub-if5 : tie.Need-sub-if5
-sub-if5 c = search needs
-
 returns-5 : tie.Need-returns-5
 unfolding dgiAt
 returns-5 c = nlt! _ (omega arith) (nlt! _ (omega arith) (nlt! _ (omega arith) (ne! _ (omega arith) refl)))
-
-read-pair-requires : tie.Need-read-pair-requires
-read-pair-requires c κs = search needs
 
 returns-6 : tie.Need-returns-6
 unfolding dgiAt
@@ -57,12 +42,12 @@ read-dgi-spec =
     returns
     returns-2
     returns-3
-    add-place
-    shared-slice-read-count
+    (λ c. search needs)
+    (λ c. search needs)
     cast-count
     returns-4
-    add-start
-    sub-if5
+    (λ c. search needs)
+    (λ c. search needs)
     returns-5
-    read-pair-requires
+    (λ c κs. search needs)
     returns-6)

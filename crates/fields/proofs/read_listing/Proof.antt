@@ -8,18 +8,9 @@ use borrow.Author.Needs.{needs}
 use Rattle.fields.proofs.read_listing.Statement.{statement}
 use Rattle.fields.proofs.read_listing.Tie as tie
 
-list-wrong-requires : tie.Need-list-wrong-requires
-list-wrong-requires c κs = search needs
-
 returns : tie.Need-returns
 unfolding listingAt
 returns c = yes! _ (sym (c .before .list-wrong .ensures) ∙ c .if1 .taken) refl
-
-next-element-requires : tie.Need-next-element-requires
-next-element-requires c κs = search needs
-
-enum-known-start : tie.Need-enum-known-start
-enum-known-start c = search needs
 
 enum-told : tie.Need-enum-told
 enum-told c = search needs
@@ -27,15 +18,6 @@ enum-told c = search needs
 returns-2 : tie.Need-returns-2
 unfolding listingAt
 returns-2 c = no! _ (sym (c .before .before .before .before .list-wrong .ensures) ∙ c .before .before .before .if1 .left) (rw (← c .before .before .next-element .ensures) (rw (c .enum-told .given .1) refl))
-
-read-tags-requires : tie.Need-read-tags-requires
-read-tags-requires c κs = search needs
-
-enum-known-life : tie.Need-enum-known-life
-enum-known-life c = search needs
-
-enum-told-2 : tie.Need-enum-told-2
-enum-told-2 c = search needs
 
 returns-3 : tie.Need-returns-3
 unfolding listingAt
@@ -67,15 +49,15 @@ pub read-listing-spec : {M : Type 1} → statement M
 read-listing-spec =
     tie.close
     (tie.spec
-    list-wrong-requires
+    (λ c κs. search needs)
     returns
-    next-element-requires
-    enum-known-start
+    (λ c κs. search needs)
+    (λ c. search needs)
     enum-told
     returns-2
-    read-tags-requires
-    enum-known-life
-    enum-told-2
+    (λ c κs. search needs)
+    (λ c. search needs)
+    (λ c. search needs)
     returns-3
     sub-len
     returns-4

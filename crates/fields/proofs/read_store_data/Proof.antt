@@ -8,12 +8,6 @@ use borrow.Author.Needs.{needs}
 use Rattle.fields.proofs.read_store_data.Statement.{statement}
 use Rattle.fields.proofs.read_store_data.Tie as tie
 
-read-dgi-requires : tie.Need-read-dgi-requires
-read-dgi-requires c κs = search needs
-
-enum-known-dgi : tie.Need-enum-known-dgi
-enum-known-dgi c = search needs
-
 enum-told : tie.Need-enum-told
 enum-told c = search needs
 
@@ -21,28 +15,13 @@ returns : tie.Need-returns
 unfolding storeDataAt namedBy
 returns c = rw (← c .before .before .read-dgi .ensures) (rw (c .enum-told .given .1) refl)
 
-list-wrong-requires : tie.Need-list-wrong-requires
-list-wrong-requires c κs = search needs
-
 returns-2 : tie.Need-returns-2
 unfolding storeDataAt namedBy
 returns-2 c = rw (← c .before .before .before .before .before .read-dgi .ensures) (rw (c .before .before .before .dgi .given .1) (yes! _ (sym (c .before .list-wrong .ensures) ∙ c .if1 .taken) refl))
 
-read-confirmation-requires : tie.Need-read-confirmation-requires
-read-confirmation-requires c κs = search needs
-
 returns-3 : tie.Need-returns-3
 unfolding storeDataAt namedBy
 returns-3 c = rw (← c .before .before .before .before .before .before .before .read-dgi .ensures) (rw (c .before .before .before .before .before .dgi .given .1) (no! _ (sym (c .before .before .before .list-wrong .ensures) ∙ c .before .before .if1 .left) (eq! _ (omega arith) (c .read-confirmation .ensures))))
-
-last-element-requires : tie.Need-last-element-requires
-last-element-requires c κs = search needs
-
-enum-known-start : tie.Need-enum-known-start
-enum-known-start c = search needs
-
-enum-told-2 : tie.Need-enum-told-2
-enum-told-2 c = search needs
 
 returns-4 : tie.Need-returns-4
 unfolding storeDataAt namedBy
@@ -74,17 +53,17 @@ pub read-store-data-spec : {M : Type 1} → statement M
 read-store-data-spec =
     tie.close
     (tie.spec
-    read-dgi-requires
-    enum-known-dgi
+    (λ c κs. search needs)
+    (λ c. search needs)
     enum-told
     returns
-    list-wrong-requires
+    (λ c κs. search needs)
     returns-2
-    read-confirmation-requires
+    (λ c κs. search needs)
     returns-3
-    last-element-requires
-    enum-known-start
-    enum-told-2
+    (λ c κs. search needs)
+    (λ c. search needs)
+    (λ c. search needs)
     returns-4
     sub-len
     returns-5

@@ -11,21 +11,12 @@ returns : tie.Need-returns
 unfolding tagsAt
 returns c = eq! _ (omega arith) refl
 
-last-element-requires : tie.Need-last-element-requires
-last-element-requires c κs = search needs
-
-enum-known-start : tie.Need-enum-known-start
-enum-known-start c = search needs
-
 enum-told : tie.Need-enum-told
 enum-told c = search needs
 
 returns-2 : tie.Need-returns-2
 unfolding tagsAt
 returns-2 c = ne! _ (omega arith) (rw (← c .before .before .last-element .ensures) (rw (c .enum-told .given .1) refl))
-
-read-listed-requires : tie.Need-read-listed-requires
-read-listed-requires c κs = search needs
 
 returns-3 : tie.Need-returns-3
 unfolding tagsAt
@@ -36,9 +27,9 @@ read-tags-spec =
     tie.close
     (tie.spec
     returns
-    last-element-requires
-    enum-known-start
+    (λ c κs. search needs)
+    (λ c. search needs)
     enum-told
     returns-2
-    read-listed-requires
+    (λ c κs. search needs)
     returns-3)

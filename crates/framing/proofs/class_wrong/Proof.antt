@@ -5,15 +5,9 @@ use Rattle.framing.specs.Framing.{classWrong}
 use Rattle.framing.proofs.class_wrong.Statement.{statement}
 use Rattle.framing.proofs.class_wrong.Tie as tie
 
-byte-at-requires : tie.Need-byte-at-requires
-byte-at-requires c κs = search needs
-
-class-right-requires : tie.Need-class-right-requires
-class-right-requires c κs = search needs
-
 returns : tie.Need-returns
 unfolding classWrong
 returns c = rw (c .class-right .ensures) (rw (c .before .byte-at .ensures) refl)
 
 pub class-wrong-spec : {M : Type 1} → statement M
-class-wrong-spec = tie.close (tie.spec byte-at-requires class-right-requires returns)
+class-wrong-spec = tie.close (tie.spec (λ c κs. search needs) (λ c κs. search needs) returns)

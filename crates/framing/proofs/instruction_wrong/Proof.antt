@@ -5,12 +5,9 @@ use Rattle.framing.specs.Framing.{instructionWrong}
 use Rattle.framing.proofs.instruction_wrong.Statement.{statement}
 use Rattle.framing.proofs.instruction_wrong.Tie as tie
 
-byte-at-requires : tie.Need-byte-at-requires
-byte-at-requires c κs = search needs
-
 returns : tie.Need-returns
 unfolding instructionWrong
 returns c = rw (c .byte-at .ensures) refl
 
 pub instruction-wrong-spec : {M : Type 1} → statement M
-instruction-wrong-spec = tie.close (tie.spec byte-at-requires returns)
+instruction-wrong-spec = tie.close (tie.spec (λ c κs. search needs) returns)

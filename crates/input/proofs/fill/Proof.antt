@@ -15,12 +15,6 @@ use borrow.Author.Needs.{needs}
 use Rattle.input.proofs.fill.Statement.{statement}
 use Rattle.input.proofs.fill.Tie as tie
 
-keep-requires : tie.Need-keep-requires
-keep-requires c κs = search needs
-
-same-length : tie.Need-same-length
-same-length c = search needs
-
 returns : tie.Need-returns
 returns c =
     let a = c .before .before .before .before .before .before .args in
@@ -32,30 +26,6 @@ returns c =
       brings = refl;
       size = search needs;
     }
-
-sub-part : tie.Need-sub-part
-sub-part c = search needs
-
-part-part-start : tie.Need-part-part-start
-part-part-start c = search needs
-
-part-part-end : tie.Need-part-part-end
-part-part-end c = search needs
-
-read-requires : tie.Need-read-requires
-read-requires c κs = search needs
-
-arrival-of-requires : tie.Need-arrival-of-requires
-arrival-of-requires c κs = search needs
-
-count-requires : tie.Need-count-requires
-count-requires c κs = search needs
-
-grown-requires : tie.Need-grown-requires
-grown-requires c κs = search needs
-
-same-length-2 : tie.Need-same-length-2
-same-length-2 c = search needs
 
 returns-2 : tie.Need-returns-2
 returns-2 c =
@@ -80,15 +50,15 @@ pub fill-spec : {M : Type 1} → statement M
 fill-spec =
     tie.close
     (tie.spec
-    keep-requires
-    same-length
+    (λ c κs. search needs)
+    (λ c. search needs)
     returns
-    sub-part
-    part-part-start
-    part-part-end
-    read-requires
-    arrival-of-requires
-    count-requires
-    grown-requires
-    same-length-2
+    (λ c. search needs)
+    (λ c. search needs)
+    (λ c. search needs)
+    (λ c κs. search needs)
+    (λ c κs. search needs)
+    (λ c κs. search needs)
+    (λ c κs. search needs)
+    (λ c. search needs)
     returns-2)

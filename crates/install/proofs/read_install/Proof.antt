@@ -7,12 +7,6 @@ use borrow.Author.Needs.{needs}
 use Rattle.install.proofs.read_install.Statement.{statement}
 use Rattle.install.proofs.read_install.Tie as tie
 
-read-names-requires : tie.Need-read-names-requires
-read-names-requires c κs = search needs
-
-enum-known-start : tie.Need-enum-known-start
-enum-known-start c = search needs
-
 enum-told : tie.Need-enum-told
 enum-told c = search needs
 
@@ -20,27 +14,9 @@ returns : tie.Need-returns
 unfolding installOf
 returns c = rw (← c .before .before .read-names .ensures) (rw (c .enum-told .given .1) refl)
 
-read-rights-requires : tie.Need-read-rights-requires
-read-rights-requires c κs = search needs
-
-enum-known-from : tie.Need-enum-known-from
-enum-known-from c = search needs
-
-enum-told-2 : tie.Need-enum-told-2
-enum-told-2 c = search needs
-
 returns-2 : tie.Need-returns-2
 unfolding installOf
 returns-2 c = rw (← c .before .before .before .before .before .before .read-names .ensures) (rw (c .before .before .before .before .start .given .1) (rw (← c .before .before .read-rights .ensures) (rw (c .enum-told2 .given .1) refl)))
-
-read-parameters-requires : tie.Need-read-parameters-requires
-read-parameters-requires c κs = search needs
-
-enum-known-quota : tie.Need-enum-known-quota
-enum-known-quota c = search needs
-
-enum-told-3 : tie.Need-enum-told-3
-enum-told-3 c = search needs
 
 returns-3 : tie.Need-returns-3
 unfolding installOf
@@ -57,17 +33,17 @@ pub read-install-spec : {M : Type 1} → statement M
 read-install-spec =
     tie.close
     (tie.spec
-    read-names-requires
-    enum-known-start
+    (λ c κs. search needs)
+    (λ c. search needs)
     enum-told
     returns
-    read-rights-requires
-    enum-known-from
-    enum-told-2
+    (λ c κs. search needs)
+    (λ c. search needs)
+    (λ c. search needs)
     returns-2
-    read-parameters-requires
-    enum-known-quota
-    enum-told-3
+    (λ c κs. search needs)
+    (λ c. search needs)
+    (λ c. search needs)
     returns-3
     sub-len
     returns-4)

@@ -8,12 +8,6 @@ use borrow.Author.Needs.{needs}
 use Rattle.install.proofs.read_memory.Statement.{statement}
 use Rattle.install.proofs.read_memory.Tie as tie
 
-last-element-requires : tie.Need-last-element-requires
-last-element-requires c κs = search needs
-
-enum-known-start : tie.Need-enum-known-start
-enum-known-start c = search needs
-
 enum-told : tie.Need-enum-told
 enum-told c = search needs
 
@@ -28,12 +22,6 @@ returns-2 : tie.Need-returns-2
 unfolding memoryAt
 returns-2 c = rw (← c .before .before .before .before .last-element .ensures) (rw (c .before .before .start .given .1) (eq! _ (omega arith) refl))
 
-read-number-requires : tie.Need-read-number-requires
-read-number-requires c κs = search needs
-
-grant-requires : tie.Need-grant-requires
-grant-requires c κs = search needs
-
 returns-3 : tie.Need-returns-3
 unfolding memoryAt
 returns-3 c = rw (← c .before .before .before .before .before .before .last-element .ensures) (rw (c .before .before .before .before .start .given .1) (ne! _ (omega arith) (rw (c .grant .ensures) (rw (c .before .read-number .ensures) refl))))
@@ -42,12 +30,12 @@ pub read-memory-spec : {M : Type 1} → statement M
 read-memory-spec =
     tie.close
     (tie.spec
-    last-element-requires
-    enum-known-start
+    (λ c κs. search needs)
+    (λ c. search needs)
     enum-told
     returns
     sub-count
     returns-2
-    read-number-requires
-    grant-requires
+    (λ c κs. search needs)
+    (λ c κs. search needs)
     returns-3)

@@ -5,12 +5,6 @@ use borrow.Author.Needs.{needs}
 use Rattle.install.proofs.read_names.Statement.{statement}
 use Rattle.install.proofs.read_names.Tie as tie
 
-read-prefixed-requires : tie.Need-read-prefixed-requires
-read-prefixed-requires c κs = search needs
-
-enum-known-next : tie.Need-enum-known-next
-enum-known-next c = search needs
-
 enum-told : tie.Need-enum-told
 enum-told c = search needs
 
@@ -18,21 +12,9 @@ returns : tie.Need-returns
 unfolding namesAt
 returns c = rw (← c .before .before .read-prefixed .ensures) (rw (c .enum-told .given .1) refl)
 
-read-prefixed-requires-2 : tie.Need-read-prefixed-requires-2
-read-prefixed-requires-2 c κs = search needs
-
-enum-known-own : tie.Need-enum-known-own
-enum-known-own c = search needs
-
-enum-told-2 : tie.Need-enum-told-2
-enum-told-2 c = search needs
-
 returns-2 : tie.Need-returns-2
 unfolding namesAt
 returns-2 c = rw (← c .before .before .before .before .before .before .read-prefixed .ensures) (rw (c .before .before .before .before .next .given .1) (rw (← c .before .before .read-prefixed2 .ensures) (rw (c .enum-told2 .given .1) refl)))
-
-read-prefixed-requires-3 : tie.Need-read-prefixed-requires-3
-read-prefixed-requires-3 c κs = search needs
 
 returns-3 : tie.Need-returns-3
 unfolding namesAt
@@ -42,13 +24,13 @@ pub read-names-spec : {M : Type 1} → statement M
 read-names-spec =
     tie.close
     (tie.spec
-    read-prefixed-requires
-    enum-known-next
+    (λ c κs. search needs)
+    (λ c. search needs)
     enum-told
     returns
-    read-prefixed-requires-2
-    enum-known-own
-    enum-told-2
+    (λ c κs. search needs)
+    (λ c. search needs)
+    (λ c. search needs)
     returns-2
-    read-prefixed-requires-3
+    (λ c κs. search needs)
     returns-3)

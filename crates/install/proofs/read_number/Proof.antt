@@ -6,18 +6,9 @@ use borrow.Author.Needs.{needs}
 use Rattle.install.proofs.read_number.Statement.{statement}
 use Rattle.install.proofs.read_number.Tie as tie
 
-read-pair-requires : tie.Need-read-pair-requires
-read-pair-requires c κs = search needs
-
-cast-result : tie.Need-cast-result
-cast-result c = search needs
-
 returns : tie.Need-returns
 unfolding numberAt
 returns c = eq! _ (omega arith) (c .read-pair .ensures)
-
-read-four-requires : tie.Need-read-four-requires
-read-four-requires c κs = search needs
 
 returns-2 : tie.Need-returns-2
 unfolding numberAt
@@ -27,8 +18,8 @@ pub read-number-spec : {M : Type 1} → statement M
 read-number-spec =
     tie.close
     (tie.spec
-    read-pair-requires
-    cast-result
+    (λ c κs. search needs)
+    (λ c. search needs)
     returns
-    read-four-requires
+    (λ c κs. search needs)
     returns-2)

@@ -6,18 +6,9 @@ use borrow.Author.Needs.{needs}
 use Rattle.install.proofs.read_parameters.Statement.{statement}
 use Rattle.install.proofs.read_parameters.Tie as tie
 
-list-wrong-requires : tie.Need-list-wrong-requires
-list-wrong-requires c κs = search needs
-
 returns : tie.Need-returns
 unfolding parametersAt
 returns c = yes! _ (sym (c .before .list-wrong .ensures) ∙ c .if1 .taken) refl
-
-next-element-requires : tie.Need-next-element-requires
-next-element-requires c κs = search needs
-
-enum-known-start : tie.Need-enum-known-start
-enum-known-start c = search needs
 
 enum-told : tie.Need-enum-told
 enum-told c = search needs
@@ -26,34 +17,13 @@ returns-2 : tie.Need-returns-2
 unfolding parametersAt
 returns-2 c = no! _ (sym (c .before .before .before .before .list-wrong .ensures) ∙ c .before .before .before .if1 .left) (rw (← c .before .before .next-element .ensures) (rw (c .enum-told .given .1) refl))
 
-read-protocols-requires : tie.Need-read-protocols-requires
-read-protocols-requires c κs = search needs
-
-enum-told-2 : tie.Need-enum-told-2
-enum-told-2 c = search needs
-
-enum-told-3 : tie.Need-enum-told-3
-enum-told-3 c = search needs
-
 returns-3 : tie.Need-returns-3
 unfolding parametersAt
 returns-3 c = no! _ (sym (c .before .before .before .before .before .before .before .before .list-wrong .ensures) ∙ c .before .before .before .before .before .before .before .if1 .left) (rw (← c .before .before .before .before .before .before .next-element .ensures) (rw (c .before .before .before .before .start .given .1) (rw (← c .before .before .read-protocols .ensures) (rw (c .enum-told3 .given .1) refl))))
 
-last-element-requires : tie.Need-last-element-requires
-last-element-requires c κs = search needs
-
-enum-known-from : tie.Need-enum-known-from
-enum-known-from c = search needs
-
-enum-told-4 : tie.Need-enum-told-4
-enum-told-4 c = search needs
-
 returns-4 : tie.Need-returns-4
 unfolding parametersAt
 returns-4 c = no! _ (sym (c .before .before .before .before .before .before .before .before .before .before .before .list-wrong .ensures) ∙ c .before .before .before .before .before .before .before .before .before .before .if1 .left) (rw (← c .before .before .before .before .before .before .before .before .before .next-element .ensures) (rw (c .before .before .before .before .before .before .before .start .given .1) (rw (← c .before .before .before .before .before .read-protocols .ensures) (rw (c .before .before .before .enum-told2 .given .1) (rw (← c .before .before .last-element .ensures) (rw (c .enum-told4 .given .1) refl))))))
-
-read-memory-requires : tie.Need-read-memory-requires
-read-memory-requires c κs = search needs
 
 returns-5 : tie.Need-returns-5
 unfolding parametersAt
@@ -63,19 +33,19 @@ pub read-parameters-spec : {M : Type 1} → statement M
 read-parameters-spec =
     tie.close
     (tie.spec
-    list-wrong-requires
+    (λ c κs. search needs)
     returns
-    next-element-requires
-    enum-known-start
+    (λ c κs. search needs)
+    (λ c. search needs)
     enum-told
     returns-2
-    read-protocols-requires
-    enum-told-2
-    enum-told-3
+    (λ c κs. search needs)
+    (λ c. search needs)
+    (λ c. search needs)
     returns-3
-    last-element-requires
-    enum-known-from
-    enum-told-4
+    (λ c κs. search needs)
+    (λ c. search needs)
+    (λ c. search needs)
     returns-4
-    read-memory-requires
+    (λ c κs. search needs)
     returns-5)

@@ -8,12 +8,6 @@ use borrow.Author.Needs.{needs}
 use Rattle.install.proofs.read_prefixed.Statement.{statement}
 use Rattle.install.proofs.read_prefixed.Tie as tie
 
-read-length-requires : tie.Need-read-length-requires
-read-length-requires c κs = search needs
-
-enum-known-count : tie.Need-enum-known-count
-enum-known-count c = search needs
-
 enum-told : tie.Need-enum-told
 enum-told c = search needs
 
@@ -36,9 +30,6 @@ returns-4 : tie.Need-returns-4
 unfolding prefixedAt
 returns-4 c = rw (← c .before .before .before .before .before .before .read-length .ensures) (rw (c .before .before .before .before .count .given .1) (nlt! _ (omega arith) (nlt! _ (omega arith) (lt! _ (omega arith) refl))))
 
-add-stop : tie.Need-add-stop
-add-stop c = search needs
-
 returns-5 : tie.Need-returns-5
 unfolding prefixedAt
 returns-5 c = rw (← c .before .before .before .before .before .before .read-length .ensures) (rw (c .before .before .before .before .count .given .1) (nlt! _ (omega arith) (nlt! _ (omega arith) (nlt! _ (omega arith) refl))))
@@ -47,13 +38,13 @@ pub read-prefixed-spec : {M : Type 1} → statement M
 read-prefixed-spec =
     tie.close
     (tie.spec
-    read-length-requires
-    enum-known-count
+    (λ c κs. search needs)
+    (λ c. search needs)
     enum-told
     returns
     sub-room
     returns-2
     returns-3
     returns-4
-    add-stop
+    (λ c. search needs)
     returns-5)

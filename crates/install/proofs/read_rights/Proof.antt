@@ -8,12 +8,6 @@ use borrow.Author.Needs.{needs}
 use Rattle.install.proofs.read_rights.Statement.{statement}
 use Rattle.install.proofs.read_rights.Tie as tie
 
-read-prefixed-requires : tie.Need-read-prefixed-requires
-read-prefixed-requires c κs = search needs
-
-enum-known-start : tie.Need-enum-known-start
-enum-known-start c = search needs
-
 enum-told : tie.Need-enum-told
 enum-told c = search needs
 
@@ -28,27 +22,9 @@ returns-2 : tie.Need-returns-2
 unfolding rightsAt
 returns-2 c = rw (← c .before .before .before .before .read-prefixed .ensures) (rw (c .before .before .start .given .1) (eq! _ (omega arith) refl))
 
-read-prefixed-requires-2 : tie.Need-read-prefixed-requires-2
-read-prefixed-requires-2 c κs = search needs
-
-enum-known-from : tie.Need-enum-known-from
-enum-known-from c = search needs
-
-enum-told-2 : tie.Need-enum-told-2
-enum-told-2 c = search needs
-
 returns-3 : tie.Need-returns-3
 unfolding rightsAt
 returns-3 c = rw (← c .before .before .before .before .before .before .before .read-prefixed .ensures) (rw (c .before .before .before .before .before .start .given .1) (ne! _ (omega arith) (rw (← c .before .before .read-prefixed2 .ensures) (rw (c .enum-told2 .given .1) refl))))
-
-read-prefixed-requires-3 : tie.Need-read-prefixed-requires-3
-read-prefixed-requires-3 c κs = search needs
-
-enum-known-last : tie.Need-enum-known-last
-enum-known-last c = search needs
-
-enum-told-3 : tie.Need-enum-told-3
-enum-told-3 c = search needs
 
 returns-4 : tie.Need-returns-4
 unfolding rightsAt
@@ -66,19 +42,19 @@ pub read-rights-spec : {M : Type 1} → statement M
 read-rights-spec =
     tie.close
     (tie.spec
-    read-prefixed-requires
-    enum-known-start
+    (λ c κs. search needs)
+    (λ c. search needs)
     enum-told
     returns
     sub-count
     returns-2
-    read-prefixed-requires-2
-    enum-known-from
-    enum-told-2
+    (λ c κs. search needs)
+    (λ c. search needs)
+    (λ c. search needs)
     returns-3
-    read-prefixed-requires-3
-    enum-known-last
-    enum-told-3
+    (λ c κs. search needs)
+    (λ c. search needs)
+    (λ c. search needs)
     returns-4
     returns-5
     returns-6)

@@ -16,9 +16,6 @@ returns : tie.Need-returns
 unfolding clash
 returns c = rw (eq-eqb (c .before .before .before .args .p .aid .len) 0 (c .if1 .taken))
 
-size-requires : tie.Need-size-requires
-size-requires c κs = search needs
-
 array-share-prefix-bytes : tie.Need-array-share-prefix-bytes
 array-share-prefix-bytes c = let s = c .before .before .before .before .before in
     let n = wide (s .args .p) _ (s .good .0) in
@@ -28,9 +25,6 @@ slice-aggregate-is-for : tie.Need-slice-aggregate-is-for
 slice-aggregate-is-for c = let s = c .before .before .before .before .before .before in
     let n = wide (s .args .p) _ (s .good .0) in
     sym (length-take-le (c .before .before .size .result) (s .args .p .aid .bytes) (omega arith))
-
-is-for-requires : tie.Need-is-for-requires
-is-for-requires c κs = search needs
 
 returns-2 : tie.Need-returns-2
 unfolding clash
@@ -43,8 +37,8 @@ clashes-spec =
     tie.close
     (tie.spec
     returns
-    size-requires
+    (λ c κs. search needs)
     array-share-prefix-bytes
     slice-aggregate-is-for
-    is-for-requires
+    (λ c κs. search needs)
     returns-2)

@@ -16,9 +16,6 @@ returns : tie.Need-returns
 unfolding isFor
 returns c = rw (eq-eqb (c .before .before .before .before .args .p .aid .len) 0 (c .if1 .taken))
 
-size-requires : tie.Need-size-requires
-size-requires c κs = search needs
-
 array-share-prefix-bytes : tie.Need-array-share-prefix-bytes
 array-share-prefix-bytes c = let s = c .before .before .before .before .before .before in
     let n = wide (s .args .p) _ (s .good .0) in
@@ -28,9 +25,6 @@ slice-aggregate-same : tie.Need-slice-aggregate-same
 slice-aggregate-same c = let s = c .before .before .before .before .before .before .before in
     let n = wide (s .args .p) _ (s .good .0) in
     sym (length-take-le (c .before .before .size .result) (s .args .p .aid .bytes) (omega arith))
-
-same-requires : tie.Need-same-requires
-same-requires c κs = search needs
 
 returns-2 : tie.Need-returns-2
 unfolding isFor
@@ -43,8 +37,8 @@ is-for-spec =
     tie.close
     (tie.spec
     returns
-    size-requires
+    (λ c κs. search needs)
     array-share-prefix-bytes
     slice-aggregate-same
-    same-requires
+    (λ c κs. search needs)
     returns-2)

@@ -6,26 +6,11 @@ use borrow.Author.Needs.{needs}
 use Rattle.isdp.proofs.place_ok.Statement.{statement}
 use Rattle.isdp.proofs.place_ok.Tie as tie
 
-cast-zeros-from : tie.Need-cast-zeros-from
-cast-zeros-from c = search needs
-
-zeros-from-requires : tie.Need-zeros-from-requires
-zeros-from-requires c κs = search needs
-
-empty-ok-requires : tie.Need-empty-ok-requires
-empty-ok-requires c κs = search needs
-
 returns : tie.Need-returns
 unfolding placeOk
 returns c = let z = c .before .before .before in
     let s = z .before .before .before .before in
     rw (wide (s .args .p) _ (s .good .0), eq-eqb (s .args .p .aid .len) 0 (c .before .if1 .taken), c .empty-ok .ensures, z .zeros-from .ensures)
-
-life-ok-requires : tie.Need-life-ok-requires
-life-ok-requires c κs = search needs
-
-held-ok-requires : tie.Need-held-ok-requires
-held-ok-requires c κs = search needs
 
 returns-2 : tie.Need-returns-2
 unfolding placeOk
@@ -37,10 +22,10 @@ pub place-ok-spec : {M : Type 1} → statement M
 place-ok-spec =
     tie.close
     (tie.spec
-    cast-zeros-from
-    zeros-from-requires
-    empty-ok-requires
+    (λ c. search needs)
+    (λ c κs. search needs)
+    (λ c κs. search needs)
     returns
-    life-ok-requires
-    held-ok-requires
+    (λ c κs. search needs)
+    (λ c κs. search needs)
     returns-2)

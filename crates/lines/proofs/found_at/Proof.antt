@@ -7,9 +7,6 @@ use borrow.Author.Needs.{needs}
 use Rattle.lines.proofs.found_at.Statement.{statement}
 use Rattle.lines.proofs.found_at.Tie as tie
 
-sub-if1 : tie.Need-sub-if1
-sub-if1 c = search needs
-
 returns : tie.Need-returns
 unfolding found
 returns c = lt! _ (omega arith) refl
@@ -19,4 +16,4 @@ unfolding found
 returns-2 c = nlt! _ (omega arith) refl
 
 pub found-at-spec : {M : Type 1} → statement M
-found-at-spec = tie.close (tie.spec sub-if1 returns returns-2)
+found-at-spec = tie.close (tie.spec (λ c. search needs) returns returns-2)

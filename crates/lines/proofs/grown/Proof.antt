@@ -10,18 +10,9 @@ returns : tie.Need-returns
 unfolding after
 returns c = window-end _ _ (omega arith)
 
-sub-least : tie.Need-sub-least
-sub-least c = search needs
-
-least-requires : tie.Need-least-requires
-least-requires c κs = search needs
-
-add-t8 : tie.Need-add-t8
-add-t8 c = search needs
-
 returns-2 : tie.Need-returns-2
 unfolding after
 returns-2 c = window-end _ _ (omega arith)
 
 pub grown-spec : {M : Type 1} → statement M
-grown-spec = tie.close (tie.spec returns sub-least least-requires add-t8 returns-2)
+grown-spec = tie.close (tie.spec returns (λ c. search needs) (λ c κs. search needs) (λ c. search needs) returns-2)

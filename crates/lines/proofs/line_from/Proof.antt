@@ -7,21 +7,9 @@ use borrow.Author.Needs.{needs}
 use Rattle.lines.proofs.line_from.Statement.{statement}
 use Rattle.lines.proofs.line_from.Tie as tie
 
-until-requires : tie.Need-until-requires
-until-requires c κs = search needs
-
-add-t7 : tie.Need-add-t7
-add-t7 c = search needs
-
-found-at-requires : tie.Need-found-at-requires
-found-at-requires c κs = search needs
-
 returns : tie.Need-returns
 unfolding lineFrom stopFrom
 returns c = rw (← c .before .before .until .ensures) (lt! _ (omega arith) (ap (gives _) (c .found-at .ensures)))
-
-unended-requires : tie.Need-unended-requires
-unended-requires c κs = search needs
 
 returns-2 : tie.Need-returns-2
 unfolding lineFrom stopFrom
@@ -29,4 +17,4 @@ returns-2 c = rw (← c .before .before .until .ensures) (nlt! _ (omega arith) (
 
 pub line-from-spec : {M : Type 1} → statement M
 line-from-spec =
-    tie.close (tie.spec until-requires add-t7 found-at-requires returns unended-requires returns-2)
+    tie.close (tie.spec (λ c κs. search needs) (λ c. search needs) (λ c κs. search needs) returns (λ c κs. search needs) returns-2)

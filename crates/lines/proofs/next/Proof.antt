@@ -11,14 +11,8 @@ use borrow.Author.Needs.{needs}
 use Rattle.lines.proofs.next.Statement.{statement}
 use Rattle.lines.proofs.next.Tie as tie
 
-least-requires : tie.Need-least-requires
-least-requires c κs = search needs
-
 slice-aggregate-step-from : tie.Need-slice-aggregate-step-from
 slice-aggregate-step-from c = let h : c .before .least .result ≤ length (c .before .before .before .args .buf .now) = search needs in sym (length-take-le _ _ h)
-
-step-from-requires : tie.Need-step-from-requires
-step-from-requires c κs = search needs
 
 returns : tie.Need-returns
 returns c =
@@ -28,4 +22,4 @@ returns c =
 
 pub next-spec : {M : Type 1} → statement M
 next-spec =
-    tie.close (tie.spec least-requires slice-aggregate-step-from step-from-requires returns)
+    tie.close (tie.spec (λ c κs. search needs) slice-aggregate-step-from (λ c κs. search needs) returns)

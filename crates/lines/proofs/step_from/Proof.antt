@@ -6,28 +6,13 @@ use borrow.Author.Needs.{needs}
 use Rattle.lines.proofs.step_from.Statement.{statement}
 use Rattle.lines.proofs.step_from.Tie as tie
 
-until-requires : tie.Need-until-requires
-until-requires c κs = search needs
-
-none-left-requires : tie.Need-none-left-requires
-none-left-requires c κs = search needs
-
 returns : tie.Need-returns
 unfolding stepOf stopFrom
 returns c = rw (← c .before .before .until .ensures) (yes! _ (c .before .before .before .if1 .taken) (le! _ (omega arith) (c .none-left .ensures)))
 
-add-line-from : tie.Need-add-line-from
-add-line-from c = search needs
-
-line-from-requires : tie.Need-line-from-requires
-line-from-requires c κs = search needs
-
 returns-2 : tie.Need-returns-2
 unfolding stepOf stopFrom
 returns-2 c = rw (← c .before .before .until .ensures) (yes! _ (c .before .before .before .if1 .taken) (nle! _ (omega arith) (c .line-from .ensures)))
-
-line-from-requires-2 : tie.Need-line-from-requires-2
-line-from-requires-2 c κs = search needs
 
 returns-3 : tie.Need-returns-3
 unfolding stepOf
@@ -37,11 +22,11 @@ pub step-from-spec : {M : Type 1} → statement M
 step-from-spec =
     tie.close
     (tie.spec
-    until-requires
-    none-left-requires
+    (λ c κs. search needs)
+    (λ c κs. search needs)
     returns
-    add-line-from
-    line-from-requires
+    (λ c. search needs)
+    (λ c κs. search needs)
     returns-2
-    line-from-requires-2
+    (λ c κs. search needs)
     returns-3)

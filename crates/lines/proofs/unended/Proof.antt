@@ -7,22 +7,13 @@ use borrow.Author.Needs.{needs}
 use Rattle.lines.proofs.unended.Statement.{statement}
 use Rattle.lines.proofs.unended.Tie as tie
 
-none-left-requires : tie.Need-none-left-requires
-none-left-requires c κs = search needs
-
 returns : tie.Need-returns
 unfolding tailFrom
 returns c = le! _ (omega arith) (c .none-left .ensures)
 
-found-at-requires : tie.Need-found-at-requires
-found-at-requires c κs = search needs
-
 returns-2 : tie.Need-returns-2
 unfolding tailFrom
 returns-2 c = nle! _ (omega arith) (yes! _ (c .before .if2 .taken) (ap (gives _) (c .found-at .ensures)))
-
-sub-if3 : tie.Need-sub-if3
-sub-if3 c = search needs
 
 returns-3 : tie.Need-returns-3
 unfolding tailFrom
@@ -35,4 +26,4 @@ returns-4 c = nle! _ (omega arith) (no! _ (c .before .if2 .left) (nlt! _ (omega 
 pub unended-spec : {M : Type 1} → statement M
 unended-spec =
     tie.close
-    (tie.spec none-left-requires returns found-at-requires returns-2 sub-if3 returns-3 returns-4)
+    (tie.spec (λ c κs. search needs) returns (λ c κs. search needs) returns-2 (λ c. search needs) returns-3 returns-4)

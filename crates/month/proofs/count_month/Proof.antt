@@ -5,23 +5,11 @@ use Rattle.month.proofs.Opened.{month-refused, countable, month-accepte
 use Rattle.month.proofs.count_month.Statement.{statement}
 use Rattle.month.proofs.count_month.Tie as tie
 
-open-requires : tie.Need-open-requires
-open-requires c κs = search needs
-
 enum-told : tie.Need-enum-told
 enum-told c = search needs
 
-enum-told-2 : tie.Need-enum-told-2
-enum-told-2 c = search needs
-
-nothing-requires : tie.Need-nothing-requires
-nothing-requires c κs = search needs
-
 returns : tie.Need-returns
 returns c = month-refused (now (c .before .before .before .before .before .before .args .s)) (c .before .before .before .«open» .ensures) (c .before .enum-told2 .given .1) (c .nothing .ensures)
-
-part-of-requires : tie.Need-part-of-requires
-part-of-requires c κs = search needs
 
 count-requires : tie.Need-count-requires
 count-requires c κs = countable (now (c .before .before .before .before .before .before .before .before .before .args .s)) (c .before .before .before .before .before .before .«open» .ensures) (c .before .before .before .before .enum-told .given .1) (c .before .part-of .ensures)
@@ -33,11 +21,11 @@ pub count-month-spec : {M : Type 1} → statement M
 count-month-spec =
     tie.close
     (tie.spec
-    open-requires
+    (λ c κs. search needs)
     enum-told
-    enum-told-2
-    nothing-requires
+    (λ c. search needs)
+    (λ c κs. search needs)
     returns
-    part-of-requires
+    (λ c κs. search needs)
     count-requires
     returns-2)

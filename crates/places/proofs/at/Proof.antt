@@ -9,19 +9,10 @@ use borrow.Author.Needs.{needs}
 use Rattle.places.proofs.at.Statement.{statement}
 use Rattle.places.proofs.at.Tie as tie
 
-none-requires : tie.Need-none-requires
-none-requires c κs = search needs
-
 returns : tie.Need-returns
 returns c = let s = c .before .before in
     let n : length (s .args .t1) ≡ mostPlaces = search needs in
     c .none .ensures ∙ sym (past (s .args .t1) (s .args .i) (omega arith))
-
-mul-result : tie.Need-mul-result
-mul-result c = search needs
-
-array-copy-out-result : tie.Need-array-copy-out-result
-array-copy-out-result c = search needs
 
 returns-2 : tie.Need-returns-2
 returns-2 c = let s = c .before .before in
@@ -29,4 +20,4 @@ returns-2 c = let s = c .before .before in
     read (s .args .t1) (s .args .i) (omega arith)
 
 pub at-spec : {M : Type 1} → statement M
-at-spec = tie.close (tie.spec none-requires returns mul-result array-copy-out-result returns-2)
+at-spec = tie.close (tie.spec (λ c κs. search needs) returns (λ c. search needs) (λ c. search needs) returns-2)

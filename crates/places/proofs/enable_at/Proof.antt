@@ -5,18 +5,6 @@ use borrow.Author.Needs.{needs}
 use Rattle.places.proofs.enable_at.Statement.{statement}
 use Rattle.places.proofs.enable_at.Tie as tie
 
-all-off-requires : tie.Need-all-off-requires
-all-off-requires c κs = search needs
-
-at-requires : tie.Need-at-requires
-at-requires c κs = search needs
-
-with-life-requires : tie.Need-with-life-requires
-with-life-requires c κs = search needs
-
-put-requires : tie.Need-put-requires
-put-requires c κs = search needs
-
 returns : tie.Need-returns
 returns c = let s = c .before .before .before .before in
     c .put .ensures
@@ -24,4 +12,4 @@ returns c = let s = c .before .before .before .before in
 
 pub enable-at-spec : {M : Type 1} → statement M
 enable-at-spec =
-    tie.close (tie.spec all-off-requires at-requires with-life-requires put-requires returns)
+    tie.close (tie.spec (λ c κs. search needs) (λ c κs. search needs) (λ c κs. search needs) (λ c κs. search needs) returns)

@@ -11,18 +11,6 @@ returns : tie.Need-returns
 unfolding placeText
 returns c = wrote-as _ (eq! _ (c .if1 .taken) refl) (wrote-none _ _)
 
-put-name-cells-requires : tie.Need-put-name-cells-requires
-put-name-cells-requires c κs = search needs
-
-put-figure-cells-requires : tie.Need-put-figure-cells-requires
-put-figure-cells-requires c κs = search needs
-
-put-role-cells-requires : tie.Need-put-role-cells-requires
-put-role-cells-requires c κs = search needs
-
-same-length : tie.Need-same-length
-same-length c = search needs
-
 returns-2 : tie.Need-returns-2
 unfolding placeText rowText
 returns-2 c =
@@ -34,4 +22,4 @@ returns-2 c =
 pub put-place-spec : {M : Type 1} → statement M
 put-place-spec =
     tie.close
-    (tie.spec returns put-name-cells-requires put-figure-cells-requires put-role-cells-requires same-length returns-2)
+    (tie.spec returns (λ c κs. search needs) (λ c κs. search needs) (λ c κs. search needs) (λ c. search needs) returns-2)

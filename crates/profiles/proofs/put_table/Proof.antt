@@ -12,21 +12,6 @@ use borrow.Author.Needs.{needs}
 use Rattle.profiles.proofs.put_table.Statement.{statement}
 use Rattle.profiles.proofs.put_table.Tie as tie
 
-widest-requires : tie.Need-widest-requires
-widest-requires c κs = search needs
-
-put-head-requires : tie.Need-put-head-requires
-put-head-requires c κs = search needs
-
-cast-put-rows : tie.Need-cast-put-rows
-cast-put-rows c = search needs
-
-put-rows-requires : tie.Need-put-rows-requires
-put-rows-requires c κs = search needs
-
-same-length : tie.Need-same-length
-same-length c = search needs
-
 returns : tie.Need-returns
 unfolding tableText
 returns c = let s = c .before .before .before .before .before .before .before .before .before .before .before .before in
@@ -37,4 +22,4 @@ returns c = let s = c .before .before .before .before .before .before .before .b
 
 pub put-table-spec : {M : Type 1} → statement M
 put-table-spec =
-    tie.close (tie.spec widest-requires put-head-requires cast-put-rows put-rows-requires same-length returns)
+    tie.close (tie.spec (λ c κs. search needs) (λ c κs. search needs) (λ c. search needs) (λ c κs. search needs) (λ c. search needs) returns)

@@ -13,11 +13,8 @@ returns c = alone-none _ _ _ _ _ _ (omega arith)
 slice-aggregate-field : tie.Need-slice-aggregate-field
 slice-aggregate-field c = sym (length-take-le _ _ (omega arith))
 
-only-of-requires : tie.Need-only-of-requires
-only-of-requires c κs = search needs
-
 returns-2 : tie.Need-returns-2
 returns-2 c = c .only-of .ensures ∙ alone-front _ _ _ _ _ _ (omega arith)
 
 pub last-element-spec : {M : Type 1} → statement M
-last-element-spec = tie.close (tie.spec returns slice-aggregate-field only-of-requires returns-2)
+last-element-spec = tie.close (tie.spec returns slice-aggregate-field (λ c κs. search needs) returns-2)

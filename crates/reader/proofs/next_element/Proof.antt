@@ -13,11 +13,8 @@ returns c = next-none _ _ _ _ _ _ (omega arith)
 slice-aggregate-field : tie.Need-slice-aggregate-field
 slice-aggregate-field c = sym (length-take-le _ _ (omega arith))
 
-next-of-requires : tie.Need-next-of-requires
-next-of-requires c κs = search needs
-
 returns-2 : tie.Need-returns-2
 returns-2 c = c .next-of .ensures ∙ next-front _ _ _ _ _ _ (omega arith)
 
 pub next-element-spec : {M : Type 1} → statement M
-next-element-spec = tie.close (tie.spec returns slice-aggregate-field next-of-requires returns-2)
+next-element-spec = tie.close (tie.spec returns slice-aggregate-field (λ c κs. search needs) returns-2)

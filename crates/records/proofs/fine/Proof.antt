@@ -4,11 +4,8 @@ use borrow.Author.Needs.{needs}
 use Rattle.records.proofs.fine.Statement.{statement}
 use Rattle.records.proofs.fine.Tie as tie
 
-with-requires : tie.Need-with-requires
-with-requires c κs = search needs
-
 returns : tie.Need-returns
 returns c = rw (c .with .ensures) refl
 
 pub fine-spec : {M : Type 1} → statement M
-fine-spec = tie.close (tie.spec with-requires returns)
+fine-spec = tie.close (tie.spec (λ c κs. search needs) returns)

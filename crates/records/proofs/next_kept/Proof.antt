@@ -6,12 +6,6 @@ use borrow.Author.Needs.{needs}
 use Rattle.records.proofs.next_kept.Statement.{statement}
 use Rattle.records.proofs.next_kept.Tie as tie
 
-next-word-requires : tie.Need-next-word-requires
-next-word-requires c κs = search needs
-
-enum-known-from : tie.Need-enum-known-from
-enum-known-from c = search needs
-
 enum-told : tie.Need-enum-told
 enum-told c = search needs
 
@@ -28,15 +22,6 @@ part-kept-in-start c = let i = word-inside _ _ _ _ (sym (c .before .from .given 
 part-kept-in-end : tie.Need-part-kept-in-end
 part-kept-in-end c = let i = word-inside _ _ _ _ (sym (c .before .from .given .1) ∙ c .before .before .before .next-word .ensures) in search needs
 
-kept-in-requires : tie.Need-kept-in-requires
-kept-in-requires c κs = search needs
-
-enum-known-n : tie.Need-enum-known-n
-enum-known-n c = search needs
-
-enum-told-2 : tie.Need-enum-told-2
-enum-told-2 c = search needs
-
 returns-2 : tie.Need-returns-2
 unfolding keptAt
 returns-2 c = rw (← (sym (c .before .before .before .before .before .from .given .1) ∙ c .before .before .before .before .before .before .before .next-word .ensures)) (rw (← (sym (c .enum-told2 .given .1) ∙ c .before .before .kept-in .ensures)) refl)
@@ -49,15 +34,15 @@ pub next-kept-spec : {M : Type 1} → statement M
 next-kept-spec =
     tie.close
     (tie.spec
-    next-word-requires
-    enum-known-from
+    (λ c κs. search needs)
+    (λ c. search needs)
     enum-told
     returns
     sub-kept-in
     part-kept-in-start
     part-kept-in-end
-    kept-in-requires
-    enum-known-n
-    enum-told-2
+    (λ c κs. search needs)
+    (λ c. search needs)
+    (λ c. search needs)
     returns-2
     returns-3)

@@ -6,12 +6,6 @@ use borrow.Author.Needs.{needs}
 use Rattle.records.proofs.next_phase.Statement.{statement}
 use Rattle.records.proofs.next_phase.Tie as tie
 
-next-word-requires : tie.Need-next-word-requires
-next-word-requires c κs = search needs
-
-enum-known-from : tie.Need-enum-known-from
-enum-known-from c = search needs
-
 enum-told : tie.Need-enum-told
 enum-told c = search needs
 
@@ -28,15 +22,6 @@ part-read-phase-start c = let i = word-inside _ _ _ _ (sym (c .before .from .giv
 part-read-phase-end : tie.Need-part-read-phase-end
 part-read-phase-end c = let i = word-inside _ _ _ _ (sym (c .before .from .given .1) ∙ c .before .before .before .next-word .ensures) in search needs
 
-read-phase-requires : tie.Need-read-phase-requires
-read-phase-requires c κs = search needs
-
-enum-known-phase : tie.Need-enum-known-phase
-enum-known-phase c = search needs
-
-enum-told-2 : tie.Need-enum-told-2
-enum-told-2 c = search needs
-
 returns-2 : tie.Need-returns-2
 unfolding phaseAt
 returns-2 c = rw (← (sym (c .before .before .before .before .before .from .given .1) ∙ c .before .before .before .before .before .before .before .next-word .ensures)) (rw (← (sym (c .enum-told2 .given .1) ∙ c .before .before .read-phase .ensures)) refl)
@@ -49,15 +34,15 @@ pub next-phase-spec : {M : Type 1} → statement M
 next-phase-spec =
     tie.close
     (tie.spec
-    next-word-requires
-    enum-known-from
+    (λ c κs. search needs)
+    (λ c. search needs)
     enum-told
     returns
     sub-read-phase
     part-read-phase-start
     part-read-phase-end
-    read-phase-requires
-    enum-known-phase
-    enum-told-2
+    (λ c κs. search needs)
+    (λ c. search needs)
+    (λ c. search needs)
     returns-2
     returns-3)

@@ -4,11 +4,8 @@ use borrow.Author.Needs.{needs}
 use Rattle.records.proofs.no_record.Statement.{statement}
 use Rattle.records.proofs.no_record.Tie as tie
 
-zero-requires : tie.Need-zero-requires
-zero-requires c κs = search needs
-
 returns : tie.Need-returns
 returns c = rw (c .zero .ensures) refl
 
 pub no-record-spec : {M : Type 1} → statement M
-no-record-spec = tie.close (tie.spec zero-requires returns)
+no-record-spec = tie.close (tie.spec (λ c κs. search needs) returns)

@@ -4,11 +4,8 @@ use borrow.Author.Needs.{needs}
 use Rattle.records.proofs.not_held.Statement.{statement}
 use Rattle.records.proofs.not_held.Tie as tie
 
-none-requires : tie.Need-none-requires
-none-requires c κs = search needs
-
 returns : tie.Need-returns
 returns c = rw (c .none .ensures) refl
 
 pub not-held-spec : {M : Type 1} → statement M
-not-held-spec = tie.close (tie.spec none-requires returns)
+not-held-spec = tie.close (tie.spec (λ c κs. search needs) returns)

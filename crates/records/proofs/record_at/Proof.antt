@@ -8,17 +8,8 @@ use borrow.Author.Needs.{needs}
 use Rattle.records.proofs.record_at.Statement.{statement}
 use Rattle.records.proofs.record_at.Tie as tie
 
-next-word-requires : tie.Need-next-word-requires
-next-word-requires c κs = search needs
-
-enum-known-from : tie.Need-enum-known-from
-enum-known-from c = search needs
-
 enum-told : tie.Need-enum-told
 enum-told c = search needs
-
-no-record-requires : tie.Need-no-record-requires
-no-record-requires c κs = search needs
 
 returns : tie.Need-returns
 unfolding recordAt
@@ -33,36 +24,9 @@ part-read-hex-start c = let i = word-inside _ _ _ _ (sym (c .before .from .given
 part-read-hex-end : tie.Need-part-read-hex-end
 part-read-hex-end c = let i = word-inside _ _ _ _ (sym (c .before .from .given .1) ∙ c .before .before .before .next-word .ensures) in search needs
 
-slice-aggregate-read-hex : tie.Need-slice-aggregate-read-hex
-slice-aggregate-read-hex c = search needs
-
-read-hex-requires : tie.Need-read-hex-requires
-read-hex-requires c κs = search needs
-
-enum-told-2 : tie.Need-enum-told-2
-enum-told-2 c = search needs
-
-no-record-requires-2 : tie.Need-no-record-requires-2
-no-record-requires-2 c κs = search needs
-
-enum-told-3 : tie.Need-enum-told-3
-enum-told-3 c = search needs
-
-no-record-requires-3 : tie.Need-no-record-requires-3
-no-record-requires-3 c κs = search needs
-
-enum-known-n : tie.Need-enum-known-n
-enum-known-n c = search needs
-
-record-with-requires : tie.Need-record-with-requires
-record-with-requires c κs = search needs
-
 returns-2 : tie.Need-returns-2
 unfolding recordAt
 returns-2 c = rw (← (sym (c .before .before .before .before .before .before .before .before .before .before .from .given .1) ∙ c .before .before .before .before .before .before .before .before .before .before .before .before .next-word .ensures)) (rw (← (sym (c .before .before .before .n .given .1) ∙ c .before .before .before .before .before .before .read-hex .ensures .0)) (eq! _ (c .before .if1 .taken) (c .record-with .ensures ∙ record-as _ _ (eid-read _ _ _ (sym (c .before .before .before .n .given .1) ∙ c .before .before .before .before .before .before .read-hex .ensures .0) (c .before .if1 .taken) (c .before .before .before .before .before .before .read-hex .ensures .1)))))
-
-no-record-requires-4 : tie.Need-no-record-requires-4
-no-record-requires-4 c κs = search needs
 
 returns-3 : tie.Need-returns-3
 unfolding recordAt
@@ -80,24 +44,24 @@ pub record-at-spec : {M : Type 1} → statement M
 record-at-spec =
     tie.close
     (tie.spec
-    next-word-requires
-    enum-known-from
+    (λ c κs. search needs)
+    (λ c. search needs)
     enum-told
-    no-record-requires
+    (λ c κs. search needs)
     returns
     sub-read-hex
     part-read-hex-start
     part-read-hex-end
-    slice-aggregate-read-hex
-    read-hex-requires
-    enum-told-2
-    no-record-requires-2
-    enum-told-3
-    no-record-requires-3
-    enum-known-n
-    record-with-requires
+    (λ c. search needs)
+    (λ c κs. search needs)
+    (λ c. search needs)
+    (λ c κs. search needs)
+    (λ c. search needs)
+    (λ c κs. search needs)
+    (λ c. search needs)
+    (λ c κs. search needs)
     returns-2
-    no-record-requires-4
+    (λ c κs. search needs)
     returns-3
     returns-4
     returns-5)

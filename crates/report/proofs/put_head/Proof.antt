@@ -7,15 +7,6 @@ use borrow.Author.Needs.{needs}
 use Rattle.report.proofs.put_head.Statement.{statement}
 use Rattle.report.proofs.put_head.Tie as tie
 
-slice-aggregate-put-bytes : tie.Need-slice-aggregate-put-bytes
-slice-aggregate-put-bytes c = search needs
-
-put-bytes-requires : tie.Need-put-bytes-requires
-put-bytes-requires c κs = search needs
-
-same-length : tie.Need-same-length
-same-length c = search needs
-
 returns : tie.Need-returns
 unfolding headText
 returns c = wrote-as _ (yes! _ (c .before .before .before .before .before .if1 .taken) refl) (c .before .before .put-bytes .ensures)
@@ -26,4 +17,4 @@ returns-2 c = wrote-as _ (no! _ (c .if1 .left) refl) (wrote-none _ _)
 
 pub put-head-spec : {M : Type 1} → statement M
 put-head-spec =
-    tie.close (tie.spec slice-aggregate-put-bytes put-bytes-requires same-length returns returns-2)
+    tie.close (tie.spec (λ c. search needs) (λ c κs. search needs) (λ c. search needs) returns returns-2)

@@ -12,21 +12,6 @@ use borrow.Author.Needs.{needs}
 use Rattle.report.proofs.put_line.Statement.{statement}
 use Rattle.report.proofs.put_line.Tie as tie
 
-put-aid-requires : tie.Need-put-aid-requires
-put-aid-requires c κs = search needs
-
-size-requires : tie.Need-size-requires
-size-requires c κs = search needs
-
-mul-put-minutes : tie.Need-mul-put-minutes
-mul-put-minutes c = search needs
-
-put-minutes-requires : tie.Need-put-minutes-requires
-put-minutes-requires c κs = search needs
-
-same-length : tie.Need-same-length
-same-length c = search needs
-
 returns : tie.Need-returns
 unfolding aidLine
 returns c = let s = c .before .before .before .before .before .before .before .before .before .before in
@@ -39,9 +24,9 @@ pub put-line-spec : {M : Type 1} → statement M
 put-line-spec =
     tie.close
     (tie.spec
-    put-aid-requires
-    size-requires
-    mul-put-minutes
-    put-minutes-requires
-    same-length
+    (λ c κs. search needs)
+    (λ c κs. search needs)
+    (λ c. search needs)
+    (λ c κs. search needs)
+    (λ c. search needs)
     returns)

@@ -7,18 +7,6 @@ use borrow.Author.Needs.{needs}
 use Rattle.report.proofs.put_rest.Statement.{statement}
 use Rattle.report.proofs.put_rest.Tie as tie
 
-slice-aggregate-put-bytes : tie.Need-slice-aggregate-put-bytes
-slice-aggregate-put-bytes c = search needs
-
-put-bytes-requires : tie.Need-put-bytes-requires
-put-bytes-requires c κs = search needs
-
-put-minutes-requires : tie.Need-put-minutes-requires
-put-minutes-requires c κs = search needs
-
-same-length : tie.Need-same-length
-same-length c = search needs
-
 returns : tie.Need-returns
 unfolding restText
 returns c = wrote-as _ (yes! _ (c .before .before .before .before .before .before .before .before .before .if1 .taken) refl) (wrote-then (c .before .before .before .before .before .before .put-bytes .ensures) (c .before .before .put-minutes .ensures))
@@ -31,9 +19,9 @@ pub put-rest-spec : {M : Type 1} → statement M
 put-rest-spec =
     tie.close
     (tie.spec
-    slice-aggregate-put-bytes
-    put-bytes-requires
-    put-minutes-requires
-    same-length
+    (λ c. search needs)
+    (λ c κs. search needs)
+    (λ c κs. search needs)
+    (λ c. search needs)
     returns
     returns-2)

@@ -6,18 +6,6 @@ use borrow.Author.Needs.{needs}
 use Rattle.responses.proofs.row_size.Statement.{statement}
 use Rattle.responses.proofs.row_size.Tie as tie
 
-size-requires : tie.Need-size-requires
-size-requires c κs = search needs
-
-listed-size-requires : tie.Need-listed-size-requires
-listed-size-requires c κs = search needs
-
-add-result : tie.Need-add-result
-add-result c = search needs
-
-cast-result : tie.Need-cast-result
-cast-result c = search needs
-
 add-result-2 : tie.Need-add-result-2
 add-result-2 c = let l = c .before .before in
     let s = l .before .before in
@@ -36,4 +24,4 @@ returns-2 c = let s = c .before .before .before .before in
 pub row-size-spec : {M : Type 1} → statement M
 row-size-spec =
     tie.close
-    (tie.spec size-requires listed-size-requires add-result cast-result add-result-2 returns returns-2)
+    (tie.spec (λ c κs. search needs) (λ c κs. search needs) (λ c. search needs) (λ c. search needs) add-result-2 returns returns-2)

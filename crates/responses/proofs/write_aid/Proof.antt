@@ -9,18 +9,6 @@ use borrow.Author.Needs.{needs}
 use Rattle.responses.proofs.write_aid.Statement.{statement}
 use Rattle.responses.proofs.write_aid.Tie as tie
 
-size-requires : tie.Need-size-requires
-size-requires c κs = search needs
-
-cast-size : tie.Need-cast-size
-cast-size c = search needs
-
-slice-aggregate-put-bytes : tie.Need-slice-aggregate-put-bytes
-slice-aggregate-put-bytes c = search needs
-
-put-bytes-requires : tie.Need-put-bytes-requires
-put-bytes-requires c κs = search needs
-
 array-share-prefix-bytes : tie.Need-array-share-prefix-bytes
 array-share-prefix-bytes c = let s = c .before .before .before .before .before .before .before .before .before in
     let n : length (s .args .aid .bytes) ≡ 16 = search needs in
@@ -31,12 +19,6 @@ slice-aggregate-put-bytes-2 c = let s = c .before .before .before .before .befor
     let n : length (s .args .aid .bytes) ≡ 16 = search needs in
     sym (length-take-le _ (s .args .aid .bytes) (omega arith))
 
-put-bytes-requires-2 : tie.Need-put-bytes-requires-2
-put-bytes-requires-2 c κs = search needs
-
-same-length : tie.Need-same-length
-same-length c = search needs
-
 returns : tie.Need-returns
 returns c = wrote-as _ (aid-element (c .before .before .before .before .before .before .before .before .before .before .before .before .before .args .aid) _ (c .before .before .before .before .before .before .before .before .before .before .before .size .ensures .0)) (wrote-then (c .before .before .before .before .before .before .before .put-bytes .ensures) (c .before .before .put-bytes2 .ensures))
 
@@ -44,12 +26,12 @@ pub write-aid-spec : {M : Type 1} → statement M
 write-aid-spec =
     tie.close
     (tie.spec
-    size-requires
-    cast-size
-    slice-aggregate-put-bytes
-    put-bytes-requires
+    (λ c κs. search needs)
+    (λ c. search needs)
+    (λ c. search needs)
+    (λ c κs. search needs)
     array-share-prefix-bytes
     slice-aggregate-put-bytes-2
-    put-bytes-requires-2
-    same-length
+    (λ c κs. search needs)
+    (λ c. search needs)
     returns)

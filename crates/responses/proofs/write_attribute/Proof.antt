@@ -4,15 +4,6 @@ use borrow.Author.Needs.{needs}
 use Rattle.responses.proofs.write_attribute.Statement.{statement}
 use Rattle.responses.proofs.write_attribute.Tie as tie
 
-slice-aggregate-put-bytes : tie.Need-slice-aggregate-put-bytes
-slice-aggregate-put-bytes c = search needs
-
-put-bytes-requires : tie.Need-put-bytes-requires
-put-bytes-requires c κs = search needs
-
-same-length : tie.Need-same-length
-same-length c = search needs
-
 returns : tie.Need-returns
 returns c = rw (c .before .before .before .before .before .if1 .taken) (c .before .before .put-bytes .ensures)
 
@@ -21,4 +12,4 @@ returns-2 c = rw (c .if1 .left) (wrote-none _ _)
 
 pub write-attribute-spec : {M : Type 1} → statement M
 write-attribute-spec =
-    tie.close (tie.spec slice-aggregate-put-bytes put-bytes-requires same-length returns returns-2)
+    tie.close (tie.spec (λ c. search needs) (λ c κs. search needs) (λ c. search needs) returns returns-2)

@@ -5,30 +5,6 @@ use borrow.Author.Needs.{needs}
 use Rattle.responses.proofs.write_data.Statement.{statement}
 use Rattle.responses.proofs.write_data.Tie as tie
 
-count-held-requires : tie.Need-count-held-requires
-count-held-requires c κs = search needs
-
-slice-aggregate-put-bytes : tie.Need-slice-aggregate-put-bytes
-slice-aggregate-put-bytes c = search needs
-
-put-bytes-requires : tie.Need-put-bytes-requires
-put-bytes-requires c κs = search needs
-
-write-four-requires : tie.Need-write-four-requires
-write-four-requires c κs = search needs
-
-slice-aggregate-put-bytes-2 : tie.Need-slice-aggregate-put-bytes-2
-slice-aggregate-put-bytes-2 c = search needs
-
-put-bytes-requires-2 : tie.Need-put-bytes-requires-2
-put-bytes-requires-2 c κs = search needs
-
-write-four-requires-2 : tie.Need-write-four-requires-2
-write-four-requires-2 c κs = search needs
-
-same-length : tie.Need-same-length
-same-length c = search needs
-
 returns : tie.Need-returns
 returns c = let v = c .before .before in
     let j = v .before .before .before .before in
@@ -41,12 +17,12 @@ pub write-data-spec : {M : Type 1} → statement M
 write-data-spec =
     tie.close
     (tie.spec
-    count-held-requires
-    slice-aggregate-put-bytes
-    put-bytes-requires
-    write-four-requires
-    slice-aggregate-put-bytes-2
-    put-bytes-requires-2
-    write-four-requires-2
-    same-length
+    (λ c κs. search needs)
+    (λ c. search needs)
+    (λ c κs. search needs)
+    (λ c κs. search needs)
+    (λ c. search needs)
+    (λ c κs. search needs)
+    (λ c κs. search needs)
+    (λ c. search needs)
     returns)

@@ -14,27 +14,6 @@ returns c = let s = c .before .before .before in
     let n : length (s .args .aid .bytes) ≡ 16 = search needs in
     (wrote-as _ (deleted-none _ (c .if1 .taken)) (wrote-none _ _), deleted-length (s .args .aid) (omega arith))
 
-size-requires : tie.Need-size-requires
-size-requires c κs = search needs
-
-cast-size : tie.Need-cast-size
-cast-size c = search needs
-
-add-size : tie.Need-add-size
-add-size c = search needs
-
-slice-aggregate-put-bytes : tie.Need-slice-aggregate-put-bytes
-slice-aggregate-put-bytes c = search needs
-
-put-bytes-requires : tie.Need-put-bytes-requires
-put-bytes-requires c κs = search needs
-
-write-aid-requires : tie.Need-write-aid-requires
-write-aid-requires c κs = search needs
-
-same-length : tie.Need-same-length
-same-length c = search needs
-
 returns-2 : tie.Need-returns-2
 returns-2 c = let s = c .before .before .before .before .before .before .before .before .before .before .before .before .before in
     let n : length (s .args .aid .bytes) ≡ 16 = search needs in
@@ -45,11 +24,11 @@ write-deleted-spec =
     tie.close
     (tie.spec
     returns
-    size-requires
-    cast-size
-    add-size
-    slice-aggregate-put-bytes
-    put-bytes-requires
-    write-aid-requires
-    same-length
+    (λ c κs. search needs)
+    (λ c. search needs)
+    (λ c. search needs)
+    (λ c. search needs)
+    (λ c κs. search needs)
+    (λ c κs. search needs)
+    (λ c. search needs)
     returns-2)

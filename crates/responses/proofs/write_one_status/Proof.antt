@@ -5,18 +5,6 @@ use borrow.Author.Needs.{needs}
 use Rattle.responses.proofs.write_one_status.Statement.{statement}
 use Rattle.responses.proofs.write_one_status.Tie as tie
 
-profile-requires : tie.Need-profile-requires
-profile-requires c κs = search needs
-
-attribute-of-requires : tie.Need-attribute-of-requires
-attribute-of-requires c κs = search needs
-
-write-place-requires : tie.Need-write-place-requires
-write-place-requires c κs = search needs
-
-same-length : tie.Need-same-length
-same-length c = search needs
-
 returns : tie.Need-returns
 returns c = let e = one-row _ _ _ _ _ _ (c .before .before .before .before .before .profile .ensures) (c .before .before .before .before .attribute-of .ensures) in
     let w = c .before .before .write-place .ensures in
@@ -24,4 +12,4 @@ returns c = let e = one-row _ _ _ _ _ _ (c .before .before .before .before .befo
 
 pub write-one-status-spec : {M : Type 1} → statement M
 write-one-status-spec =
-    tie.close (tie.spec profile-requires attribute-of-requires write-place-requires same-length returns)
+    tie.close (tie.spec (λ c κs. search needs) (λ c κs. search needs) (λ c κs. search needs) (λ c. search needs) returns)

@@ -16,16 +16,10 @@ returns c = let s = c .before .before .before in
     let w = wide (s .args .p) _ (s .good .0) in
     (wrote-as _ (row-none _ _ _ _ (c .if1 .taken)) (wrote-none _ _), row-length (s .args .p) (s .args .attribute) (s .args .life) (s .args .fallback) (le-leb (length (s .args .p .aid .bytes)) mostAid (omega arith)))
 
-write-row-requires : tie.Need-write-row-requires
-write-row-requires c κs = search needs
-
-same-length : tie.Need-same-length
-same-length c = search needs
-
 returns-2 : tie.Need-returns-2
 returns-2 c = let s = c .before .before .before .before .before .before .before in
     let w = wide (s .args .p) _ (s .good .0) in
     (wrote-as _ (row-some _ _ _ _ (c .before .before .before .before .if1 .left)) (c .before .before .write-row .ensures), row-length (s .args .p) (s .args .attribute) (s .args .life) (s .args .fallback) (le-leb (length (s .args .p .aid .bytes)) mostAid (omega arith)))
 
 pub write-place-spec : {M : Type 1} → statement M
-write-place-spec = tie.close (tie.spec returns write-row-requires same-length returns-2)
+write-place-spec = tie.close (tie.spec returns (λ c κs. search needs) (λ c. search needs) returns-2)

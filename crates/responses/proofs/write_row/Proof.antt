@@ -6,40 +6,10 @@ use borrow.Author.Needs.{needs}
 use Rattle.responses.proofs.write_row.Statement.{statement}
 use Rattle.responses.proofs.write_row.Tie as tie
 
-size-requires : tie.Need-size-requires
-size-requires c κs = search needs
-
-listed-size-requires : tie.Need-listed-size-requires
-listed-size-requires c κs = search needs
-
-cast-size : tie.Need-cast-size
-cast-size c = search needs
-
-add-size : tie.Need-add-size
-add-size c = search needs
-
 add-size-2 : tie.Need-add-size-2
 add-size-2 c = let s = c .before .before .before .before in
     let h = listed-small (s .args .life) (s .args .fallback) in
     omega (arith, c .listed-size .ensures, c .before .size .ensures .1)
-
-slice-aggregate-put-bytes : tie.Need-slice-aggregate-put-bytes
-slice-aggregate-put-bytes c = search needs
-
-put-bytes-requires : tie.Need-put-bytes-requires
-put-bytes-requires c κs = search needs
-
-write-aid-requires : tie.Need-write-aid-requires
-write-aid-requires c κs = search needs
-
-write-life-requires : tie.Need-write-life-requires
-write-life-requires c κs = search needs
-
-write-attribute-requires : tie.Need-write-attribute-requires
-write-attribute-requires c κs = search needs
-
-same-length : tie.Need-same-length
-same-length c = search needs
 
 returns : tie.Need-returns
 returns c = let s = c .before .before .before .before .before .before .before .before .before .before .before .before .before .before .before .before .before .before .before .before .before .args in
@@ -49,15 +19,15 @@ pub write-row-spec : {M : Type 1} → statement M
 write-row-spec =
     tie.close
     (tie.spec
-    size-requires
-    listed-size-requires
-    cast-size
-    add-size
+    (λ c κs. search needs)
+    (λ c κs. search needs)
+    (λ c. search needs)
+    (λ c. search needs)
     add-size-2
-    slice-aggregate-put-bytes
-    put-bytes-requires
-    write-aid-requires
-    write-life-requires
-    write-attribute-requires
-    same-length
+    (λ c. search needs)
+    (λ c κs. search needs)
+    (λ c κs. search needs)
+    (λ c κs. search needs)
+    (λ c κs. search needs)
+    (λ c. search needs)
     returns)

@@ -6,24 +6,6 @@ use borrow.Author.Needs.{needs}
 use Rattle.script.proofs.command_order.Statement.{statement}
 use Rattle.script.proofs.command_order.Tie as tie
 
-next-value-requires : tie.Need-next-value-requires
-next-value-requires c κs = search needs
-
-enum-known-why : tie.Need-enum-known-why
-enum-known-why c = search needs
-
-enum-known-n : tie.Need-enum-known-n
-enum-known-n c = search needs
-
-next-sent-requires : tie.Need-next-sent-requires
-next-sent-requires c κs = search needs
-
-enum-known-why-2 : tie.Need-enum-known-why-2
-enum-known-why-2 c = search needs
-
-enum-known-bytes : tie.Need-enum-known-bytes
-enum-known-bytes c = search needs
-
 cast-verdict : tie.Need-cast-verdict
 cast-verdict c =
     let v = c .before .before .before .before in
@@ -50,12 +32,12 @@ pub command-order-spec : {M : Type 1} → statement M
 command-order-spec =
     tie.close
     (tie.spec
-    next-value-requires
-    enum-known-why
-    enum-known-n
-    next-sent-requires
-    enum-known-why-2
-    enum-known-bytes
+    (λ c κs. search needs)
+    (λ c. search needs)
+    (λ c. search needs)
+    (λ c κs. search needs)
+    (λ c. search needs)
+    (λ c. search needs)
     cast-verdict
     returns
     returns-2

@@ -5,27 +5,6 @@ use borrow.Author.Needs.{needs}
 use Rattle.script.proofs.fresh_order.Statement.{statement}
 use Rattle.script.proofs.fresh_order.Tie as tie
 
-next-bytes-requires : tie.Need-next-bytes-requires
-next-bytes-requires c κs = search needs
-
-enum-known-why : tie.Need-enum-known-why
-enum-known-why c = search needs
-
-enum-known-eid : tie.Need-enum-known-eid
-enum-known-eid c = search needs
-
-next-bytes-requires-2 : tie.Need-next-bytes-requires-2
-next-bytes-requires-2 c κs = search needs
-
-enum-known-why-2 : tie.Need-enum-known-why-2
-enum-known-why-2 c = search needs
-
-enum-known-aid : tie.Need-enum-known-aid
-enum-known-aid c = search needs
-
-fresh-with-requires : tie.Need-fresh-with-requires
-fresh-with-requires c κs = search needs
-
 returns : tie.Need-returns
 unfolding freshAt
 returns c = rw (← (sym (c .before .why .given .1) ∙ c .before .before .before .next-bytes .ensures)) refl
@@ -42,13 +21,13 @@ pub fresh-order-spec : {M : Type 1} → statement M
 fresh-order-spec =
     tie.close
     (tie.spec
-    next-bytes-requires
-    enum-known-why
-    enum-known-eid
-    next-bytes-requires-2
-    enum-known-why-2
-    enum-known-aid
-    fresh-with-requires
+    (λ c κs. search needs)
+    (λ c. search needs)
+    (λ c. search needs)
+    (λ c κs. search needs)
+    (λ c. search needs)
+    (λ c. search needs)
+    (λ c κs. search needs)
     returns
     returns-2
     returns-3)

@@ -5,42 +5,6 @@ use borrow.Author.Needs.{needs}
 use Rattle.script.proofs.fresh_with.Statement.{statement}
 use Rattle.script.proofs.fresh_with.Tie as tie
 
-next-value-requires : tie.Need-next-value-requires
-next-value-requires c κs = search needs
-
-enum-known-why : tie.Need-enum-known-why
-enum-known-why c = search needs
-
-enum-known-capacity : tie.Need-enum-known-capacity
-enum-known-capacity c = search needs
-
-next-value-requires-2 : tie.Need-next-value-requires-2
-next-value-requires-2 c κs = search needs
-
-enum-known-why-2 : tie.Need-enum-known-why-2
-enum-known-why-2 c = search needs
-
-enum-known-quota : tie.Need-enum-known-quota
-enum-known-quota c = search needs
-
-next-value-requires-3 : tie.Need-next-value-requires-3
-next-value-requires-3 c κs = search needs
-
-enum-known-why-3 : tie.Need-enum-known-why-3
-enum-known-why-3 c = search needs
-
-enum-known-used : tie.Need-enum-known-used
-enum-known-used c = search needs
-
-next-value-requires-4 : tie.Need-next-value-requires-4
-next-value-requires-4 c κs = search needs
-
-enum-known-why-4 : tie.Need-enum-known-why-4
-enum-known-why-4 c = search needs
-
-enum-known-volatile : tie.Need-enum-known-volatile
-enum-known-volatile c = search needs
-
 returns : tie.Need-returns
 unfolding freshWith
 returns c = rw (← (sym (c .before .why .given .1) ∙ c .before .before .before .next-value .ensures)) refl
@@ -65,18 +29,18 @@ pub fresh-with-spec : {M : Type 1} → statement M
 fresh-with-spec =
     tie.close
     (tie.spec
-    next-value-requires
-    enum-known-why
-    enum-known-capacity
-    next-value-requires-2
-    enum-known-why-2
-    enum-known-quota
-    next-value-requires-3
-    enum-known-why-3
-    enum-known-used
-    next-value-requires-4
-    enum-known-why-4
-    enum-known-volatile
+    (λ c κs. search needs)
+    (λ c. search needs)
+    (λ c. search needs)
+    (λ c κs. search needs)
+    (λ c. search needs)
+    (λ c. search needs)
+    (λ c κs. search needs)
+    (λ c. search needs)
+    (λ c. search needs)
+    (λ c κs. search needs)
+    (λ c. search needs)
+    (λ c. search needs)
     returns
     returns-2
     returns-3

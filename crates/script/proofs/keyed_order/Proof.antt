@@ -5,18 +5,6 @@ use borrow.Author.Needs.{needs}
 use Rattle.script.proofs.keyed_order.Statement.{statement}
 use Rattle.script.proofs.keyed_order.Tie as tie
 
-next-bytes-requires : tie.Need-next-bytes-requires
-next-bytes-requires c κs = search needs
-
-enum-known-why : tie.Need-enum-known-why
-enum-known-why c = search needs
-
-enum-known-aid : tie.Need-enum-known-aid
-enum-known-aid c = search needs
-
-inner-requires : tie.Need-inner-requires
-inner-requires c κs = search needs
-
 returns : tie.Need-returns
 unfolding keyedAt
 returns c = rw (← (sym (c .before .why .given .1) ∙ c .before .before .before .next-bytes .ensures)) refl
@@ -28,4 +16,4 @@ returns-2 c = rw (← (sym (c .before .before .aid .given .1) ∙ c .before .bef
 pub keyed-order-spec : {M : Type 1} → statement M
 keyed-order-spec =
     tie.close
-    (tie.spec next-bytes-requires enum-known-why enum-known-aid inner-requires returns returns-2)
+    (tie.spec (λ c κs. search needs) (λ c. search needs) (λ c. search needs) (λ c κs. search needs) returns returns-2)

@@ -5,21 +5,12 @@ use borrow.Author.Needs.{needs}
 use Rattle.script.proofs.next_or.Statement.{statement}
 use Rattle.script.proofs.next_or.Tie as tie
 
-next-word-requires : tie.Need-next-word-requires
-next-word-requires c κs = search needs
-
 enum-told : tie.Need-enum-told
 enum-told c = search needs
-
-enum-told-2 : tie.Need-enum-told-2
-enum-told-2 c = search needs
 
 returns : tie.Need-returns
 unfolding valueOr
 returns c = rw (← (sym (c .enum-told2 .given .1) ∙ c .before .before .next-word .ensures)) refl
-
-next-value-requires : tie.Need-next-value-requires
-next-value-requires c κs = search needs
 
 returns-2 : tie.Need-returns-2
 unfolding valueOr
@@ -28,4 +19,4 @@ returns-2 c = rw (← (sym (c .before .enum-told .given .1) ∙ c .before .befor
 pub next-or-spec : {M : Type 1} → statement M
 next-or-spec =
     tie.close
-    (tie.spec next-word-requires enum-told enum-told-2 returns next-value-requires returns-2)
+    (tie.spec (λ c κs. search needs) enum-told (λ c. search needs) returns (λ c κs. search needs) returns-2)

@@ -8,84 +8,6 @@ use Rattle.script.proofs.order_by.Tie as tie
 enum-told : tie.Need-enum-told
 enum-told c = search needs
 
-fresh-order-requires : tie.Need-fresh-order-requires
-fresh-order-requires c κs = search needs
-
-counted-requires : tie.Need-counted-requires
-counted-requires c κs = search needs
-
-enum-told-2 : tie.Need-enum-told-2
-enum-told-2 c = search needs
-
-command-order-requires : tie.Need-command-order-requires
-command-order-requires c κs = search needs
-
-counted-requires-2 : tie.Need-counted-requires-2
-counted-requires-2 c κs = search needs
-
-enum-told-3 : tie.Need-enum-told-3
-enum-told-3 c = search needs
-
-keyed-order-requires : tie.Need-keyed-order-requires
-keyed-order-requires c κs = search needs
-
-counted-requires-3 : tie.Need-counted-requires-3
-counted-requires-3 c κs = search needs
-
-enum-told-4 : tie.Need-enum-told-4
-enum-told-4 c = search needs
-
-stored-order-requires : tie.Need-stored-order-requires
-stored-order-requires c κs = search needs
-
-counted-requires-4 : tie.Need-counted-requires-4
-counted-requires-4 c κs = search needs
-
-enum-told-5 : tie.Need-enum-told-5
-enum-told-5 c = search needs
-
-finished-order-requires : tie.Need-finished-order-requires
-finished-order-requires c κs = search needs
-
-counted-requires-5 : tie.Need-counted-requires-5
-counted-requires-5 c κs = search needs
-
-enum-told-6 : tie.Need-enum-told-6
-enum-told-6 c = search needs
-
-inner-requires : tie.Need-inner-requires
-inner-requires c κs = search needs
-
-counted-requires-6 : tie.Need-counted-requires-6
-counted-requires-6 c κs = search needs
-
-enum-told-7 : tie.Need-enum-told-7
-enum-told-7 c = search needs
-
-inner-requires-2 : tie.Need-inner-requires-2
-inner-requires-2 c κs = search needs
-
-counted-requires-7 : tie.Need-counted-requires-7
-counted-requires-7 c κs = search needs
-
-enum-told-8 : tie.Need-enum-told-8
-enum-told-8 c = search needs
-
-policy-order-requires : tie.Need-policy-order-requires
-policy-order-requires c κs = search needs
-
-counted-requires-8 : tie.Need-counted-requires-8
-counted-requires-8 c κs = search needs
-
-enum-told-9 : tie.Need-enum-told-9
-enum-told-9 c = search needs
-
-counted-requires-9 : tie.Need-counted-requires-9
-counted-requires-9 c κs = search needs
-
-enum-told-10 : tie.Need-enum-told-10
-enum-told-10 c = search needs
-
 returns : tie.Need-returns
 unfolding orderBy
 returns c = rw (c .before .before .enum-told .given .1, ← (c .before .fresh-order .ensures)) (c .counted .ensures)
@@ -131,32 +53,32 @@ order-by-spec =
     tie.close
     (tie.spec
     enum-told
-    fresh-order-requires
-    counted-requires
-    enum-told-2
-    command-order-requires
-    counted-requires-2
-    enum-told-3
-    keyed-order-requires
-    counted-requires-3
-    enum-told-4
-    stored-order-requires
-    counted-requires-4
-    enum-told-5
-    finished-order-requires
-    counted-requires-5
-    enum-told-6
-    inner-requires
-    counted-requires-6
-    enum-told-7
-    inner-requires-2
-    counted-requires-7
-    enum-told-8
-    policy-order-requires
-    counted-requires-8
-    enum-told-9
-    counted-requires-9
-    enum-told-10
+    (λ c κs. search needs)
+    (λ c κs. search needs)
+    (λ c. search needs)
+    (λ c κs. search needs)
+    (λ c κs. search needs)
+    (λ c. search needs)
+    (λ c κs. search needs)
+    (λ c κs. search needs)
+    (λ c. search needs)
+    (λ c κs. search needs)
+    (λ c κs. search needs)
+    (λ c. search needs)
+    (λ c κs. search needs)
+    (λ c κs. search needs)
+    (λ c. search needs)
+    (λ c κs. search needs)
+    (λ c κs. search needs)
+    (λ c. search needs)
+    (λ c κs. search needs)
+    (λ c κs. search needs)
+    (λ c. search needs)
+    (λ c κs. search needs)
+    (λ c κs. search needs)
+    (λ c. search needs)
+    (λ c κs. search needs)
+    (λ c. search needs)
     returns
     returns-2
     returns-3

@@ -12,12 +12,6 @@ returns : tie.Need-returns
 unfolding orderOf
 returns c = lt! _ (omega arith) refl
 
-next-word-requires : tie.Need-next-word-requires
-next-word-requires c κs = search needs
-
-enum-known-from : tie.Need-enum-known-from
-enum-known-from c = search needs
-
 enum-told : tie.Need-enum-told
 enum-told c = search needs
 
@@ -41,15 +35,6 @@ part-verb-of-start c = let i = word-inside _ _ _ _ (sym (c .before .before .befo
 part-verb-of-end : tie.Need-part-verb-of-end
 part-verb-of-end c = let i = word-inside _ _ _ _ (sym (c .before .before .before .from .given .1) ∙ c .before .before .before .before .before .next-word .ensures) in search needs
 
-verb-of-requires : tie.Need-verb-of-requires
-verb-of-requires c κs = search needs
-
-count-words-requires : tie.Need-count-words-requires
-count-words-requires c κs = search needs
-
-order-by-requires : tie.Need-order-by-requires
-order-by-requires c κs = search needs
-
 returns-4 : tie.Need-returns-4
 unfolding orderOf
 returns-4 c = nlt! _ (omega arith) (rw (← (sym (c .before .before .before .before .before .before .before .from .given .1) ∙ c .before .before .before .before .before .before .before .before .before .next-word .ensures)) (ne! _ (c .before .before .before .before .if2 .left) (rw (← (c .before .before .verb-of .ensures), ← (c .before .count-words .ensures)) (c .order-by .ensures))))
@@ -59,8 +44,8 @@ read-line-spec =
     tie.close
     (tie.spec
     returns
-    next-word-requires
-    enum-known-from
+    (λ c κs. search needs)
+    (λ c. search needs)
     enum-told
     returns-2
     shared-slice-read-if2
@@ -68,7 +53,7 @@ read-line-spec =
     sub-verb-of
     part-verb-of-start
     part-verb-of-end
-    verb-of-requires
-    count-words-requires
-    order-by-requires
+    (λ c κs. search needs)
+    (λ c κs. search needs)
+    (λ c κs. search needs)
     returns-4)

@@ -23,9 +23,6 @@ lay-requires c κs =
     let wide = s .pre .1 .0 in
     omega arith
 
-slice-relend-prefix-answer-to : tie.Need-slice-relend-prefix-answer-to
-slice-relend-prefix-answer-to c = search needs
-
 slice-aggregate-answer-to : tie.Need-slice-aggregate-answer-to
 slice-aggregate-answer-to c =
     let s = start (c .before .before .before .before .before .before) in
@@ -77,7 +74,7 @@ call-reply-spec =
     tie.close
     (tie.spec
     lay-requires
-    slice-relend-prefix-answer-to
+    (λ c. search needs)
     slice-aggregate-answer-to
     (λ c κs. search needs)
     slice-reshare-prefix-write-text

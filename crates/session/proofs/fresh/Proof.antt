@@ -14,32 +14,11 @@ same-fresh : {r : Answer} {eid₁ eid₂ aid₁ aid₂ : List ℕ} (capacity quo
     → eid₁ ≡ eid₂ → aid₁ ≡ aid₂ → r ≡ handed (freshOutcome eid₂ aid₂ capacity quota used volatile)
 same-fresh capacity quota used volatile p e f = rw (← e, ← f) p
 
-slice-aggregate-spell : tie.Need-slice-aggregate-spell
-slice-aggregate-spell c = search needs
-
 spell-requires : tie.Need-spell-requires
 spell-requires c κs = c .before .before .pre .0
 
-slice-aggregate-spell-2 : tie.Need-slice-aggregate-spell-2
-slice-aggregate-spell-2 c = search needs
-
 spell-requires-2 : tie.Need-spell-requires-2
 spell-requires-2 c κs = c .before .before .before .before .before .pre .1
-
-slice-aggregate-part-of : tie.Need-slice-aggregate-part-of
-slice-aggregate-part-of c = search needs
-
-part-of-requires : tie.Need-part-of-requires
-part-of-requires c κs = search needs
-
-slice-aggregate-part-of-2 : tie.Need-slice-aggregate-part-of-2
-slice-aggregate-part-of-2 c = search needs
-
-part-of-requires-2 : tie.Need-part-of-requires-2
-part-of-requires-2 c κs = search needs
-
-fresh-requires : tie.Need-fresh-requires
-fresh-requires c κs = search needs
 
 returns : tie.Need-returns
 returns c =
@@ -55,13 +34,13 @@ pub fresh-spec : {M : Type 1} → statement M
 fresh-spec =
     tie.close
     (tie.spec
-    slice-aggregate-spell
+    (λ c. search needs)
     spell-requires
-    slice-aggregate-spell-2
+    (λ c. search needs)
     spell-requires-2
-    slice-aggregate-part-of
-    part-of-requires
-    slice-aggregate-part-of-2
-    part-of-requires-2
-    fresh-requires
+    (λ c. search needs)
+    (λ c κs. search needs)
+    (λ c. search needs)
+    (λ c κs. search needs)
+    (λ c κs. search needs)
     returns)

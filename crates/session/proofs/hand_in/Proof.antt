@@ -10,25 +10,10 @@ use borrow.Author.Needs.{needs}
 use Rattle.session.proofs.hand_in.Statement.{statement}
 use Rattle.session.proofs.hand_in.Tie as tie
 
-is-sound-requires : tie.Need-is-sound-requires
-is-sound-requires c κs = search needs
-
-unsound-requires : tie.Need-unsound-requires
-unsound-requires c κs = search needs
-
 returns : tie.Need-returns
 returns c = let e = c .before in
     let s = e .before .before in
     c .unsound .ensures ∙ ap handed (sym (stopped (s .args .card) (recordWork (s .args .card)) (sym (e .before .is-sound .ensures) ∙ not-true _ (e .if1 .taken))))
-
-none-requires : tie.Need-none-requires
-none-requires c κs = search needs
-
-step-since-requires : tie.Need-step-since-requires
-step-since-requires c κs = search needs
-
-answer-requires : tie.Need-answer-requires
-answer-requires c κs = search needs
 
 returns-2 : tie.Need-returns-2
 unfolding wordOf
@@ -41,10 +26,10 @@ pub hand-in-spec : {M : Type 1} → statement M
 hand-in-spec =
     tie.close
     (tie.spec
-    is-sound-requires
-    unsound-requires
+    (λ c κs. search needs)
+    (λ c κs. search needs)
     returns
-    none-requires
-    step-since-requires
-    answer-requires
+    (λ c κs. search needs)
+    (λ c κs. search needs)
+    (λ c κs. search needs)
     returns-2)

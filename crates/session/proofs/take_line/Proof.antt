@@ -11,51 +11,18 @@ use borrow.Author.Needs.{needs}
 use Rattle.session.proofs.take_line.Statement.{statement}
 use Rattle.session.proofs.take_line.Tie as tie
 
-read-line-requires : tie.Need-read-line-requires
-read-line-requires c κs = search needs
-
 enum-told : tie.Need-enum-told
 enum-told c = search needs
-
-passed-over-requires : tie.Need-passed-over-requires
-passed-over-requires c κs = search needs
-
-enum-known-order : tie.Need-enum-known-order
-enum-known-order c = search needs
 
 fresh-requires : tie.Need-fresh-requires
 fresh-requires c κs = nothing-cut _ _ (sym (c .before .order .given .1) ∙ c .before .before .before .read-line .ensures)
 
-first-reply-requires : tie.Need-first-reply-requires
-first-reply-requires c κs = search needs
-
-enum-known-order-2 : tie.Need-enum-known-order-2
-enum-known-order-2 c = search needs
-
 call-reply-requires : tie.Need-call-reply-requires
 call-reply-requires c κs = (nothing-cut _ _ (sym (c .before .before .before .before .order2 .given .1) ∙ c .before .before .before .before .before .before .read-line .ensures), search needs)
-
-same-length : tie.Need-same-length
-same-length c = search needs
 
 returns : tie.Need-returns
 returns c = let a = c .before .before .before .before .before .before .before .before .before .before .before .before .args in
     as-ordered (a .turn .card) (a .turn .sound) (a .explain) (a .number) (now (a .s)) _ (sym (c .before .before .before .before .before .before .before .order2 .given .1) ∙ c .before .before .before .before .before .before .before .before .before .read-line .ensures) (c .before .before .call-reply .ensures)
-
-enum-known-order-3 : tie.Need-enum-known-order-3
-enum-known-order-3 c = search needs
-
-record-reply-requires : tie.Need-record-reply-requires
-record-reply-requires c κs = search needs
-
-enum-known-order-4 : tie.Need-enum-known-order-4
-enum-known-order-4 c = search needs
-
-write-reason-requires : tie.Need-write-reason-requires
-write-reason-requires c κs = search needs
-
-stopped-requires : tie.Need-stopped-requires
-stopped-requires c κs = search needs
 
 returns-2 : tie.Need-returns-2
 returns-2 c = let a = c .before .before .before .before .before .before .args in
@@ -63,25 +30,16 @@ returns-2 c = let a = c .before .before .before .before .before .before .args in
     as-ordered (a .turn .card) (a .turn .sound) (a .explain) (a .number) (now (a .s)) _ (sym (c .before .enum-told .given .1) ∙ c .before .before .before .read-line .ensures)
     (record { same-card = ap (λ (t : Turn). t .card) e; same-sound = ap (λ (t : Turn). t .sound) e; same-goes = ap (λ (t : Turn). t .goes) e; wrote = rw e (wrote-none _ (a .turn .filled)); short = omega arith }, unused _ _ _ refl refl)
 
-same-length-2 : tie.Need-same-length-2
-same-length-2 c = search needs
-
 returns-3 : tie.Need-returns-3
 returns-3 c = let a = c .before .before .before .before .before .before .before .before .before .before .before .args in
     as-ordered (a .turn .card) (a .turn .sound) (a .explain) (a .number) (now (a .s)) _ (sym (c .before .before .before .before .before .before .order .given .1) ∙ c .before .before .before .before .before .before .before .before .read-line .ensures)
     (first-replied (a .explain) _ (fresh-silent _ _ _ _ _ _) (c .before .before .before .before .fresh .ensures) (c .before .before .first-reply .ensures), unused _ _ _ refl (fresh-silent _ _ _ _ _ _))
-
-same-length-3 : tie.Need-same-length-3
-same-length-3 c = search needs
 
 returns-4 : tie.Need-returns-4
 returns-4 c = let a = c .before .before .before .before .before .before .before .before .before .before .args in
     let record-read = recordAt (now (a .s)) (c .before .before .before .before .before .order3 .given .0 .0) in
     as-ordered (a .turn .card) (a .turn .sound) (a .explain) (a .number) (now (a .s)) _ (sym (c .before .before .before .before .before .order3 .given .1) ∙ c .before .before .before .before .before .before .before .read-line .ensures)
     (c .before .before .record-reply .ensures, record-unused _ _ (a .turn .card) (a .turn .sound) (a .explain) (a .number) (record-read .card) (record-read .reading))
-
-same-length-4 : tie.Need-same-length-4
-same-length-4 c = search needs
 
 returns-5 : tie.Need-returns-5
 returns-5 c = let w = c .before .before .before in
@@ -94,25 +52,25 @@ pub take-line-spec : {M : Type 1} → statement M
 take-line-spec =
     tie.close
     (tie.spec
-    read-line-requires
+    (λ c κs. search needs)
     enum-told
-    passed-over-requires
-    enum-known-order
+    (λ c κs. search needs)
+    (λ c. search needs)
     fresh-requires
-    first-reply-requires
-    enum-known-order-2
+    (λ c κs. search needs)
+    (λ c. search needs)
     call-reply-requires
-    same-length
+    (λ c. search needs)
     returns
-    enum-known-order-3
-    record-reply-requires
-    enum-known-order-4
-    write-reason-requires
-    stopped-requires
+    (λ c. search needs)
+    (λ c κs. search needs)
+    (λ c. search needs)
+    (λ c κs. search needs)
+    (λ c κs. search needs)
     returns-2
-    same-length-2
+    (λ c. search needs)
     returns-3
-    same-length-3
+    (λ c. search needs)
     returns-4
-    same-length-4
+    (λ c. search needs)
     returns-5)

@@ -9,12 +9,6 @@ use Rattle.isdp.proofs.Bytes.{taken}
 use Rattle.tally.proofs.same_aid.Statement.{statement}
 use Rattle.tally.proofs.same_aid.Tie as tie
 
-size-requires : tie.Need-size-requires
-size-requires c κs = search needs
-
-size-requires-2 : tie.Need-size-requires-2
-size-requires-2 c κs = search needs
-
 array-share-prefix-left : tie.Need-array-share-prefix-left
 array-share-prefix-left c = let s = c .before .before .before .before in
     let n : length (s .args .a .bytes) ≡ 16 = search needs in
@@ -35,9 +29,6 @@ slice-aggregate-same-2 c = let s = c .before .before .before .before .before .be
     let n : length (s .args .b .bytes) ≡ 16 = search needs in
     sym (length-take-le (c .before .before .before .before .size2 .result) (s .args .b .bytes) (omega arith))
 
-same-requires : tie.Need-same-requires
-same-requires c κs = search needs
-
 returns : tie.Need-returns
 returns c = let s = c .before .before .before .before .before .before .before in
     let a = s .args .a in
@@ -50,11 +41,11 @@ pub same-aid-spec : {M : Type 1} → statement M
 same-aid-spec =
     tie.close
     (tie.spec
-    size-requires
-    size-requires-2
+    (λ c κs. search needs)
+    (λ c κs. search needs)
     array-share-prefix-left
     slice-aggregate-same
     array-share-prefix-right
     slice-aggregate-same-2
-    same-requires
+    (λ c κs. search needs)
     returns)

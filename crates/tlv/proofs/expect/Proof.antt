@@ -8,12 +8,6 @@ use borrow.Author.Needs.{needs}
 use Rattle.tlv.proofs.expect.Statement.{statement}
 use Rattle.tlv.proofs.expect.Tie as tie
 
-read-head-requires : tie.Need-read-head-requires
-read-head-requires c κs = search needs
-
-enum-known-found : tie.Need-enum-known-found
-enum-known-found c = search needs
-
 enum-told : tie.Need-enum-told
 enum-told c = search needs
 
@@ -47,8 +41,8 @@ pub expect-spec : {M : Type 1} → statement M
 expect-spec =
     tie.close
     (tie.spec
-    read-head-requires
-    enum-known-found
+    (λ c κs. search needs)
+    (λ c. search needs)
     enum-told
     returns
     returns-2

@@ -5,14 +5,8 @@ use borrow.Author.Needs.{needs}
 use Rattle.tlv.proofs.list_wrong.Statement.{statement}
 use Rattle.tlv.proofs.list_wrong.Tie as tie
 
-read-list-requires : tie.Need-read-list-requires
-read-list-requires c κs = search needs
-
 enum-told : tie.Need-enum-told
 enum-told c = search needs
-
-enum-told-2 : tie.Need-enum-told-2
-enum-told-2 c = search needs
 
 returns : tie.Need-returns
 unfolding listWrong
@@ -23,4 +17,4 @@ unfolding listWrong
 returns-2 c = rw (← c .before .before .read-list .ensures) (rw (c .enum-told2 .given .1) refl)
 
 pub list-wrong-spec : {M : Type 1} → statement M
-list-wrong-spec = tie.close (tie.spec read-list-requires enum-told enum-told-2 returns returns-2)
+list-wrong-spec = tie.close (tie.spec (λ c κs. search needs) enum-told (λ c. search needs) returns returns-2)

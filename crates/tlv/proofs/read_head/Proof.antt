@@ -8,27 +8,12 @@ use borrow.Author.Needs.{needs}
 use Rattle.tlv.proofs.read_head.Statement.{statement}
 use Rattle.tlv.proofs.read_head.Tie as tie
 
-read-tag-requires : tie.Need-read-tag-requires
-read-tag-requires c κs = search needs
-
-enum-known-tag : tie.Need-enum-known-tag
-enum-known-tag c = search needs
-
 enum-told : tie.Need-enum-told
 enum-told c = search needs
 
 returns : tie.Need-returns
 unfolding headAt
 returns c = rw (← c .before .before .read-tag .ensures) (rw (c .enum-told .given .1) refl)
-
-read-length-requires : tie.Need-read-length-requires
-read-length-requires c κs = search needs
-
-enum-known-count : tie.Need-enum-known-count
-enum-known-count c = search needs
-
-enum-told-2 : tie.Need-enum-told-2
-enum-told-2 c = search needs
 
 returns-2 : tie.Need-returns-2
 unfolding headAt
@@ -44,9 +29,6 @@ returns-3 : tie.Need-returns-3
 unfolding headAt
 returns-3 c = rw (← c .before .before .before .before .before .before .before .before .read-tag .ensures) (rw (c .before .before .before .before .before .before .tag .given .1) (rw (← c .before .before .before .before .read-length .ensures) (rw (c .before .before .count .given .1) (nle! _ (omega arith) refl))))
 
-add-stop : tie.Need-add-stop
-add-stop c = search needs
-
 returns-4 : tie.Need-returns-4
 unfolding headAt
 returns-4 c =
@@ -58,15 +40,15 @@ pub read-head-spec : {M : Type 1} → statement M
 read-head-spec =
     tie.close
     (tie.spec
-    read-tag-requires
-    enum-known-tag
+    (λ c κs. search needs)
+    (λ c. search needs)
     enum-told
     returns
-    read-length-requires
-    enum-known-count
-    enum-told-2
+    (λ c κs. search needs)
+    (λ c. search needs)
+    (λ c. search needs)
     returns-2
     sub-room
     returns-3
-    add-stop
+    (λ c. search needs)
     returns-4)

@@ -16,14 +16,8 @@ returns-2 : tie.Need-returns-2
 unfolding lengthAt
 returns-2 c = nlt! _ (omega arith) (le! _ (omega arith) refl)
 
-shared-slice-read-first : tie.Need-shared-slice-read-first
-shared-slice-read-first c = search needs
-
 cast-first : tie.Need-cast-first
 cast-first c = fits-8-64 (c .shared-slice-known .given _)
-
-add-after : tie.Need-add-after
-add-after c = search needs
 
 returns-3 : tie.Need-returns-3
 unfolding lengthAt
@@ -37,18 +31,12 @@ returns-5 : tie.Need-returns-5
 unfolding lengthAt
 returns-5 c = nlt! _ (omega arith) (nle! _ (omega arith) (nlt! _ (omega arith) (eq! _ (omega arith) (le! _ (omega arith) refl))))
 
-shared-slice-read-second : tie.Need-shared-slice-read-second
-shared-slice-read-second c = search needs
-
 cast-second : tie.Need-cast-second
 cast-second c = fits-8-64 (c .shared-slice-known2 .given _)
 
 returns-6 : tie.Need-returns-6
 unfolding lengthAt
 returns-6 c = nlt! _ (omega arith) (nle! _ (omega arith) (nlt! _ (omega arith) (eq! _ (omega arith) (nle! _ (omega arith) (lt! _ (omega arith) refl)))))
-
-add-next : tie.Need-add-next
-add-next c = search needs
 
 returns-7 : tie.Need-returns-7
 unfolding lengthAt
@@ -60,14 +48,14 @@ read-length-spec =
     (tie.spec
     returns
     returns-2
-    shared-slice-read-first
+    (λ c. search needs)
     cast-first
-    add-after
+    (λ c. search needs)
     returns-3
     returns-4
     returns-5
-    shared-slice-read-second
+    (λ c. search needs)
     cast-second
     returns-6
-    add-next
+    (λ c. search needs)
     returns-7)

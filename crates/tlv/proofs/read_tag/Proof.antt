@@ -16,14 +16,8 @@ returns-2 : tie.Need-returns-2
 unfolding tagAt
 returns-2 c = nlt! _ (omega arith) (le! _ (omega arith) refl)
 
-shared-slice-read-first : tie.Need-shared-slice-read-first
-shared-slice-read-first c = search needs
-
 cast-first : tie.Need-cast-first
 cast-first c = fits-8-16 (c .shared-slice-known .given _)
-
-add-after : tie.Need-add-after
-add-after c = search needs
 
 returns-3 : tie.Need-returns-3
 unfolding tagAt
@@ -32,9 +26,6 @@ returns-3 c = nlt! _ (omega arith) (nle! _ (omega arith) (ne! _ (omega arith) re
 returns-4 : tie.Need-returns-4
 unfolding tagAt
 returns-4 c = nlt! _ (omega arith) (nle! _ (omega arith) (eq! _ (omega arith) (le! _ (omega arith) refl)))
-
-shared-slice-read-second : tie.Need-shared-slice-read-second
-shared-slice-read-second c = search needs
 
 cast-second : tie.Need-cast-second
 cast-second c = fits-8-16 (c .shared-slice-known2 .given _)
@@ -49,9 +40,6 @@ mul-tag c = omega (arith, c .before .before .before .before .shared-slice-known 
 add-tag : tie.Need-add-tag
 add-tag c = omega (arith, c .before .before .before .before .shared-slice-known .given (c .before .before .before .before .before .before .before .args .at))
 
-add-next : tie.Need-add-next
-add-next c = search needs
-
 returns-6 : tie.Need-returns-6
 unfolding tagAt
 returns-6 c = nlt! _ (omega arith) (nle! _ (omega arith) (eq! _ (omega arith) (nle! _ (omega arith) (nle! _ (omega arith) refl))))
@@ -62,15 +50,15 @@ read-tag-spec =
     (tie.spec
     returns
     returns-2
-    shared-slice-read-first
+    (λ c. search needs)
     cast-first
-    add-after
+    (λ c. search needs)
     returns-3
     returns-4
-    shared-slice-read-second
+    (λ c. search needs)
     cast-second
     returns-5
     mul-tag
     add-tag
-    add-next
+    (λ c. search needs)
     returns-6)

@@ -8,29 +8,11 @@ use borrow.Author.Needs.{needs}
 use Rattle.account.proofs.refusals.write_refusal.Statement.{statement}
 use Rattle.account.proofs.refusals.write_refusal.Tie as tie
 
-put-line-requires : tie.Need-put-line-requires
-put-line-requires c κs = search needs
-
-same-length : tie.Need-same-length
-same-length c = search needs
-
 returns : tie.Need-returns
 unfolding refusalText pick
 returns c =
     let a = c .before .before .before .before .before .before .args in
     (rw (not-true (a .explain) (c .if1 .taken)) (c .before .before .before .put-line .ensures), refusal-length (a .explain) (a .refusal))
-
-put-meaning-requires : tie.Need-put-meaning-requires
-put-meaning-requires c κs = search needs
-
-slice-aggregate-put-bytes : tie.Need-slice-aggregate-put-bytes
-slice-aggregate-put-bytes c = search needs
-
-put-bytes-requires : tie.Need-put-bytes-requires
-put-bytes-requires c κs = search needs
-
-same-length-2 : tie.Need-same-length-2
-same-length-2 c = search needs
 
 returns-2 : tie.Need-returns-2
 unfolding refusalText pick
@@ -44,11 +26,11 @@ pub write-refusal-spec : {M : Type 1} → statement M
 write-refusal-spec =
     tie.close
     (tie.spec
-    put-line-requires
-    same-length
+    (λ c κs. search needs)
+    (λ c. search needs)
     returns
-    put-meaning-requires
-    slice-aggregate-put-bytes
-    put-bytes-requires
-    same-length-2
+    (λ c κs. search needs)
+    (λ c. search needs)
+    (λ c κs. search needs)
+    (λ c. search needs)
     returns-2)

@@ -8,21 +8,6 @@ use Rattle.answers.proofs.explained.put_response.Tie as tie
 returns : tie.Need-returns
 returns c = wrote-as _ (response-none _ (c .if1 .taken)) (wrote-none _ _)
 
-slice-aggregate-put-bytes : tie.Need-slice-aggregate-put-bytes
-slice-aggregate-put-bytes c = search needs
-
-put-bytes-requires : tie.Need-put-bytes-requires
-put-bytes-requires c κs = search needs
-
-put-hex-requires : tie.Need-put-hex-requires
-put-hex-requires c κs = search needs
-
-put-byte-requires : tie.Need-put-byte-requires
-put-byte-requires c κs = search needs
-
-same-length : tie.Need-same-length
-same-length c = search needs
-
 returns-2 : tie.Need-returns-2
 returns-2 c = wrote-as _ (response-some _ (c .before .before .before .before .before .before .before .before .before .before .before .before .before .if1 .left)) (wrote-then (wrote-then (c .before .before .before .before .before .before .before .before .before .before .put-bytes .ensures) (c .before .before .before .before .before .before .put-hex .ensures)) (c .before .before .put-byte .ensures))
 
@@ -31,9 +16,9 @@ put-response-spec =
     tie.close
     (tie.spec
     returns
-    slice-aggregate-put-bytes
-    put-bytes-requires
-    put-hex-requires
-    put-byte-requires
-    same-length
+    (λ c. search needs)
+    (λ c κs. search needs)
+    (λ c κs. search needs)
+    (λ c κs. search needs)
+    (λ c. search needs)
     returns-2)

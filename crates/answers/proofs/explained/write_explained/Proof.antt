@@ -11,42 +11,6 @@ use borrow.Author.Needs.{needs}
 use Rattle.answers.proofs.explained.write_explained.Statement.{statement}
 use Rattle.answers.proofs.explained.write_explained.Tie as tie
 
-put-word-requires : tie.Need-put-word-requires
-put-word-requires c κs = search needs
-
-put-response-requires : tie.Need-put-response-requires
-put-response-requires c κs = search needs
-
-put-notice-requires : tie.Need-put-notice-requires
-put-notice-requires c κs = search needs
-
-put-table-requires : tie.Need-put-table-requires
-put-table-requires c κs = search needs
-
-put-phase-requires : tie.Need-put-phase-requires
-put-phase-requires c κs = search needs
-
-put-listing-requires : tie.Need-put-listing-requires
-put-listing-requires c κs = search needs
-
-slice-aggregate-put-bytes : tie.Need-slice-aggregate-put-bytes
-slice-aggregate-put-bytes c = search needs
-
-put-bytes-requires : tie.Need-put-bytes-requires
-put-bytes-requires c κs = search needs
-
-cast-put-decimal : tie.Need-cast-put-decimal
-cast-put-decimal c = search needs
-
-put-decimal-requires : tie.Need-put-decimal-requires
-put-decimal-requires c κs = search needs
-
-slice-aggregate-put-bytes-2 : tie.Need-slice-aggregate-put-bytes-2
-slice-aggregate-put-bytes-2 c = search needs
-
-put-bytes-requires-2 : tie.Need-put-bytes-requires-2
-put-bytes-requires-2 c κs = search needs
-
 same-length : tie.Need-same-length
 same-length c =
     let e = c .before .before in
@@ -80,17 +44,17 @@ pub write-explained-spec : {M : Type 1} → statement M
 write-explained-spec =
     tie.close
     (tie.spec
-    put-word-requires
-    put-response-requires
-    put-notice-requires
-    put-table-requires
-    put-phase-requires
-    put-listing-requires
-    slice-aggregate-put-bytes
-    put-bytes-requires
-    cast-put-decimal
-    put-decimal-requires
-    slice-aggregate-put-bytes-2
-    put-bytes-requires-2
+    (λ c κs. search needs)
+    (λ c κs. search needs)
+    (λ c κs. search needs)
+    (λ c κs. search needs)
+    (λ c κs. search needs)
+    (λ c κs. search needs)
+    (λ c. search needs)
+    (λ c κs. search needs)
+    (λ c. search needs)
+    (λ c κs. search needs)
+    (λ c. search needs)
+    (λ c κs. search needs)
     same-length
     returns)

@@ -8,20 +8,11 @@ use borrow.Author.Needs.{needs}
 use Rattle.card.proofs.Card.back_over.Statement.{statement}
 use Rattle.card.proofs.Card.back_over.Tie as tie
 
-profile-requires : tie.Need-profile-requires
-profile-requires c κs = search needs
-
-with-phase-requires : tie.Need-with-phase-requires
-with-phase-requires c κs = search needs
-
 returns : tie.Need-returns
 returns c = let d = c .before in
     let p = d .before .before in
     let card = p .before .args .self in
     rw (eq-eqb (at (card .places) (card .fallback) .life) enabled (ap (λ (q : Isdp). q .life) (sym (p .profile .ensures)) ∙ d .if1 .taken)) (c .with-phase .ensures)
-
-fallen-requires : tie.Need-fallen-requires
-fallen-requires c κs = search needs
 
 returns-2 : tie.Need-returns-2
 returns-2 c = let d = c .before in
@@ -32,4 +23,4 @@ returns-2 c = let d = c .before in
 pub back-over-spec : {M : Type 1} → statement M
 back-over-spec =
     tie.close
-    (tie.spec profile-requires with-phase-requires returns fallen-requires returns-2)
+    (tie.spec (λ c κs. search needs) (λ c κs. search needs) returns (λ c κs. search needs) returns-2)

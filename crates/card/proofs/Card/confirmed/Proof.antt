@@ -5,41 +5,8 @@ use borrow.Author.Needs.{needs}
 use Rattle.card.proofs.Card.confirmed.Statement.{statement}
 use Rattle.card.proofs.Card.confirmed.Tie as tie
 
-with-phase-requires : tie.Need-with-phase-requires
-with-phase-requires c κs = search needs
-
 enum-told : tie.Need-enum-told
 enum-told c = search needs
-
-none-requires : tie.Need-none-requires
-none-requires c κs = search needs
-
-step-since-requires : tie.Need-step-since-requires
-step-since-requires c κs = search needs
-
-enum-known-phase : tie.Need-enum-known-phase
-enum-known-phase c = search needs
-
-trial-confirmed-requires : tie.Need-trial-confirmed-requires
-trial-confirmed-requires c κs = search needs
-
-enum-told-2 : tie.Need-enum-told-2
-enum-told-2 c = search needs
-
-none-requires-2 : tie.Need-none-requires-2
-none-requires-2 c κs = search needs
-
-step-since-requires-2 : tie.Need-step-since-requires-2
-step-since-requires-2 c κs = search needs
-
-enum-told-3 : tie.Need-enum-told-3
-enum-told-3 c = search needs
-
-none-requires-3 : tie.Need-none-requires-3
-none-requires-3 c κs = search needs
-
-step-since-requires-3 : tie.Need-step-since-requires-3
-step-since-requires-3 c κs = search needs
 
 returns : tie.Need-returns
 unfolding confirmStep confirmOf
@@ -61,18 +28,18 @@ pub confirmed-spec : {M : Type 1} → statement M
 confirmed-spec =
     tie.close
     (tie.spec
-    with-phase-requires
+    (λ c κs. search needs)
     enum-told
-    none-requires
-    step-since-requires
-    enum-known-phase
-    trial-confirmed-requires
-    enum-told-2
-    none-requires-2
-    step-since-requires-2
-    enum-told-3
-    none-requires-3
-    step-since-requires-3
+    (λ c κs. search needs)
+    (λ c κs. search needs)
+    (λ c. search needs)
+    (λ c κs. search needs)
+    (λ c. search needs)
+    (λ c κs. search needs)
+    (λ c κs. search needs)
+    (λ c. search needs)
+    (λ c κs. search needs)
+    (λ c κs. search needs)
     returns
     returns-2
     returns-3

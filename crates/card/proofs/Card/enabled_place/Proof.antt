@@ -9,17 +9,8 @@ use borrow.Author.Needs.{needs}
 use Rattle.card.proofs.Card.enabled_place.Statement.{statement}
 use Rattle.card.proofs.Card.enabled_place.Tie as tie
 
-enabled-requires : tie.Need-enabled-requires
-enabled-requires c κs = search needs
-
-enum-known-e : tie.Need-enum-known-e
-enum-known-e c = search needs
-
 enum-told : tie.Need-enum-told
 enum-told c = search needs
-
-cast-result : tie.Need-cast-result
-cast-result c = search needs
 
 returns : tie.Need-returns
 returns c = let b = c .before .before in
@@ -38,4 +29,4 @@ returns-2 c = let k = c .before in
     sym (h .0)
 
 pub enabled-place-spec : {M : Type 1} → statement M
-enabled-place-spec = tie.close (tie.spec enabled-requires enum-known-e enum-told cast-result returns returns-2)
+enabled-place-spec = tie.close (tie.spec (λ c κs. search needs) (λ c. search needs) enum-told (λ c. search needs) returns returns-2)

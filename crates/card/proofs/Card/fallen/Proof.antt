@@ -3,14 +3,8 @@ use borrow.Author.Needs.{needs}
 use Rattle.card.proofs.Card.fallen.Statement.{statement}
 use Rattle.card.proofs.Card.fallen.Tie as tie
 
-next-requires : tie.Need-next-requires
-next-requires c κs = search needs
-
-moved-requires : tie.Need-moved-requires
-moved-requires c κs = search needs
-
 returns : tie.Need-returns
 returns c = rw (c .moved .ensures, c .before .next .ensures)
 
 pub fallen-spec : {M : Type 1} → statement M
-fallen-spec = tie.close (tie.spec next-requires moved-requires returns)
+fallen-spec = tie.close (tie.spec (λ c κs. search needs) (λ c κs. search needs) returns)

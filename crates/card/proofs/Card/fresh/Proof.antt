@@ -12,15 +12,6 @@ use borrow.Author.Needs.{needs}
 use Rattle.card.proofs.Card.fresh.Statement.{statement}
 use Rattle.card.proofs.Card.fresh.Tie as tie
 
-zero-requires : tie.Need-zero-requires
-zero-requires c κs = search needs
-
-fresh-ok-requires : tie.Need-fresh-ok-requires
-fresh-ok-requires c κs = search needs
-
-refused-requires : tie.Need-refused-requires
-refused-requires c κs = search needs
-
 returns : tie.Need-returns
 unfolding freshOutcome refused wordOf ticksByPhase sound
 returns c = let e = c .before in
@@ -29,15 +20,6 @@ returns c = let e = c .before in
 first-requires : tie.Need-first-requires
 first-requires c κs = let e = c in
     eqb-true (length (c .before .before .before .before .before .args .eid .now)) 16 (and-l _ _ (sym (e .before .fresh-ok .ensures) ∙ not-false _ (e .if1 .left)))
-
-none-requires : tie.Need-none-requires
-none-requires c κs = search needs
-
-step-since-requires : tie.Need-step-since-requires
-step-since-requires c κs = search needs
-
-answer-requires : tie.Need-answer-requires
-answer-requires c κs = search needs
 
 returns-2 : tie.Need-returns-2
 unfolding freshOutcome accepted wordOf ticksToCome stepsIn ticksByPhase
@@ -48,12 +30,12 @@ pub fresh-spec : {M : Type 1} → statement M
 fresh-spec =
     tie.close
     (tie.spec
-    zero-requires
-    fresh-ok-requires
-    refused-requires
+    (λ c κs. search needs)
+    (λ c κs. search needs)
+    (λ c κs. search needs)
     returns
     first-requires
-    none-requires
-    step-since-requires
-    answer-requires
+    (λ c κs. search needs)
+    (λ c κs. search needs)
+    (λ c κs. search needs)
     returns-2)

@@ -3,11 +3,8 @@ use borrow.Author.Needs.{needs}
 use Rattle.card.proofs.Card.fresh_ok.Statement.{statement}
 use Rattle.card.proofs.Card.fresh_ok.Tie as tie
 
-aid-ok-requires : tie.Need-aid-ok-requires
-aid-ok-requires c κs = search needs
-
 returns : tie.Need-returns
 returns c = rw (c .aid-ok .ensures)
 
 pub fresh-ok-spec : {M : Type 1} → statement M
-fresh-ok-spec = tie.close (tie.spec aid-ok-requires returns)
+fresh-ok-spec = tie.close (tie.spec (λ c κs. search needs) returns)

@@ -3,11 +3,8 @@ use borrow.Author.Needs.{needs}
 use Rattle.card.proofs.Card.kept_ok.Statement.{statement}
 use Rattle.card.proofs.Card.kept_ok.Tie as tie
 
-profile-requires : tie.Need-profile-requires
-profile-requires c κs = search needs
-
 returns : tie.Need-returns
 returns c = rw (c .before .before .profile .ensures)
 
 pub kept-ok-spec : {M : Type 1} → statement M
-kept-ok-spec = tie.close (tie.spec profile-requires returns)
+kept-ok-spec = tie.close (tie.spec (λ c κs. search needs) returns)

@@ -4,18 +4,9 @@ use borrow.Author.Needs.{needs}
 use Rattle.card.proofs.Card.lost.Statement.{statement}
 use Rattle.card.proofs.Card.lost.Tie as tie
 
-without-network-requires : tie.Need-without-network-requires
-without-network-requires c κs = search needs
-
-none-requires : tie.Need-none-requires
-none-requires c κs = search needs
-
-step-since-requires : tie.Need-step-since-requires
-step-since-requires c κs = search needs
-
 returns : tie.Need-returns
 unfolding lostStep
 returns c = rw (c .step-since .ensures, c .before .none .ensures, c .before .before .without-network .ensures)
 
 pub lost-spec : {M : Type 1} → statement M
-lost-spec = tie.close (tie.spec without-network-requires none-requires step-since-requires returns)
+lost-spec = tie.close (tie.spec (λ c κs. search needs) (λ c κs. search needs) (λ c κs. search needs) returns)

@@ -3,11 +3,8 @@ use borrow.Author.Needs.{needs}
 use Rattle.card.proofs.Card.may_be_deleted.Statement.{statement}
 use Rattle.card.proofs.Card.may_be_deleted.Tie as tie
 
-profile-requires : tie.Need-profile-requires
-profile-requires c κs = search needs
-
 returns : tie.Need-returns
 returns c = rw (c .before .profile .ensures)
 
 pub may-be-deleted-spec : {M : Type 1} → statement M
-may-be-deleted-spec = tie.close (tie.spec profile-requires returns)
+may-be-deleted-spec = tie.close (tie.spec (λ c κs. search needs) returns)

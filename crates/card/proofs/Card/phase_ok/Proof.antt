@@ -7,30 +7,6 @@ use Rattle.card.proofs.Card.phase_ok.Tie as tie
 enum-told : tie.Need-enum-told
 enum-told c = search needs
 
-enum-known-phase : tie.Need-enum-known-phase
-enum-known-phase c = search needs
-
-profile-requires : tie.Need-profile-requires
-profile-requires c κs = search needs
-
-open-ok-requires : tie.Need-open-ok-requires
-open-ok-requires c κs = search needs
-
-enum-known-phase-2 : tie.Need-enum-known-phase-2
-enum-known-phase-2 c = search needs
-
-open-ok-requires-2 : tie.Need-open-ok-requires-2
-open-ok-requires-2 c κs = search needs
-
-enum-known-phase-3 : tie.Need-enum-known-phase-3
-enum-known-phase-3 c = search needs
-
-profile-requires-2 : tie.Need-profile-requires-2
-profile-requires-2 c κs = search needs
-
-open-ok-requires-3 : tie.Need-open-ok-requires-3
-open-ok-requires-3 c κs = search needs
-
 returns : tie.Need-returns
 unfolding phaseOk
 returns c = rw (c .enum-told .given .1)
@@ -55,14 +31,14 @@ phase-ok-spec =
     tie.close
     (tie.spec
     enum-told
-    enum-known-phase
-    profile-requires
-    open-ok-requires
-    enum-known-phase-2
-    open-ok-requires-2
-    enum-known-phase-3
-    profile-requires-2
-    open-ok-requires-3
+    (λ c. search needs)
+    (λ c κs. search needs)
+    (λ c κs. search needs)
+    (λ c. search needs)
+    (λ c κs. search needs)
+    (λ c. search needs)
+    (λ c κs. search needs)
+    (λ c κs. search needs)
     returns
     returns-2
     returns-3

@@ -8,27 +8,6 @@ use Rattle.card.proofs.Card.run_out.Tie as tie
 enum-told : tie.Need-enum-told
 enum-told c = search needs
 
-with-phase-requires : tie.Need-with-phase-requires
-with-phase-requires c κs = search needs
-
-enum-known-phase : tie.Need-enum-known-phase
-enum-known-phase c = search needs
-
-trial-over-requires : tie.Need-trial-over-requires
-trial-over-requires c κs = search needs
-
-enum-told-2 : tie.Need-enum-told-2
-enum-told-2 c = search needs
-
-back-over-requires : tie.Need-back-over-requires
-back-over-requires c κs = search needs
-
-enum-told-3 : tie.Need-enum-told-3
-enum-told-3 c = search needs
-
-with-phase-requires-2 : tie.Need-with-phase-requires-2
-with-phase-requires-2 c κs = search needs
-
 returns : tie.Need-returns
 unfolding tickOf
 returns c = rw (c .before .enum-told .given .1) (c .with-phase .ensures)
@@ -56,13 +35,13 @@ run-out-spec =
     tie.close
     (tie.spec
     enum-told
-    with-phase-requires
-    enum-known-phase
-    trial-over-requires
-    enum-told-2
-    back-over-requires
-    enum-told-3
-    with-phase-requires-2
+    (λ c κs. search needs)
+    (λ c. search needs)
+    (λ c κs. search needs)
+    (λ c. search needs)
+    (λ c κs. search needs)
+    (λ c. search needs)
+    (λ c κs. search needs)
     returns
     returns-2
     returns-3

@@ -3,14 +3,8 @@ use borrow.Author.Needs.{needs}
 use Rattle.card.proofs.Card.silently.Statement.{statement}
 use Rattle.card.proofs.Card.silently.Tie as tie
 
-silent-requires : tie.Need-silent-requires
-silent-requires c κs = search needs
-
-ticks-to-come-requires : tie.Need-ticks-to-come-requires
-ticks-to-come-requires c κs = search needs
-
 returns : tie.Need-returns
 returns c = rw (c .ticks-to-come .ensures, c .before .silent .ensures)
 
 pub silently-spec : {M : Type 1} → statement M
-silently-spec = tie.close (tie.spec silent-requires ticks-to-come-requires returns)
+silently-spec = tie.close (tie.spec (λ c κs. search needs) (λ c κs. search needs) returns)

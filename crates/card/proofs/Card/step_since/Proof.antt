@@ -13,9 +13,6 @@ use Rattle.card.proofs.Card.step_since.Tie as tie
 of-kind : (d : Card) (deleted : Aid) {p : Phase} → d .phase ≡ p → stepTold (kindOf p) d deleted ≡ stepTold (kindOf (d .phase)) d deleted
 of-kind d deleted e = ap (λ (p : Phase). stepTold (kindOf p) d deleted) (sym e)
 
-silent-requires : tie.Need-silent-requires
-silent-requires c κs = search needs
-
 returns : tie.Need-returns
 unfolding noticeSince
 returns c = let e = c .before in
@@ -24,27 +21,6 @@ returns c = let e = c .before in
 
 enum-told : tie.Need-enum-told
 enum-told c = search needs
-
-step-told-requires : tie.Need-step-told-requires
-step-told-requires c κs = search needs
-
-enum-told-2 : tie.Need-enum-told-2
-enum-told-2 c = search needs
-
-step-told-requires-2 : tie.Need-step-told-requires-2
-step-told-requires-2 c κs = search needs
-
-enum-told-3 : tie.Need-enum-told-3
-enum-told-3 c = search needs
-
-step-told-requires-3 : tie.Need-step-told-requires-3
-step-told-requires-3 c κs = search needs
-
-enum-told-4 : tie.Need-enum-told-4
-enum-told-4 c = search needs
-
-step-told-requires-4 : tie.Need-step-told-requires-4
-step-told-requires-4 c κs = search needs
 
 returns-2 : tie.Need-returns-2
 unfolding noticeSince
@@ -74,16 +50,16 @@ pub step-since-spec : {M : Type 1} → statement M
 step-since-spec =
     tie.close
     (tie.spec
-    silent-requires
+    (λ c κs. search needs)
     returns
     enum-told
-    step-told-requires
-    enum-told-2
-    step-told-requires-2
-    enum-told-3
-    step-told-requires-3
-    enum-told-4
-    step-told-requires-4
+    (λ c κs. search needs)
+    (λ c. search needs)
+    (λ c κs. search needs)
+    (λ c. search needs)
+    (λ c κs. search needs)
+    (λ c. search needs)
+    (λ c κs. search needs)
     returns-2
     returns-3
     returns-4

@@ -3,11 +3,8 @@ use borrow.Author.Needs.{needs}
 use Rattle.card.proofs.Card.step_told.Statement.{statement}
 use Rattle.card.proofs.Card.step_told.Tie as tie
 
-issued-requires : tie.Need-issued-requires
-issued-requires c κs = search needs
-
 returns : tie.Need-returns
 returns c = rw (c .issued .ensures)
 
 pub step-told-spec : {M : Type 1} → statement M
-step-told-spec = tie.close (tie.spec issued-requires returns)
+step-told-spec = tie.close (tie.spec (λ c κs. search needs) returns)

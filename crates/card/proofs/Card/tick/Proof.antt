@@ -5,17 +5,8 @@ use borrow.Author.Needs.{needs}
 use Rattle.card.proofs.Card.tick.Statement.{statement}
 use Rattle.card.proofs.Card.tick.Tie as tie
 
-waits-requires : tie.Need-waits-requires
-waits-requires c κs = search needs
-
 waited-requires : tie.Need-waited-requires
 waited-requires c κs = sym (c .before .waits .ensures) ∙ c .if1 .taken
-
-none-requires : tie.Need-none-requires
-none-requires c κs = search needs
-
-step-since-requires : tie.Need-step-since-requires
-step-since-requires c κs = search needs
 
 returns : tie.Need-returns
 unfolding tickStep
@@ -23,12 +14,6 @@ returns c = rw (c .step-since .ensures, c .before .none .ensures, c .before .bef
 
 run-out-requires : tie.Need-run-out-requires
 run-out-requires c κs = sym (c .before .waits .ensures) ∙ c .if1 .left
-
-none-requires-2 : tie.Need-none-requires-2
-none-requires-2 c κs = search needs
-
-step-since-requires-2 : tie.Need-step-since-requires-2
-step-since-requires-2 c κs = search needs
 
 returns-2 : tie.Need-returns-2
 unfolding tickStep
@@ -38,12 +23,12 @@ pub tick-spec : {M : Type 1} → statement M
 tick-spec =
     tie.close
     (tie.spec
-    waits-requires
+    (λ c κs. search needs)
     waited-requires
-    none-requires
-    step-since-requires
+    (λ c κs. search needs)
+    (λ c κs. search needs)
     returns
     run-out-requires
-    none-requires-2
-    step-since-requires-2
+    (λ c κs. search needs)
+    (λ c κs. search needs)
     returns-2)

@@ -8,14 +8,8 @@ use borrow.Author.Needs.{needs}
 use Rattle.card.proofs.Card.ticked.Statement.{statement}
 use Rattle.card.proofs.Card.ticked.Tie as tie
 
-waits-requires : tie.Need-waits-requires
-waits-requires c κs = search needs
-
 waited-requires : tie.Need-waited-requires
 waited-requires c κs = sym (c .before .waits .ensures) ∙ c .if1 .taken
-
-silently-requires : tie.Need-silently-requires
-silently-requires c κs = search needs
 
 returns : tie.Need-returns
 unfolding tickStep
@@ -25,16 +19,10 @@ returns c =
     let s = t .before .before in
     rw (c .silently .ensures, w .waited .ensures, unissued (s .args .self .last) (tickOf (s .args .self)) (waited-last (s .args .self) (sym (t .before .waits .ensures) ∙ t .if1 .taken)))
 
-tick-requires : tie.Need-tick-requires
-tick-requires c κs = search needs
-
-answer-requires : tie.Need-answer-requires
-answer-requires c κs = search needs
-
 returns-2 : tie.Need-returns-2
 returns-2 c = rw (c .answer .ensures, c .before .tick .ensures)
 
 pub ticked-spec : {M : Type 1} → statement M
 ticked-spec =
     tie.close
-    (tie.spec waits-requires waited-requires silently-requires returns tick-requires answer-requires returns-2)
+    (tie.spec (λ c κs. search needs) waited-requires (λ c κs. search needs) returns (λ c κs. search needs) (λ c κs. search needs) returns-2)

@@ -13,68 +13,17 @@ use Rattle.card.proofs.Card.ticks_to_come.Tie as tie
 enum-told : tie.Need-enum-told
 enum-told c = search needs
 
-enum-known-phase : tie.Need-enum-known-phase
-enum-known-phase c = search needs
-
-cast-result : tie.Need-cast-result
-cast-result c = search needs
-
-cast-result-2 : tie.Need-cast-result-2
-cast-result-2 c = search needs
-
-add-result : tie.Need-add-result
-add-result c = search needs
-
 returns : tie.Need-returns
 unfolding ticksByPhase
 returns c = let g = c .before .before .before .phase .given in
     let card = c .before .before .before .before .before .args .self in
     rw (g .1, eq-eqb (g .0 .0) (card .fallback) (c .if1 .taken)) (omega arith)
 
-cast-result-3 : tie.Need-cast-result-3
-cast-result-3 c = search needs
-
-cast-result-4 : tie.Need-cast-result-4
-cast-result-4 c = search needs
-
-add-result-2 : tie.Need-add-result-2
-add-result-2 c = search needs
-
-cast-result-5 : tie.Need-cast-result-5
-cast-result-5 c = search needs
-
-add-result-3 : tie.Need-add-result-3
-add-result-3 c = search needs
-
-enum-known-phase-2 : tie.Need-enum-known-phase-2
-enum-known-phase-2 c = search needs
-
-profile-requires : tie.Need-profile-requires
-profile-requires c κs = search needs
-
-cast-result-6 : tie.Need-cast-result-6
-cast-result-6 c = search needs
-
 returns-2 : tie.Need-returns-2
 unfolding ticksByPhase
 returns-2 c = let g = c .before .before .before .before .phase2 .given in
     let card = c .before .before .before .before .before .before .args .self in
     rw (g .1, eq-eqb (at (card .places) (card .fallback) .life) enabled (ap (λ (p : Isdp). p .life) (sym (c .before .before .profile .ensures)) ∙ c .if2 .taken)) (omega arith)
-
-cast-result-7 : tie.Need-cast-result-7
-cast-result-7 c = search needs
-
-cast-result-8 : tie.Need-cast-result-8
-cast-result-8 c = search needs
-
-add-result-4 : tie.Need-add-result-4
-add-result-4 c = search needs
-
-enum-known-phase-3 : tie.Need-enum-known-phase-3
-enum-known-phase-3 c = search needs
-
-cast-result-9 : tie.Need-cast-result-9
-cast-result-9 c = search needs
 
 returns-3 : tie.Need-returns-3
 unfolding ticksByPhase
@@ -101,25 +50,25 @@ ticks-to-come-spec =
     tie.close
     (tie.spec
     enum-told
-    enum-known-phase
-    cast-result
-    cast-result-2
-    add-result
+    (λ c. search needs)
+    (λ c. search needs)
+    (λ c. search needs)
+    (λ c. search needs)
     returns
-    cast-result-3
-    cast-result-4
-    add-result-2
-    cast-result-5
-    add-result-3
-    enum-known-phase-2
-    profile-requires
-    cast-result-6
+    (λ c. search needs)
+    (λ c. search needs)
+    (λ c. search needs)
+    (λ c. search needs)
+    (λ c. search needs)
+    (λ c. search needs)
+    (λ c κs. search needs)
+    (λ c. search needs)
     returns-2
-    cast-result-7
-    cast-result-8
-    add-result-4
-    enum-known-phase-3
-    cast-result-9
+    (λ c. search needs)
+    (λ c. search needs)
+    (λ c. search needs)
+    (λ c. search needs)
+    (λ c. search needs)
     returns-3
     returns-4
     returns-5

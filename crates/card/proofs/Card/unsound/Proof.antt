@@ -3,11 +3,8 @@ use borrow.Author.Needs.{needs}
 use Rattle.card.proofs.Card.unsound.Statement.{statement}
 use Rattle.card.proofs.Card.unsound.Tie as tie
 
-silent-requires : tie.Need-silent-requires
-silent-requires c κs = search needs
-
 returns : tie.Need-returns
 returns c = rw (c .silent .ensures)
 
 pub unsound-spec : {M : Type 1} → statement M
-unsound-spec = tie.close (tie.spec silent-requires returns)
+unsound-spec = tie.close (tie.spec (λ c κs. search needs) returns)

@@ -3,11 +3,8 @@ use borrow.Author.Needs.{needs}
 use Rattle.card.proofs.Card.with_place.Statement.{statement}
 use Rattle.card.proofs.Card.with_place.Tie as tie
 
-put-requires : tie.Need-put-requires
-put-requires c κs = search needs
-
 returns : tie.Need-returns
 returns c = rw (c .put .ensures)
 
 pub with-place-spec : {M : Type 1} → statement M
-with-place-spec = tie.close (tie.spec put-requires returns)
+with-place-spec = tie.close (tie.spec (λ c κs. search needs) returns)

@@ -9,21 +9,9 @@ use borrow.Author.Needs.{needs}
 use Rattle.card.proofs.Card.without_network.Statement.{statement}
 use Rattle.card.proofs.Card.without_network.Tie as tie
 
-is-quiet-requires : tie.Need-is-quiet-requires
-is-quiet-requires c κs = search needs
-
-forgotten-requires : tie.Need-forgotten-requires
-forgotten-requires c κs = search needs
-
 returns : tie.Need-returns
 unfolding lostOf
 returns c = rw (sym (c .before .before .is-quiet .ensures) ∙ not-true _ (c .before .if1 .taken)) (c .forgotten .ensures)
-
-profile-requires : tie.Need-profile-requires
-profile-requires c κs = search needs
-
-forgotten-requires-2 : tie.Need-forgotten-requires-2
-forgotten-requires-2 c κs = search needs
 
 returns-2 : tie.Need-returns-2
 unfolding lostOf
@@ -31,9 +19,6 @@ returns-2 c = let d = c .before in
     let e = d .before .before .before in
     let card = e .before .before .args .self in
     rw (sym (e .before .is-quiet .ensures) ∙ not-false _ (e .if1 .left), eq-eqb (at (card .places) (card .fallback) .life) enabled (ap (λ (p : Isdp). p .life) (sym (d .before .before .profile .ensures)) ∙ d .if2 .taken)) (c .forgotten2 .ensures)
-
-fallen-requires : tie.Need-fallen-requires
-fallen-requires c κs = search needs
 
 returns-3 : tie.Need-returns-3
 unfolding lostOf
@@ -46,11 +31,11 @@ pub without-network-spec : {M : Type 1} → statement M
 without-network-spec =
     tie.close
     (tie.spec
-    is-quiet-requires
-    forgotten-requires
+    (λ c κs. search needs)
+    (λ c κs. search needs)
     returns
-    profile-requires
-    forgotten-requires-2
+    (λ c κs. search needs)
+    (λ c κs. search needs)
     returns-2
-    fallen-requires
+    (λ c κs. search needs)
     returns-3)

@@ -3,14 +3,8 @@ use borrow.Author.Needs.{needs}
 use Rattle.card.proofs.Card.zero.Statement.{statement}
 use Rattle.card.proofs.Card.zero.Tie as tie
 
-none-requires : tie.Need-none-requires
-none-requires c κs = search needs
-
-with-requires : tie.Need-with-requires
-with-requires c κs = search needs
-
 returns : tie.Need-returns
 returns c = rw (c .with .ensures, c .before .none .ensures)
 
 pub zero-spec : {M : Type 1} → statement M
-zero-spec = tie.close (tie.spec none-requires with-requires returns)
+zero-spec = tie.close (tie.spec (λ c κs. search needs) (λ c κs. search needs) returns)

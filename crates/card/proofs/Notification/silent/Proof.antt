@@ -3,11 +3,8 @@ use borrow.Author.Needs.{needs}
 use Rattle.card.proofs.Notification.silent.Statement.{statement}
 use Rattle.card.proofs.Notification.silent.Tie as tie
 
-none-requires : tie.Need-none-requires
-none-requires c κs = search needs
-
 returns : tie.Need-returns
 returns c = rw (c .none .ensures)
 
 pub silent-spec : {M : Type 1} → statement M
-silent-spec = tie.close (tie.spec none-requires returns)
+silent-spec = tie.close (tie.spec (λ c κs. search needs) returns)

@@ -7,35 +7,20 @@ use borrow.Author.Needs.{needs}
 use Rattle.card.proofs.Phase.shorter.Statement.{statement}
 use Rattle.card.proofs.Phase.shorter.Tie as tie
 
-enum-told : tie.Need-enum-told
-enum-told c = search needs
-
-enum-known-self : tie.Need-enum-known-self
-enum-known-self c = search needs
-
 sub-t10 : tie.Need-sub-t10
 sub-t10 c = let e = c .before in
     let h = ltb-true 1 (e .self .given .0 .1 .0) (ap waits (sym (e .self .given .1)) ∙ e .before .before .pre) in
     omega (arith, h)
-
-enum-known-self-2 : tie.Need-enum-known-self-2
-enum-known-self-2 c = search needs
 
 sub-t11 : tie.Need-sub-t11
 sub-t11 c = let e = c .before in
     let h = ltb-true 1 (e .self2 .given .0 .0) (ap waits (sym (e .self2 .given .1)) ∙ e .before .before .pre) in
     omega (arith, h)
 
-enum-known-self-3 : tie.Need-enum-known-self-3
-enum-known-self-3 c = search needs
-
 sub-t12 : tie.Need-sub-t12
 sub-t12 c = let e = c .before in
     let h = ltb-true 1 (e .self3 .given .0 .0) (ap waits (sym (e .self3 .given .1)) ∙ e .before .before .pre) in
     omega (arith, h)
-
-returns : tie.Need-returns
-returns c = search needs
 
 returns-2 : tie.Need-returns-2
 returns-2 c = rw (c .before .self .given .1)
@@ -50,14 +35,14 @@ pub shorter-spec : {M : Type 1} → statement M
 shorter-spec =
     tie.close
     (tie.spec
-    enum-told
-    enum-known-self
+    (λ c. search needs)
+    (λ c. search needs)
     sub-t10
-    enum-known-self-2
+    (λ c. search needs)
     sub-t11
-    enum-known-self-3
+    (λ c. search needs)
     sub-t12
-    returns
+    (λ c. search needs)
     returns-2
     returns-3
     returns-4)

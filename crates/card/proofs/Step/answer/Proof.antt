@@ -3,11 +3,8 @@ use borrow.Author.Needs.{needs}
 use Rattle.card.proofs.Step.answer.Statement.{statement}
 use Rattle.card.proofs.Step.answer.Tie as tie
 
-ticks-to-come-requires : tie.Need-ticks-to-come-requires
-ticks-to-come-requires c κs = search needs
-
 returns : tie.Need-returns
 returns c = rw (c .ticks-to-come .ensures)
 
 pub answer-spec : {M : Type 1} → statement M
-answer-spec = tie.close (tie.spec ticks-to-come-requires returns)
+answer-spec = tie.close (tie.spec (λ c κs. search needs) returns)

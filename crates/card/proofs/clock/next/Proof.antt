@@ -4,9 +4,6 @@ use borrow.Author.Needs.{needs}
 use Rattle.card.proofs.clock.next.Statement.{statement}
 use Rattle.card.proofs.clock.next.Tie as tie
 
-add-result : tie.Need-add-result
-add-result c = search needs
-
 returns : tie.Need-returns
 returns c = rw (eq-eqb (c .before .args .n) 65535 (c .if1 .taken))
 
@@ -14,4 +11,4 @@ returns-2 : tie.Need-returns-2
 returns-2 c = rw (ne-eqb (c .before .args .n) 65535 (c .if1 .left))
 
 pub next-spec : {M : Type 1} → statement M
-next-spec = tie.close (tie.spec add-result returns returns-2)
+next-spec = tie.close (tie.spec (λ c. search needs) returns returns-2)

@@ -3,11 +3,8 @@ use borrow.Author.Needs.{needs}
 use Rattle.event_file.proofs.Opened.refused.Statement.{statement}
 use Rattle.event_file.proofs.Opened.refused.Tie as tie
 
-zero-requires : tie.Need-zero-requires
-zero-requires c κs = search needs
-
 returns : tie.Need-returns
 returns c = rw (c .zero .ensures)
 
 pub refused-spec : {M : Type 1} → statement M
-refused-spec = tie.close (tie.spec zero-requires returns)
+refused-spec = tie.close (tie.spec (λ c κs. search needs) returns)

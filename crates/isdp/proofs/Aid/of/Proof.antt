@@ -6,19 +6,13 @@ use Rattle.isdp.specs.Sizes.{mostAid}
 use Rattle.isdp.proofs.Aid.of.Statement.{statement}
 use Rattle.isdp.proofs.Aid.of.Tie as tie
 
-pad-requires : tie.Need-pad-requires
-pad-requires c κs = search needs
-
 returns : tie.Need-returns
 returns c = let aid = c .before .before .before .args .aid .now in
     rw (c .before .pad .ensures, length-take-le mostAid aid (omega arith))
-
-cast-t5 : tie.Need-cast-t5
-cast-t5 c = search needs
 
 returns-2 : tie.Need-returns-2
 returns-2 c = let aid = c .before .before .before .args .aid .now in
     rw (c .before .pad .ensures, take-all mostAid aid (omega arith))
 
 pub of-spec : {M : Type 1} → statement M
-of-spec = tie.close (tie.spec pad-requires returns cast-t5 returns-2)
+of-spec = tie.close (tie.spec (λ c κs. search needs) returns (λ c. search needs) returns-2)

@@ -7,9 +7,6 @@ use borrow.Author.Needs.{needs}
 use Rattle.isdp.proofs.Aid.size.Statement.{statement}
 use Rattle.isdp.proofs.Aid.size.Tie as tie
 
-cast-n : tie.Need-cast-n
-cast-n c = search needs
-
 returns : tie.Need-returns
 returns c = let a = c .before .before .args .self in
     let n : length (a .bytes) ≡ 16 = search needs in
@@ -21,4 +18,4 @@ returns-2 c = let a = c .before .before .args .self in
     (sym (length-take-le (a .len) (a .bytes) (omega arith)), omega arith)
 
 pub size-spec : {M : Type 1} → statement M
-size-spec = tie.close (tie.spec cast-n returns returns-2)
+size-spec = tie.close (tie.spec (λ c. search needs) returns returns-2)

@@ -3,11 +3,8 @@ use borrow.Author.Needs.{needs}
 use Rattle.isdp.proofs.Isdp.none.Statement.{statement}
 use Rattle.isdp.proofs.Isdp.none.Tie as tie
 
-none-requires : tie.Need-none-requires
-none-requires c κs = search needs
-
 returns : tie.Need-returns
 returns c = rw (c .none .ensures)
 
 pub none-spec : {M : Type 1} → statement M
-none-spec = tie.close (tie.spec none-requires returns)
+none-spec = tie.close (tie.spec (λ c κs. search needs) returns)

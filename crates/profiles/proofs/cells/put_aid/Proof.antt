@@ -9,18 +9,6 @@ use borrow.Author.Needs.{needs}
 use Rattle.profiles.proofs.cells.put_aid.Statement.{statement}
 use Rattle.profiles.proofs.cells.put_aid.Tie as tie
 
-cast-n : tie.Need-cast-n
-cast-n c = search needs
-
-slice-aggregate-put-hex : tie.Need-slice-aggregate-put-hex
-slice-aggregate-put-hex c = search needs
-
-put-hex-requires : tie.Need-put-hex-requires
-put-hex-requires c κs = search needs
-
-same-length : tie.Need-same-length
-same-length c = search needs
-
 returns : tie.Need-returns
 returns c = let s = c .before .before .before .before .before .before .before .before .before in
     let n : length (s .args .aid .bytes) ≡ 16 = search needs in
@@ -34,26 +22,17 @@ slice-aggregate-put-hex-2 c = let s = c .before .before .before .before .before 
     let n : length (s .args .aid .bytes) ≡ 16 = search needs in
     sym (length-take-le _ (s .args .aid .bytes) (omega arith))
 
-put-hex-requires-2 : tie.Need-put-hex-requires-2
-put-hex-requires-2 c κs = search needs
-
-same-length-2 : tie.Need-same-length-2
-same-length-2 c = search needs
-
-returns-2 : tie.Need-returns-2
-returns-2 c = search needs
-
 pub put-aid-spec : {M : Type 1} → statement M
 put-aid-spec =
     tie.close
     (tie.spec
-    cast-n
-    slice-aggregate-put-hex
-    put-hex-requires
-    same-length
+    (λ c. search needs)
+    (λ c. search needs)
+    (λ c κs. search needs)
+    (λ c. search needs)
     returns
     array-share-prefix-bytes
     slice-aggregate-put-hex-2
-    put-hex-requires-2
-    same-length-2
-    returns-2)
+    (λ c κs. search needs)
+    (λ c. search needs)
+    (λ c. search needs))

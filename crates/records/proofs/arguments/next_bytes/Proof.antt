@@ -7,12 +7,6 @@ use borrow.Author.Needs.{needs}
 use Rattle.records.proofs.arguments.next_bytes.Statement.{statement}
 use Rattle.records.proofs.arguments.next_bytes.Tie as tie
 
-next-word-requires : tie.Need-next-word-requires
-next-word-requires c κs = search needs
-
-enum-known-from : tie.Need-enum-known-from
-enum-known-from c = search needs
-
 enum-told : tie.Need-enum-told
 enum-told c = search needs
 
@@ -29,9 +23,6 @@ part-is-hex-start c = let i = word-inside _ _ _ _ (sym (c .before .from .given .
 part-is-hex-end : tie.Need-part-is-hex-end
 part-is-hex-end c = let i = word-inside _ _ _ _ (sym (c .before .from .given .1) ∙ c .before .before .before .next-word .ensures) in search needs
 
-is-hex-requires : tie.Need-is-hex-requires
-is-hex-requires c κs = search needs
-
 sub-t12 : tie.Need-sub-t12
 sub-t12 c = let i = word-inside _ _ _ _ (sym (c .before .before .before .before .from .given .1) ∙ c .before .before .before .before .before .before .next-word .ensures) in search needs
 
@@ -47,14 +38,14 @@ pub next-bytes-spec : {M : Type 1} → statement M
 next-bytes-spec =
     tie.close
     (tie.spec
-    next-word-requires
-    enum-known-from
+    (λ c κs. search needs)
+    (λ c. search needs)
     enum-told
     returns
     sub-is-hex
     part-is-hex-start
     part-is-hex-end
-    is-hex-requires
+    (λ c κs. search needs)
     sub-t12
     returns-2
     returns-3)

@@ -6,12 +6,6 @@ use borrow.Author.Needs.{needs}
 use Rattle.records.proofs.colons.next_number.Statement.{statement}
 use Rattle.records.proofs.colons.next_number.Tie as tie
 
-next-field-requires : tie.Need-next-field-requires
-next-field-requires c κs = search needs
-
-enum-known-from : tie.Need-enum-known-from
-enum-known-from c = search needs
-
 enum-told : tie.Need-enum-told
 enum-told c = search needs
 
@@ -28,15 +22,6 @@ part-decimal-start c = let i = field-inside _ _ _ _ _ (sym (c .before .from .giv
 part-decimal-end : tie.Need-part-decimal-end
 part-decimal-end c = let i = field-inside _ _ _ _ _ (sym (c .before .from .given .1) ∙ c .before .before .before .next-field .ensures) in search needs
 
-decimal-requires : tie.Need-decimal-requires
-decimal-requires c κs = search needs
-
-enum-known-n : tie.Need-enum-known-n
-enum-known-n c = search needs
-
-enum-told-2 : tie.Need-enum-told-2
-enum-told-2 c = search needs
-
 returns-2 : tie.Need-returns-2
 unfolding numberField
 returns-2 c = rw (← (sym (c .before .before .before .before .before .from .given .1) ∙ c .before .before .before .before .before .before .before .next-field .ensures)) (rw (← (sym (c .enum-told2 .given .1) ∙ c .before .before .decimal .ensures)) refl)
@@ -52,16 +37,16 @@ pub next-number-spec : {M : Type 1} → statement M
 next-number-spec =
     tie.close
     (tie.spec
-    next-field-requires
-    enum-known-from
+    (λ c κs. search needs)
+    (λ c. search needs)
     enum-told
     returns
     sub-decimal
     part-decimal-start
     part-decimal-end
-    decimal-requires
-    enum-known-n
-    enum-told-2
+    (λ c κs. search needs)
+    (λ c. search needs)
+    (λ c. search needs)
     returns-2
     add-t10
     returns-3)

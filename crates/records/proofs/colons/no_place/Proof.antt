@@ -4,11 +4,8 @@ use borrow.Author.Needs.{needs}
 use Rattle.records.proofs.colons.no_place.Statement.{statement}
 use Rattle.records.proofs.colons.no_place.Tie as tie
 
-none-requires : tie.Need-none-requires
-none-requires c κs = search needs
-
 returns : tie.Need-returns
 returns c = rw (c .none .ensures) refl
 
 pub no-place-spec : {M : Type 1} → statement M
-no-place-spec = tie.close (tie.spec none-requires returns)
+no-place-spec = tie.close (tie.spec (λ c κs. search needs) returns)

@@ -8,27 +8,12 @@ use borrow.Author.Needs.{needs}
 use Rattle.records.proofs.colons.open_at.Statement.{statement}
 use Rattle.records.proofs.colons.open_at.Tie as tie
 
-next-number-requires : tie.Need-next-number-requires
-next-number-requires c κs = search needs
-
-enum-known-left : tie.Need-enum-known-left
-enum-known-left c = search needs
-
 enum-told : tie.Need-enum-told
 enum-told c = search needs
 
 returns : tie.Need-returns
 unfolding openFields
 returns c = rw (← (sym (c .enum-told .given .1) ∙ c .before .before .next-number .ensures)) refl
-
-next-number-requires-2 : tie.Need-next-number-requires-2
-next-number-requires-2 c κs = search needs
-
-enum-known-number : tie.Need-enum-known-number
-enum-known-number c = search needs
-
-enum-told-2 : tie.Need-enum-told-2
-enum-told-2 c = search needs
 
 returns-2 : tie.Need-returns-2
 unfolding openFields
@@ -52,13 +37,13 @@ pub open-at-spec : {M : Type 1} → statement M
 open-at-spec =
     tie.close
     (tie.spec
-    next-number-requires
-    enum-known-left
+    (λ c κs. search needs)
+    (λ c. search needs)
     enum-told
     returns
-    next-number-requires-2
-    enum-known-number
-    enum-told-2
+    (λ c κs. search needs)
+    (λ c. search needs)
+    (λ c. search needs)
     returns-2
     returns-3
     cast-t11

@@ -6,17 +6,8 @@ use borrow.Author.Needs.{needs}
 use Rattle.records.proofs.colons.place_with.Statement.{statement}
 use Rattle.records.proofs.colons.place_with.Tie as tie
 
-next-field-requires : tie.Need-next-field-requires
-next-field-requires c κs = search needs
-
-enum-known-from : tie.Need-enum-known-from
-enum-known-from c = search needs
-
 enum-told : tie.Need-enum-told
 enum-told c = search needs
-
-no-place-requires : tie.Need-no-place-requires
-no-place-requires c κs = search needs
 
 returns : tie.Need-returns
 unfolding placeWith
@@ -31,36 +22,12 @@ part-hex-byte-start c = let i = field-inside _ _ _ _ _ (sym (c .before .from .gi
 part-hex-byte-end : tie.Need-part-hex-byte-end
 part-hex-byte-end c = let i = field-inside _ _ _ _ _ (sym (c .before .from .given .1) ∙ c .before .before .before .next-field .ensures) in search needs
 
-hex-byte-requires : tie.Need-hex-byte-requires
-hex-byte-requires c κs = search needs
-
-enum-known-life : tie.Need-enum-known-life
-enum-known-life c = search needs
-
-enum-told-2 : tie.Need-enum-told-2
-enum-told-2 c = search needs
-
-no-place-requires-2 : tie.Need-no-place-requires-2
-no-place-requires-2 c κs = search needs
-
 returns-2 : tie.Need-returns-2
 unfolding placeWith
 returns-2 c = rw (← (sym (c .before .before .before .before .before .before .from .given .1) ∙ c .before .before .before .before .before .before .before .before .next-field .ensures)) (rw (← (sym (c .before .enum-told2 .given .1) ∙ c .before .before .before .hex-byte .ensures)) (c .no-place2 .ensures))
 
 add-sizes-at : tie.Need-add-sizes-at
 add-sizes-at c = let i = field-inside _ _ _ _ _ (sym (c .before .before .before .before .before .before .from .given .1) ∙ c .before .before .before .before .before .before .before .before .next-field .ensures) in search needs
-
-sizes-at-requires : tie.Need-sizes-at-requires
-sizes-at-requires c κs = search needs
-
-enum-known-quota : tie.Need-enum-known-quota
-enum-known-quota c = search needs
-
-enum-told-3 : tie.Need-enum-told-3
-enum-told-3 c = search needs
-
-no-place-requires-3 : tie.Need-no-place-requires-3
-no-place-requires-3 c κs = search needs
 
 returns-3 : tie.Need-returns-3
 unfolding placeWith
@@ -74,23 +41,23 @@ pub place-with-spec : {M : Type 1} → statement M
 place-with-spec =
     tie.close
     (tie.spec
-    next-field-requires
-    enum-known-from
+    (λ c κs. search needs)
+    (λ c. search needs)
     enum-told
-    no-place-requires
+    (λ c κs. search needs)
     returns
     sub-hex-byte
     part-hex-byte-start
     part-hex-byte-end
-    hex-byte-requires
-    enum-known-life
-    enum-told-2
-    no-place-requires-2
+    (λ c κs. search needs)
+    (λ c. search needs)
+    (λ c. search needs)
+    (λ c κs. search needs)
     returns-2
     add-sizes-at
-    sizes-at-requires
-    enum-known-quota
-    enum-told-3
-    no-place-requires-3
+    (λ c κs. search needs)
+    (λ c. search needs)
+    (λ c. search needs)
+    (λ c κs. search needs)
     returns-3
     returns-4)

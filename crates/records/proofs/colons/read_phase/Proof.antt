@@ -7,21 +7,9 @@ use borrow.Author.Needs.{needs}
 use Rattle.records.proofs.colons.read_phase.Statement.{statement}
 use Rattle.records.proofs.colons.read_phase.Tie as tie
 
-slice-aggregate-same : tie.Need-slice-aggregate-same
-slice-aggregate-same c = search needs
-
-same-requires : tie.Need-same-requires
-same-requires c κs = search needs
-
 returns : tie.Need-returns
 unfolding phaseWord
 returns c = yes! _ (sym (c .before .same .ensures) ∙ c .if1 .taken) refl
-
-next-field-requires : tie.Need-next-field-requires
-next-field-requires c κs = search needs
-
-enum-known-from : tie.Need-enum-known-from
-enum-known-from c = search needs
 
 enum-told : tie.Need-enum-told
 enum-told c = search needs
@@ -39,17 +27,8 @@ part-same-start c = let i = field-inside _ _ _ _ _ (sym (c .before .from .given 
 part-same-end : tie.Need-part-same-end
 part-same-end c = let i = field-inside _ _ _ _ _ (sym (c .before .from .given .1) ∙ c .before .before .before .next-field .ensures) in search needs
 
-slice-aggregate-same-2 : tie.Need-slice-aggregate-same-2
-slice-aggregate-same-2 c = search needs
-
-same-requires-2 : tie.Need-same-requires-2
-same-requires-2 c κs = search needs
-
 add-trial-at : tie.Need-add-trial-at
 add-trial-at c = let i = field-inside _ _ _ _ _ (sym (c .before .before .before .before .before .from .given .1) ∙ c .before .before .before .before .before .before .before .next-field .ensures) in search needs
-
-trial-at-requires : tie.Need-trial-at-requires
-trial-at-requires c κs = search needs
 
 returns-3 : tie.Need-returns-3
 unfolding phaseWord
@@ -57,15 +36,6 @@ returns-3 c = no! _ (sym (c .before .before .before .before .before .before .bef
 
 add-open-at : tie.Need-add-open-at
 add-open-at c = let i = field-inside _ _ _ _ _ (sym (c .before .before .before .before .before .from .given .1) ∙ c .before .before .before .before .before .before .before .next-field .ensures) in search needs
-
-open-at-requires : tie.Need-open-at-requires
-open-at-requires c κs = search needs
-
-enum-known-left : tie.Need-enum-known-left
-enum-known-left c = search needs
-
-enum-told-2 : tie.Need-enum-told-2
-enum-told-2 c = search needs
 
 returns-4 : tie.Need-returns-4
 unfolding phaseWord
@@ -80,12 +50,6 @@ part-same-start-2 c = let i = field-inside _ _ _ _ _ (sym (c .before .before .be
 part-same-end-2 : tie.Need-part-same-end-2
 part-same-end-2 c = let i = field-inside _ _ _ _ _ (sym (c .before .before .before .before .before .before .before .before .before .from .given .1) ∙ c .before .before .before .before .before .before .before .before .before .before .before .next-field .ensures) in search needs
 
-slice-aggregate-same-3 : tie.Need-slice-aggregate-same-3
-slice-aggregate-same-3 c = search needs
-
-same-requires-3 : tie.Need-same-requires-3
-same-requires-3 c κs = search needs
-
 returns-5 : tie.Need-returns-5
 unfolding phaseWord
 returns-5 c = no! _ (sym (c .before .before .before .before .before .before .before .before .before .before .before .before .before .before .before .before .before .same .ensures) ∙ c .before .before .before .before .before .before .before .before .before .before .before .before .before .before .before .before .if1 .left) (rw (← (sym (c .before .before .before .before .before .before .before .before .before .before .before .before .before .from .given .1) ∙ c .before .before .before .before .before .before .before .before .before .before .before .before .before .before .before .next-field .ensures)) (no! _ (sym (c .before .before .before .before .before .before .before .before .before .same2 .ensures) ∙ c .before .before .before .before .before .before .before .before .if2 .left) (rw (← (sym (c .before .before .before .before .before .left .given .1) ∙ c .before .before .before .before .before .before .before .open-at .ensures)) (yes! _ (sym (c .before .same3 .ensures) ∙ c .if3 .taken) refl))))
@@ -99,12 +63,6 @@ part-same-start-3 c = let i = field-inside _ _ _ _ _ (sym (c .before .before .be
 part-same-end-3 : tie.Need-part-same-end-3
 part-same-end-3 c = let i = field-inside _ _ _ _ _ (sym (c .before .before .before .before .before .before .before .before .before .before .before .before .before .from .given .1) ∙ c .before .before .before .before .before .before .before .before .before .before .before .before .before .before .before .next-field .ensures) in search needs
 
-slice-aggregate-same-4 : tie.Need-slice-aggregate-same-4
-slice-aggregate-same-4 c = search needs
-
-same-requires-4 : tie.Need-same-requires-4
-same-requires-4 c κs = search needs
-
 returns-6 : tie.Need-returns-6
 unfolding phaseWord
 returns-6 c = no! _ (sym (c .before .before .before .before .before .before .before .before .before .before .before .before .before .before .before .before .before .before .before .before .before .same .ensures) ∙ c .before .before .before .before .before .before .before .before .before .before .before .before .before .before .before .before .before .before .before .before .if1 .left) (rw (← (sym (c .before .before .before .before .before .before .before .before .before .before .before .before .before .before .before .before .before .from .given .1) ∙ c .before .before .before .before .before .before .before .before .before .before .before .before .before .before .before .before .before .before .before .next-field .ensures)) (no! _ (sym (c .before .before .before .before .before .before .before .before .before .before .before .before .before .same2 .ensures) ∙ c .before .before .before .before .before .before .before .before .before .before .before .before .if2 .left) (rw (← (sym (c .before .before .before .before .before .before .before .before .before .left .given .1) ∙ c .before .before .before .before .before .before .before .before .before .before .before .open-at .ensures)) (no! _ (sym (c .before .before .before .before .before .same3 .ensures) ∙ c .before .before .before .before .if3 .left) (yes! _ (sym (c .before .same4 .ensures) ∙ c .if4 .taken) refl)))))
@@ -117,36 +75,36 @@ pub read-phase-spec : {M : Type 1} → statement M
 read-phase-spec =
     tie.close
     (tie.spec
-    slice-aggregate-same
-    same-requires
+    (λ c. search needs)
+    (λ c κs. search needs)
     returns
-    next-field-requires
-    enum-known-from
+    (λ c κs. search needs)
+    (λ c. search needs)
     enum-told
     returns-2
     sub-same
     part-same-start
     part-same-end
-    slice-aggregate-same-2
-    same-requires-2
+    (λ c. search needs)
+    (λ c κs. search needs)
     add-trial-at
-    trial-at-requires
+    (λ c κs. search needs)
     returns-3
     add-open-at
-    open-at-requires
-    enum-known-left
-    enum-told-2
+    (λ c κs. search needs)
+    (λ c. search needs)
+    (λ c. search needs)
     returns-4
     sub-same-2
     part-same-start-2
     part-same-end-2
-    slice-aggregate-same-3
-    same-requires-3
+    (λ c. search needs)
+    (λ c κs. search needs)
     returns-5
     sub-same-3
     part-same-start-3
     part-same-end-3
-    slice-aggregate-same-4
-    same-requires-4
+    (λ c. search needs)
+    (λ c κs. search needs)
     returns-6
     returns-7)

@@ -8,30 +8,12 @@ use borrow.Author.Needs.{needs}
 use Rattle.records.proofs.colons.read_place.Statement.{statement}
 use Rattle.records.proofs.colons.read_place.Tie as tie
 
-slice-aggregate-same : tie.Need-slice-aggregate-same
-slice-aggregate-same c = search needs
-
-same-requires : tie.Need-same-requires
-same-requires c κs = search needs
-
-none-requires : tie.Need-none-requires
-none-requires c κs = search needs
-
 returns : tie.Need-returns
 unfolding placeWord
 returns c = yes! _ (sym (c .before .before .same .ensures) ∙ c .before .if1 .taken) (rw (c .none .ensures) refl)
 
-next-field-requires : tie.Need-next-field-requires
-next-field-requires c κs = search needs
-
-enum-known-from : tie.Need-enum-known-from
-enum-known-from c = search needs
-
 enum-told : tie.Need-enum-told
 enum-told c = search needs
-
-no-place-requires : tie.Need-no-place-requires
-no-place-requires c κs = search needs
 
 returns-2 : tie.Need-returns-2
 unfolding placeWord
@@ -46,35 +28,11 @@ part-read-hex-start c = let i = field-inside _ _ _ _ _ (sym (c .before .from .gi
 part-read-hex-end : tie.Need-part-read-hex-end
 part-read-hex-end c = let i = field-inside _ _ _ _ _ (sym (c .before .from .given .1) ∙ c .before .before .before .next-field .ensures) in search needs
 
-slice-aggregate-read-hex : tie.Need-slice-aggregate-read-hex
-slice-aggregate-read-hex c = search needs
-
-read-hex-requires : tie.Need-read-hex-requires
-read-hex-requires c κs = search needs
-
-enum-known-n : tie.Need-enum-known-n
-enum-known-n c = search needs
-
 cast-len : tie.Need-cast-len
 cast-len c = let h = hex-taken _ _ _ (sym (c .before .n .given .1) ∙ c .before .before .before .before .read-hex .ensures .0) .1 .0 in search needs
 
 add-place-with : tie.Need-add-place-with
 add-place-with c = let i = field-inside _ _ _ _ _ (sym (c .before .before .before .before .before .before .before .before .from .given .1) ∙ c .before .before .before .before .before .before .before .before .before .before .next-field .ensures) in search needs
-
-place-with-requires : tie.Need-place-with-requires
-place-with-requires c κs = search needs
-
-enum-told-2 : tie.Need-enum-told-2
-enum-told-2 c = search needs
-
-no-place-requires-2 : tie.Need-no-place-requires-2
-no-place-requires-2 c κs = search needs
-
-enum-told-3 : tie.Need-enum-told-3
-enum-told-3 c = search needs
-
-no-place-requires-3 : tie.Need-no-place-requires-3
-no-place-requires-3 c κs = search needs
 
 returns-3 : tie.Need-returns-3
 unfolding placeWord
@@ -92,28 +50,28 @@ pub read-place-spec : {M : Type 1} → statement M
 read-place-spec =
     tie.close
     (tie.spec
-    slice-aggregate-same
-    same-requires
-    none-requires
+    (λ c. search needs)
+    (λ c κs. search needs)
+    (λ c κs. search needs)
     returns
-    next-field-requires
-    enum-known-from
+    (λ c κs. search needs)
+    (λ c. search needs)
     enum-told
-    no-place-requires
+    (λ c κs. search needs)
     returns-2
     sub-read-hex
     part-read-hex-start
     part-read-hex-end
-    slice-aggregate-read-hex
-    read-hex-requires
-    enum-known-n
+    (λ c. search needs)
+    (λ c κs. search needs)
+    (λ c. search needs)
     cast-len
     add-place-with
-    place-with-requires
-    enum-told-2
-    no-place-requires-2
-    enum-told-3
-    no-place-requires-3
+    (λ c κs. search needs)
+    (λ c. search needs)
+    (λ c κs. search needs)
+    (λ c. search needs)
+    (λ c κs. search needs)
     returns-3
     returns-4
     returns-5)

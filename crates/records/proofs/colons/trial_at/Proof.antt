@@ -6,27 +6,12 @@ use borrow.Author.Needs.{needs}
 use Rattle.records.proofs.colons.trial_at.Statement.{statement}
 use Rattle.records.proofs.colons.trial_at.Tie as tie
 
-next-number-requires : tie.Need-next-number-requires
-next-number-requires c κs = search needs
-
-enum-known-n : tie.Need-enum-known-n
-enum-known-n c = search needs
-
 enum-told : tie.Need-enum-told
 enum-told c = search needs
 
 returns : tie.Need-returns
 unfolding trialFields
 returns c = rw (← (sym (c .enum-told .given .1) ∙ c .before .before .next-number .ensures)) refl
-
-open-at-requires : tie.Need-open-at-requires
-open-at-requires c κs = search needs
-
-enum-known-left : tie.Need-enum-known-left
-enum-known-left c = search needs
-
-enum-told-2 : tie.Need-enum-told-2
-enum-told-2 c = search needs
 
 returns-2 : tie.Need-returns-2
 unfolding trialFields
@@ -43,13 +28,13 @@ pub trial-at-spec : {M : Type 1} → statement M
 trial-at-spec =
     tie.close
     (tie.spec
-    next-number-requires
-    enum-known-n
+    (λ c κs. search needs)
+    (λ c. search needs)
     enum-told
     returns
-    open-at-requires
-    enum-known-left
-    enum-told-2
+    (λ c κs. search needs)
+    (λ c. search needs)
+    (λ c. search needs)
     returns-2
     cast-t9
     returns-3)

@@ -10,14 +10,5 @@ use Rattle.report.proofs.cells.put_gap.Tie as tie
 returns : tie.Need-returns
 returns c = wrote-as _ (sym (spaces-end _ (omega arith))) (wrote-none _ _)
 
-put-spaces-requires : tie.Need-put-spaces-requires
-put-spaces-requires c κs = search needs
-
-same-length : tie.Need-same-length
-same-length c = search needs
-
-returns-2 : tie.Need-returns-2
-returns-2 c = search needs
-
 pub put-gap-spec : {M : Type 1} → statement M
-put-gap-spec = tie.close (tie.spec returns put-spaces-requires same-length returns-2)
+put-gap-spec = tie.close (tie.spec returns (λ c κs. search needs) (λ c. search needs) (λ c. search needs))

@@ -7,24 +7,9 @@ use borrow.Author.Needs.{needs}
 use Rattle.report.proofs.cells.put_total.Statement.{statement}
 use Rattle.report.proofs.cells.put_total.Tie as tie
 
-put-figure-requires : tie.Need-put-figure-requires
-put-figure-requires c κs = search needs
-
-put-byte-requires : tie.Need-put-byte-requires
-put-byte-requires c κs = search needs
-
-same-length : tie.Need-same-length
-same-length c = search needs
-
 returns : tie.Need-returns
 unfolding totalText
 returns c = wrote-as _ (yes! _ (c .before .before .before .before .before .before .before .before .if1 .taken) refl) (wrote-then (c .before .before .before .before .before .before .put-figure .ensures) (c .before .before .put-byte .ensures))
-
-put-plain-requires : tie.Need-put-plain-requires
-put-plain-requires c κs = search needs
-
-same-length-2 : tie.Need-same-length-2
-same-length-2 c = search needs
 
 returns-2 : tie.Need-returns-2
 unfolding totalText
@@ -34,10 +19,10 @@ pub put-total-spec : {M : Type 1} → statement M
 put-total-spec =
     tie.close
     (tie.spec
-    put-figure-requires
-    put-byte-requires
-    same-length
+    (λ c κs. search needs)
+    (λ c κs. search needs)
+    (λ c. search needs)
     returns
-    put-plain-requires
-    same-length-2
+    (λ c κs. search needs)
+    (λ c. search needs)
     returns-2)

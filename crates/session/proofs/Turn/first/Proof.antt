@@ -3,12 +3,9 @@ use borrow.Author.Needs.{needs}
 use Rattle.session.proofs.Turn.first.Statement.{statement}
 use Rattle.session.proofs.Turn.first.Tie as tie
 
-zero-requires : tie.Need-zero-requires
-zero-requires c κs = search needs
-
 returns : tie.Need-returns
 returns c =
     rw (c .zero .ensures)
 
 pub first-spec : {M : Type 1} → statement M
-first-spec = tie.close (tie.spec zero-requires returns)
+first-spec = tie.close (tie.spec (λ c κs. search needs) returns)

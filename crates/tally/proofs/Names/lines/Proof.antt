@@ -7,9 +7,6 @@ use Rattle.tally.proofs.Records.{full}
 use Rattle.tally.proofs.Names.lines.Statement.{statement}
 use Rattle.tally.proofs.Names.lines.Tie as tie
 
-cast-n : tie.Need-cast-n
-cast-n c = search needs
-
 returns : tie.Need-returns
 returns c = let s = c .before .before .args .self in
     let n = full s _ (c .before .before .good .0) in
@@ -21,4 +18,4 @@ returns-2 c = let s = c .before .before .args .self in
     (sym (length-take-le (s .count) (s .aids) (omega arith)), omega arith)
 
 pub lines-spec : {M : Type 1} → statement M
-lines-spec = tie.close (tie.spec cast-n returns returns-2)
+lines-spec = tie.close (tie.spec (λ c. search needs) returns returns-2)

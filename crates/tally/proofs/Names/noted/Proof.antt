@@ -7,25 +7,10 @@ use Rattle.tally.proofs.Noting.{has-below, has-not, noted-had, noted-ne
 use Rattle.tally.proofs.Names.noted.Statement.{statement}
 use Rattle.tally.proofs.Names.noted.Tie as tie
 
-line-requires : tie.Need-line-requires
-line-requires c κs = search needs
-
 returns : tie.Need-returns
 returns c = let s = c .before .before in
     let l = c .before .line .ensures in
     sym (noted-had (s .args .self) (s .args .aid) (has-below (s .args .self) (s .args .aid) (omega arith)))
-
-cast-n : tie.Need-cast-n
-cast-n c = search needs
-
-mul-aid : tie.Need-mul-aid
-mul-aid c = search needs
-
-element-set-from-aid : tie.Need-element-set-from-aid
-element-set-from-aid c = search needs
-
-add-names : tie.Need-add-names
-add-names c = search needs
 
 returns-2 : tie.Need-returns-2
 returns-2 c = let s = c .before .before .before .before .before in
@@ -43,11 +28,11 @@ pub noted-spec : {M : Type 1} → statement M
 noted-spec =
     tie.close
     (tie.spec
-    line-requires
+    (λ c κs. search needs)
     returns
-    cast-n
-    mul-aid
-    element-set-from-aid
-    add-names
+    (λ c. search needs)
+    (λ c. search needs)
+    (λ c. search needs)
+    (λ c. search needs)
     returns-2
     returns-3)

@@ -5,21 +5,9 @@ use borrow.Author.Needs.{needs}
 use Rattle.text.proofs.hex.byte_of.Statement.{statement}
 use Rattle.text.proofs.hex.byte_of.Tie as tie
 
-nibble-requires : tie.Need-nibble-requires
-nibble-requires c κs = search needs
-
-nibble-requires-2 : tie.Need-nibble-requires-2
-nibble-requires-2 c κs = search needs
-
-mul-result : tie.Need-mul-result
-mul-result c = search needs
-
-add-result : tie.Need-add-result
-add-result c = search needs
-
 returns : tie.Need-returns
 unfolding byteOf
 returns c = let a = c .before .nibble .ensures in let b = c .nibble2 .ensures in rw (← a, ← b) refl
 
 pub byte-of-spec : {M : Type 1} → statement M
-byte-of-spec = tie.close (tie.spec nibble-requires nibble-requires-2 mul-result add-result returns)
+byte-of-spec = tie.close (tie.spec (λ c κs. search needs) (λ c κs. search needs) (λ c. search needs) (λ c. search needs) returns)

@@ -11,32 +11,11 @@ use Rattle.text.proofs.hex.hex_byte.Tie as tie
 returns : tie.Need-returns
 returns c = byte-not _ (c .if1 .taken)
 
-shared-slice-read-nibble : tie.Need-shared-slice-read-nibble
-shared-slice-read-nibble c = search needs
-
-nibble-requires : tie.Need-nibble-requires
-nibble-requires c κs = search needs
-
 returns-2 : tie.Need-returns-2
 returns-2 c = rw (byte-two _ (c .before .before .before .if1 .left)) (lt! _ (omega arith) refl)
 
-shared-slice-read-nibble-2 : tie.Need-shared-slice-read-nibble-2
-shared-slice-read-nibble-2 c = search needs
-
-nibble-requires-2 : tie.Need-nibble-requires-2
-nibble-requires-2 c κs = search needs
-
 returns-3 : tie.Need-returns-3
 returns-3 c = rw (byte-two _ (c .before .before .before .before .before .before .if1 .left)) (nlt! _ (omega arith) (lt! _ (omega arith) refl))
-
-shared-slice-read-byte-of : tie.Need-shared-slice-read-byte-of
-shared-slice-read-byte-of c = search needs
-
-shared-slice-read-byte-of-2 : tie.Need-shared-slice-read-byte-of-2
-shared-slice-read-byte-of-2 c = search needs
-
-byte-of-requires : tie.Need-byte-of-requires
-byte-of-requires c κs = search needs
 
 returns-4 : tie.Need-returns-4
 returns-4 c = rw (byte-two _ (c .before .before .before .before .before .before .before .before .before .if1 .left)) (nlt! _ (omega arith) (nlt! _ (omega arith) (ap Value (c .byte-of .ensures))))
@@ -46,13 +25,13 @@ hex-byte-spec =
     tie.close
     (tie.spec
     returns
-    shared-slice-read-nibble
-    nibble-requires
+    (λ c. search needs)
+    (λ c κs. search needs)
     returns-2
-    shared-slice-read-nibble-2
-    nibble-requires-2
+    (λ c. search needs)
+    (λ c κs. search needs)
     returns-3
-    shared-slice-read-byte-of
-    shared-slice-read-byte-of-2
-    byte-of-requires
+    (λ c. search needs)
+    (λ c. search needs)
+    (λ c κs. search needs)
     returns-4)

@@ -9,17 +9,8 @@ use Rattle.text.proofs.hex.is_hex.Tie as tie
 returns : tie.Need-returns
 returns c = hex-none _ (c .if1 .taken)
 
-slice-aggregate-same : tie.Need-slice-aggregate-same
-slice-aggregate-same c = search needs
-
-same-requires : tie.Need-same-requires
-same-requires c κs = search needs
-
 returns-2 : tie.Need-returns-2
 returns-2 c = rw (hex-some _ (c .before .before .before .if1 .left)) (yes! _ (sym (c .before .same .ensures) ∙ c .if2 .taken) refl)
-
-pairs-requires : tie.Need-pairs-requires
-pairs-requires c κs = search needs
 
 returns-3 : tie.Need-returns-3
 returns-3 c = rw (hex-some _ (c .before .before .before .before .if1 .left)) (no! _ (sym (c .before .before .same .ensures) ∙ c .before .if2 .left) (c .pairs .ensures))
@@ -27,4 +18,4 @@ returns-3 c = rw (hex-some _ (c .before .before .before .before .if1 .left)) (no
 pub is-hex-spec : {M : Type 1} → statement M
 is-hex-spec =
     tie.close
-    (tie.spec returns slice-aggregate-same same-requires returns-2 pairs-requires returns-3)
+    (tie.spec returns (λ c. search needs) (λ c κs. search needs) returns-2 (λ c κs. search needs) returns-3)

@@ -19,9 +19,6 @@ returns-3 : tie.Need-returns-3
 unfolding nibbleOf
 returns-3 c = nlt! _ (omega arith) (nle! _ (omega arith) (lt! _ (omega arith) refl))
 
-sub-result : tie.Need-sub-result
-sub-result c = search needs
-
 returns-4 : tie.Need-returns-4
 unfolding nibbleOf
 returns-4 c = nlt! _ (omega arith) (nle! _ (omega arith) (nlt! _ (omega arith) (le! _ (omega arith) refl)))
@@ -29,9 +26,6 @@ returns-4 c = nlt! _ (omega arith) (nle! _ (omega arith) (nlt! _ (omega arith) (
 returns-5 : tie.Need-returns-5
 unfolding nibbleOf
 returns-5 c = nlt! _ (omega arith) (nle! _ (omega arith) (nlt! _ (omega arith) (nle! _ (omega arith) (lt! _ (omega arith) refl))))
-
-sub-result-2 : tie.Need-sub-result-2
-sub-result-2 c = search needs
 
 returns-6 : tie.Need-returns-6
 unfolding nibbleOf
@@ -48,9 +42,9 @@ nibble-spec =
     returns
     returns-2
     returns-3
-    sub-result
+    (λ c. search needs)
     returns-4
     returns-5
-    sub-result-2
+    (λ c. search needs)
     returns-6
     returns-7)

@@ -8,21 +8,12 @@ use borrow.Author.Needs.{needs}
 use Rattle.text.proofs.hex.read_hex.Statement.{statement}
 use Rattle.text.proofs.hex.read_hex.Tie as tie
 
-is-hex-requires : tie.Need-is-hex-requires
-is-hex-requires c κs = search needs
-
 returns : tie.Need-returns
 returns c =
     let at = c .before .before in
     let room = length (at .before .before .before .args .out .now) in
     let e = hex-full _ room (sym (at .is-hex .ensures) ∙ c .before .if1 .taken) (omega arith) in
     (e .0, put-kept _ _ (e .1))
-
-spell-requires : tie.Need-spell-requires
-spell-requires c κs = search needs
-
-same-length : tie.Need-same-length
-same-length c = search needs
 
 returns-2 : tie.Need-returns-2
 returns-2 c =
@@ -39,4 +30,4 @@ returns-3 c =
 
 pub read-hex-spec : {M : Type 1} → statement M
 read-hex-spec =
-    tie.close (tie.spec is-hex-requires returns spell-requires same-length returns-2 returns-3)
+    tie.close (tie.spec (λ c κs. search needs) returns (λ c κs. search needs) (λ c. search needs) returns-2 returns-3)

@@ -14,12 +14,6 @@ returns c =
     let e = in-full (a .s .now) (length (a .out .now)) (omega arith) in
     (ap length e, put-kept _ _ e)
 
-spell-requires : tie.Need-spell-requires
-spell-requires c κs = search needs
-
-same-length : tie.Need-same-length
-same-length c = search needs
-
 returns-2 : tie.Need-returns-2
 returns-2 c =
     let a = c .before .before .before .before .before .before .before .args in
@@ -27,4 +21,4 @@ returns-2 c =
     (sym (spelled-length (a .s .now)) ∙ ap length e, put-as _ _ e (c .before .before .spell .ensures))
 
 pub spell-hex-spec : {M : Type 1} → statement M
-spell-hex-spec = tie.close (tie.spec returns spell-requires same-length returns-2)
+spell-hex-spec = tie.close (tie.spec returns (λ c κs. search needs) (λ c. search needs) returns-2)

@@ -12,12 +12,9 @@ returns : tie.Need-returns
 unfolding fieldAt
 returns c = lt! _ (omega arith) refl
 
-until-requires : tie.Need-until-requires
-until-requires c κs = search needs
-
 returns-2 : tie.Need-returns-2
 unfolding fieldAt
 returns-2 c = nlt! _ (omega arith) (ap (Span (c .before .before .before .args .at)) (c .until .ensures))
 
 pub next-field-spec : {M : Type 1} → statement M
-next-field-spec = tie.close (tie.spec returns until-requires returns-2)
+next-field-spec = tie.close (tie.spec returns (λ c κs. search needs) returns-2)

@@ -8,19 +8,13 @@ use borrow.Author.Needs.{needs}
 use Rattle.text.proofs.words.next_word.Statement.{statement}
 use Rattle.text.proofs.words.next_word.Tie as tie
 
-past-requires : tie.Need-past-requires
-past-requires c κs = search needs
-
 returns : tie.Need-returns
 unfolding wordAt wordFrom
 returns c = le! _ (omega arith) refl
-
-until-requires : tie.Need-until-requires
-until-requires c κs = search needs
 
 returns-2 : tie.Need-returns-2
 unfolding wordAt wordFrom
 returns-2 c = rw (← c .before .before .past .ensures) (nle! _ (omega arith) (ap (Span (c .before .before .past .result)) (c .until .ensures)))
 
 pub next-word-spec : {M : Type 1} → statement M
-next-word-spec = tie.close (tie.spec past-requires returns until-requires returns-2)
+next-word-spec = tie.close (tie.spec (λ c κs. search needs) returns (λ c κs. search needs) returns-2)

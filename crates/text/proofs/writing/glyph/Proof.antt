@@ -7,19 +7,13 @@ use borrow.Author.Needs.{needs}
 use Rattle.text.proofs.writing.glyph.Statement.{statement}
 use Rattle.text.proofs.writing.glyph.Tie as tie
 
-add-result : tie.Need-add-result
-add-result c = search needs
-
 returns : tie.Need-returns
 unfolding glyphOf
 returns c = lt! _ (omega arith) refl
-
-add-result-2 : tie.Need-add-result-2
-add-result-2 c = search needs
 
 returns-2 : tie.Need-returns-2
 unfolding glyphOf
 returns-2 c = nlt! _ (omega arith) refl
 
 pub glyph-spec : {M : Type 1} → statement M
-glyph-spec = tie.close (tie.spec add-result returns add-result-2 returns-2)
+glyph-spec = tie.close (tie.spec (λ c. search needs) returns (λ c. search needs) returns-2)

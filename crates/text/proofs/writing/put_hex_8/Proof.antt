@@ -5,21 +5,6 @@ use borrow.Author.Needs.{needs}
 use Rattle.text.proofs.writing.put_hex_8.Statement.{statement}
 use Rattle.text.proofs.writing.put_hex_8.Tie as tie
 
-glyph-requires : tie.Need-glyph-requires
-glyph-requires c κs = search needs
-
-put-byte-requires : tie.Need-put-byte-requires
-put-byte-requires c κs = search needs
-
-glyph-requires-2 : tie.Need-glyph-requires-2
-glyph-requires-2 c κs = search needs
-
-put-byte-requires-2 : tie.Need-put-byte-requires-2
-put-byte-requires-2 c κs = search needs
-
-same-length : tie.Need-same-length
-same-length c = search needs
-
 returns : tie.Need-returns
 unfolding hexText
 returns c =
@@ -33,9 +18,9 @@ pub put-hex-8-spec : {M : Type 1} → statement M
 put-hex-8-spec =
     tie.close
     (tie.spec
-    glyph-requires
-    put-byte-requires
-    glyph-requires-2
-    put-byte-requires-2
-    same-length
+    (λ c κs. search needs)
+    (λ c κs. search needs)
+    (λ c κs. search needs)
+    (λ c κs. search needs)
+    (λ c. search needs)
     returns)

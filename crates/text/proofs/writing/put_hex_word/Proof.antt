@@ -5,20 +5,8 @@ use borrow.Author.Needs.{needs}
 use Rattle.text.proofs.writing.put_hex_word.Statement.{statement}
 use Rattle.text.proofs.writing.put_hex_word.Tie as tie
 
-put-byte-requires : tie.Need-put-byte-requires
-put-byte-requires c κs = search needs
-
-same-length : tie.Need-same-length
-same-length c = search needs
-
 returns : tie.Need-returns
 returns c = wrote-as _ (word-none _ (c .before .before .before .before .if1 .taken)) (c .before .before .put-byte .ensures)
-
-put-hex-requires : tie.Need-put-hex-requires
-put-hex-requires c κs = search needs
-
-same-length-2 : tie.Need-same-length-2
-same-length-2 c = search needs
 
 returns-2 : tie.Need-returns-2
 returns-2 c = wrote-as _ (word-some _ (c .before .before .before .before .if1 .left)) (c .before .before .put-hex .ensures)
@@ -26,4 +14,4 @@ returns-2 c = wrote-as _ (word-some _ (c .before .before .before .before .if1 .l
 pub put-hex-word-spec : {M : Type 1} → statement M
 put-hex-word-spec =
     tie.close
-    (tie.spec put-byte-requires same-length returns put-hex-requires same-length-2 returns-2)
+    (tie.spec (λ c κs. search needs) (λ c. search needs) returns (λ c κs. search needs) (λ c. search needs) returns-2)
