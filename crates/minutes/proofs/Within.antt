@@ -4,9 +4,9 @@ use Prim.Native.Nat.{ℕ, _≤_}
 use native.Mathlib.Omega.{arith}
 use mathlib.Core.List.{List}
 use lib.ListN.{length}
-use Rattle.byte_string.specs.Put.{Wrote}
-use Rattle.byte_string.proofs.PutLaws.{after-fits, length-put}
-use Rattle.account.specs.Account.{mostAccount}
+use Rattle.base_bytes.specs.Put.{Wrote}
+use Rattle.base_bytes.proofs.PutLaws.{after-fits, length-put}
+use Rattle.month_account.specs.Account.{mostAccount}
 
 pub within : {old new text : List ℕ} {r : ℕ} → Wrote old 0 text r new × (length text ≤ mostAccount) → mostAccount ≤ length old → r ≤ length new
 within {old} {new} {text} w h =

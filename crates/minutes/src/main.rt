@@ -1,12 +1,12 @@
 // minutes: reports how many minutes each profile was enabled, from event files (docs/EVENTS.md). Its words are taken from left to right:
 // `explain`, what follows is written for a person; `-`, standard input is read as a file; any other names an event file.
 // What a file means and what is written of it is proved below, in `account`; here only bytes are moved.
-use account::write_month;
-use byte_string::same;
-use input::Arrival;
-use input::arrival_of;
+use base_bytes::same;
 use libc::STDIN_FILENO;
 use libc::STDOUT_FILENO;
+use month_account::write_month;
+use text_input::Arrival;
+use text_input::arrival_of;
 ghost use Prim.Native.Nat.{_≤_};
 ghost use lib.ListN.{length};
 

@@ -1,19 +1,19 @@
 // Reads lines of one hex word, each a command (`-` is the empty one), and writes how it is read with a capacity of 1000: the request, or
 // the word of its refusal. Empty lines and lines that begin with `#` are passed over.
-use byte_string::Part;
-use byte_string::part_of;
-use byte_string::put_byte;
-use byte_string::put_bytes;
-use command::Reading;
-use command::Request;
+use base_bytes::Part;
+use base_bytes::part_of;
+use base_bytes::put_byte;
+use base_bytes::put_bytes;
 use libc::STDIN_FILENO;
 use libc::STDOUT_FILENO;
-use text::HexRead;
-use text::put_decimal;
-use text::put_hex;
-use text::put_hex_16;
-use text::read_hex;
-use text::until;
+use read_command::Reading;
+use read_command::Request;
+use text_words::HexRead;
+use text_words::put_decimal;
+use text_words::put_hex;
+use text_words::put_hex_16;
+use text_words::read_hex;
+use text_words::until;
 
 const CAPACITY: u32 = 1000;
 
@@ -79,7 +79,7 @@ fn put_request(out: &mut [u8], bytes: &[u8], request: Request) -> usize {
 }
 
 fn put_reading(out: &mut [u8], bytes: &[u8]) -> usize {
-    match command::read(bytes, CAPACITY) {
+    match read_command::read(bytes, CAPACITY) {
         Reading::Read(request) => put_request(out, bytes, request),
         Reading::Refused(status) => put_hex_16(out, 0, status.number()),
     }

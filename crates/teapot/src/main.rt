@@ -2,23 +2,23 @@
 // and written out before the program waits for more. Its words are taken from left to right: `explain`, what follows is written for a
 // person; `ask`, every call asks whether the card is sound; `-`, standard input is run; any other names a script's file, which is run.
 // What a line means and what is written of it is proved below, in `session`; here only bytes are moved.
-use byte_string::same;
-use input::Arrival;
-use input::fill;
+use base_bytes::same;
 use libc::STDIN_FILENO;
 use libc::STDOUT_FILENO;
-use lines::Found;
-use lines::LONGEST;
-use lines::Window;
-use lines::next;
-use session::MOST;
-use session::ROOM;
-use session::Turn;
-use session::take_line;
+use script_session::MOST;
+use script_session::ROOM;
+use script_session::Turn;
+use script_session::take_line;
+use text_input::Arrival;
+use text_input::fill;
+use text_lines::Found;
+use text_lines::LONGEST;
+use text_lines::Window;
+use text_lines::next;
 ghost use mathlib.Core.Path.{_≡_};
 ghost use Prim.Native.Nat.{_+_, _≤_, _<_};
 ghost use lib.ListN.{length};
-ghost use Rattle.replies.specs.Replies.{mostText};
+ghost use Rattle.script_reply.specs.Replies.{mostText};
 
 // The bytes collected before they are written out, and the room that is kept for the answer of one line: no answer is longer, which
 // `make_room` promises.

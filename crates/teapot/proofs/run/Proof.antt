@@ -2,7 +2,7 @@
 use mathlib.Core.Path.{_≡_, ap}
 use Prim.Native.Nat.{_≤_}
 use lib.ListN.{length}
-use Rattle.session.specs.declared.Turn.{Turn}
+use Rattle.script_session.specs.declared.Turn.{Turn}
 use Rattle.teapot.proofs.Within.{within}
 use borrow.Author.Needs.{needs}
 use Rattle.teapot.proofs.run.Statement.{statement}

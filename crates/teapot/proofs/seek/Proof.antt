@@ -1,5 +1,5 @@
 -- `teapot::seek`: a line that `next` found lies in the buffer, and the longest answer has room after what is still to be written.
-use Rattle.lines.proofs.Cuts.{line-inside}
+use Rattle.text_lines.proofs.Cuts.{line-inside}
 use borrow.Author.Needs.{needs}
 use Rattle.teapot.proofs.seek.Statement.{statement}
 use Rattle.teapot.proofs.seek.Tie as tie

@@ -1,0 +1,78 @@
+-- `places::find`: no place before i bears the AID; the search is i and what is found in the places left.
+use mathlib.Core.Path.{_≡_, sym, _∙_}
+use Prim.Native.Nat.{_+_, _-_, _≤_}
+use native.Mathlib.Omega.{arith}
+use lib.ListN.{length, drop}
+use borrow.Author.Needs.{needs}
+use Rattle.card_isdp.specs.Sizes.{mostPlaces}
+use Rattle.card_isdp.specs.Place.{isFor}
+use Rattle.card_places.specs.Places.{seek}
+use Rattle.card_places.proofs.Turns.{seek-hit, seek-miss, seek-end, found-at, found-none}
+use Rattle.card_places.proofs.Records.{unread}
+use Rattle.card_places.proofs.find.Statement.{statement}
+use Rattle.card_places.proofs.find.Tie as tie
+
+abbrev Inv-loop : tie.InvT-loop
+Inv-loop aid places i₀ i = (i ≤ mostPlaces) × (i + seek (isFor aid) (drop i places) ≡ seek (isFor aid) places)
+
+abbrev μ-loop : tie.MeasureT-loop
+μ-loop aid places i₀ i = mostPlaces - i
+
+loop-holds : tie.Need-loop-holds Inv-loop μ-loop
+loop-holds c = search needs
+
+mul-p : tie.Need-mul-p Inv-loop μ-loop
+mul-p c = search needs
+
+array-copy-out-p : tie.Need-array-copy-out-p Inv-loop μ-loop
+array-copy-out-p c = search needs
+
+is-for-requires : tie.Need-is-for-requires Inv-loop μ-loop
+is-for-requires c κs = search needs
+
+cast-t13 : tie.Need-cast-t13 Inv-loop μ-loop
+cast-t13 c = search needs
+
+add-i : tie.Need-add-i Inv-loop μ-loop
+add-i c = search needs
+
+loop-less : tie.Need-loop-less Inv-loop μ-loop
+loop-less c = search needs
+
+loop-again : tie.Need-loop-again Inv-loop μ-loop
+loop-again c = let s = c .before .before .before .before .before .before in
+    let o = c .before .before .before .before .loop in
+    let n : length (s .args .t1) ≡ mostPlaces = search needs in
+    let m = seek-miss (isFor (s .args .aid .now)) (s .args .t1) unread (o .i) (omega arith) (sym (c .before .is-for .ensures) ∙ c .if2 .left) in
+    (search needs, omega (arith, o .inv))
+
+returns : tie.Need-returns Inv-loop μ-loop
+returns c = let s = c .before .before .before in
+    let o = c .before .loop in
+    let n : length (s .args .t1) ≡ mostPlaces = search needs in
+    let m = seek-end (isFor (s .args .aid .now)) (s .args .t1) (o .i) (omega arith) in
+    found-none (seek (isFor (s .args .aid .now)) (s .args .t1)) (omega (arith, o .inv))
+
+returns-2 : tie.Need-returns-2 Inv-loop μ-loop
+returns-2 c = let s = c .before .before .before .before .before .before in
+    let o = c .before .before .before .before .loop in
+    let n : length (s .args .t1) ≡ mostPlaces = search needs in
+    let m = seek-hit (isFor (s .args .aid .now)) (s .args .t1) unread (o .i) (omega arith) (sym (c .before .is-for .ensures) ∙ c .if2 .taken) in
+    found-at (seek (isFor (s .args .aid .now)) (s .args .t1)) (o .i) (omega (arith, o .inv)) (omega arith)
+
+pub find-spec : {M : Type 1} → statement M
+find-spec =
+    tie.close
+    (tie.spec
+    Inv-loop
+    μ-loop
+    loop-holds
+    mul-p
+    array-copy-out-p
+    is-for-requires
+    cast-t13
+    add-i
+    loop-less
+    loop-again
+    returns
+    returns-2)

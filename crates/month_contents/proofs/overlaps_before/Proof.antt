@@ -1,0 +1,54 @@
+-- `overlaps_before` meets its contract. The loop keeps: none before j overlaps the body.
+use mathlib.Core.Path.{_≡_, sym, _∙_}
+use Prim.Native.Nat.{_-_, _≤_}
+use native.Mathlib.Omega.{arith}
+use mathlib.Core.Bool.{false}
+use borrow.Author.Needs.{needs}
+use Rattle.month_contents.specs.Below.{someBelow}
+use Rattle.month_contents.specs.Contents.{overlap}
+use Rattle.month_contents.proofs.Below.{some-none, some-next, some-hit, some-end}
+use Rattle.month_contents.proofs.overlaps_before.Statement.{statement}
+use Rattle.month_contents.proofs.overlaps_before.Tie as tie
+
+abbrev Inv-loop : tie.InvT-loop
+Inv-loop s i j₀ j = (j ≤ i) × (someBelow j (overlap s i) ≡ false)
+
+abbrev μ-loop : tie.MeasureT-loop
+μ-loop s i j₀ j = i - j
+
+loop-holds : tie.Need-loop-holds Inv-loop μ-loop
+loop-holds c = (omega arith, some-none _)
+
+overlaps-requires : tie.Need-overlaps-requires Inv-loop μ-loop
+overlaps-requires c κs = search needs
+
+returns : tie.Need-returns Inv-loop μ-loop
+returns c = let s = c .before .before .before .before .before in
+    let o = c .before .before .before .loop in
+    sym (some-hit (overlap (s .args .s .now) (s .args .i)) (o .j) (sym (c .before .overlaps .ensures) ∙ c .if1 .taken) (s .args .i) (omega arith))
+
+add-j : tie.Need-add-j Inv-loop μ-loop
+add-j c = search needs
+
+loop-less : tie.Need-loop-less Inv-loop μ-loop
+loop-less c = search needs
+
+loop-again : tie.Need-loop-again Inv-loop μ-loop
+loop-again c = (omega arith, some-next _ _ (c .before .before .before .loop .inv .1) (sym (c .before .overlaps .ensures) ∙ c .if1 .left))
+
+returns-2 : tie.Need-returns-2 Inv-loop μ-loop
+returns-2 c = some-end _ _ _ (omega arith) (omega arith) (c .before .loop .inv .1)
+
+pub overlaps-before-spec : {M : Type 1} → statement M
+overlaps-before-spec =
+    tie.close
+    (tie.spec
+    Inv-loop
+    μ-loop
+    loop-holds
+    overlaps-requires
+    returns
+    add-j
+    loop-less
+    loop-again
+    returns-2)

@@ -1,0 +1,29 @@
+-- `cells::put_minutes`: one form or the other.
+use mathlib.Core.Path.{refl}
+use Rattle.base_bytes.proofs.PutLaws.{wrote-then, wrote-as}
+use Rattle.base_choice.proofs.Branches.{yes!, no! }
+use Rattle.month_report.specs.Report.{minutesText}
+use borrow.Author.Needs.{needs}
+use Rattle.month_report.proofs.cells.put_minutes.Statement.{statement}
+use Rattle.month_report.proofs.cells.put_minutes.Tie as tie
+
+returns : tie.Need-returns
+unfolding minutesText
+returns c = wrote-as _ (yes! _ (c .before .before .before .before .before .before .before .before .before .before .before .before .if1 .taken) refl) (wrote-then (wrote-then (c .before .before .before .before .before .before .before .before .before .before .put-figure .ensures) (c .before .before .before .before .before .before .put-share .ensures)) (c .before .before .put-byte .ensures))
+
+returns-2 : tie.Need-returns-2
+unfolding minutesText
+returns-2 c = wrote-as _ (no! _ (c .before .before .before .before .if1 .left) refl) (c .before .before .put-plain .ensures)
+
+pub put-minutes-spec : {M : Type 1} → statement M
+put-minutes-spec =
+    tie.close
+    (tie.spec
+    (λ c κs. search needs)
+    (λ c κs. search needs)
+    (λ c κs. search needs)
+    (λ c. search needs)
+    returns
+    (λ c κs. search needs)
+    (λ c. search needs)
+    returns-2)

@@ -1,0 +1,2 @@
+-- The proof of the one list.
+pub mod Delivered

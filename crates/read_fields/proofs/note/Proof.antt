@@ -1,0 +1,26 @@
+-- `note` meets its contract: each exit names the branches that lead there.
+use Rattle.read_fields.specs.GetStatus.{noted}
+use Rattle.base_choice.proofs.Branches.{eq!, ne! }
+use mathlib.Core.Path.{refl}
+use native.Mathlib.Omega.{arith}
+use Rattle.read_fields.proofs.note.Statement.{statement}
+use Rattle.read_fields.proofs.note.Tie as tie
+
+returns : tie.Need-returns
+unfolding noted
+returns c = eq! _ (omega arith) refl
+
+returns-2 : tie.Need-returns-2
+unfolding noted
+returns-2 c = ne! _ (omega arith) (eq! _ (omega arith) refl)
+
+returns-3 : tie.Need-returns-3
+unfolding noted
+returns-3 c = ne! _ (omega arith) (ne! _ (omega arith) (eq! _ (omega arith) refl))
+
+returns-4 : tie.Need-returns-4
+unfolding noted
+returns-4 c = ne! _ (omega arith) (ne! _ (omega arith) (ne! _ (omega arith) refl))
+
+pub note-spec : {M : Type 1} → statement M
+note-spec = tie.close (tie.spec returns returns-2 returns-3 returns-4)

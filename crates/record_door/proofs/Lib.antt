@@ -1,0 +1,2 @@
+-- Laws that several proofs cite: responses in a buffer.
+pub mod Buffers

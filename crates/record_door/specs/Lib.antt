@@ -1,0 +1,2 @@
+-- The engine over the record: its door.
+pub mod Door

@@ -1,0 +1,38 @@
+-- Each by computing.
+use mathlib.Core.Path.{refl}
+use Rattle.base_status.specs.Rows.{wordOf}
+use Rattle.base_bytes.specs.Bytes.{sameBytes}
+use Rattle.card_isdp.specs.Aids.{padded}
+use Rattle.card_isdp.specs.Place.{isFor, clash, zeros, placeOk}
+use Rattle.card_places.specs.Places.{seek, quotas, allOf, anyOf, countOf, distinct}
+use Rattle.card_record.specs.Sound.{phaseOk, sound}
+use Rattle.card_record.specs.Answers.{accepted}
+use Rattle.rule_responses.specs.Responses.{leftFrom, leftAfter}
+use Rattle.rule_steps.specs.Laws.Met.{LawsMet}
+
+pub laws-met : LawsMet
+unfolding wordOf sameBytes padded isFor clash zeros placeOk seek quotas allOf anyOf countOf distinct phaseOk sound leftFrom leftAfter accepted
+laws-met =
+    record {
+      quiet-sound = refl;
+      away-sound = refl;
+      trial-sound = (refl, refl);
+      back-sound = (refl, refl, refl);
+      fallen-sound = (refl, refl);
+      creates = refl;
+      keys = refl;
+      stores = refl;
+      finishes = (refl, refl);
+      sets-policy = (refl, refl, refl, refl, refl);
+      enables = refl;
+      disables = refl;
+      deletes = (refl, refl, refl);
+      master-deletes = refl;
+      sets-fall-back = refl;
+      confirms-trial = refl;
+      confirms-back = refl;
+      confirms-fallen = refl;
+      keeps-sound = refl;
+      lists-on = refl;
+      tells-status = λ life attribute. refl;
+    }

@@ -1,0 +1,24 @@
+-- `explained::put_open`: the parts one after the other.
+use Rattle.script_answer.specs.Explained.{openText}
+use Rattle.base_bytes.proofs.PutLaws.{wrote-then}
+use borrow.Author.Needs.{needs}
+use Rattle.script_answer.proofs.explained.put_open.Statement.{statement}
+use Rattle.script_answer.proofs.explained.put_open.Tie as tie
+
+returns : tie.Need-returns
+unfolding openText
+returns c = wrote-then (wrote-then (wrote-then (wrote-then (c .before .before .before .before .before .before .before .before .before .before .before .before .before .before .before .before .before .before .before .put-bytes .ensures) (c .before .before .before .before .before .before .before .before .before .before .before .before .before .before .before .put-decimal .ensures)) (c .before .before .before .before .before .before .before .before .before .before .put-bytes2 .ensures)) (c .before .before .before .before .before .before .put-decimal2 .ensures)) (c .before .before .put-byte .ensures)
+
+pub put-open-spec : {M : Type 1} → statement M
+put-open-spec =
+    tie.close
+    (tie.spec
+    (λ c. search needs)
+    (λ c κs. search needs)
+    (λ c κs. search needs)
+    (λ c. search needs)
+    (λ c κs. search needs)
+    (λ c κs. search needs)
+    (λ c κs. search needs)
+    (λ c. search needs)
+    returns)

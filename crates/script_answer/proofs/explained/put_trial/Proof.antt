@@ -1,0 +1,23 @@
+-- `explained::put_trial`: the parts one after the other.
+use Rattle.script_answer.specs.Explained.{trialText}
+use Rattle.base_bytes.proofs.PutLaws.{wrote-then}
+use borrow.Author.Needs.{needs}
+use Rattle.script_answer.proofs.explained.put_trial.Statement.{statement}
+use Rattle.script_answer.proofs.explained.put_trial.Tie as tie
+
+returns : tie.Need-returns
+unfolding trialText
+returns c = wrote-then (wrote-then (wrote-then (c .before .before .before .before .before .before .before .before .before .before .before .before .before .before .before .put-bytes .ensures) (c .before .before .before .before .before .before .before .before .before .before .before .put-decimal .ensures)) (c .before .before .before .before .before .before .put-bytes2 .ensures)) (c .before .before .put-open .ensures)
+
+pub put-trial-spec : {M : Type 1} → statement M
+put-trial-spec =
+    tie.close
+    (tie.spec
+    (λ c. search needs)
+    (λ c κs. search needs)
+    (λ c κs. search needs)
+    (λ c. search needs)
+    (λ c κs. search needs)
+    (λ c κs. search needs)
+    (λ c. search needs)
+    returns)

@@ -1,0 +1,131 @@
+-- What a line of a script asks for: "words parted by spaces, .. `#` comments and empty lines passed over". The first word decides,
+-- then the number of words, then the words from left to right: the first that is wrong gives the reason (those of a record: records/Records).
+use Prim.Native.Nat.{ℕ, _+_}
+use mathlib.Core.List.{List}
+use lib.ListN.{length, getD}
+use Rattle.base_choice.specs.Choice.{pick, isBelow, isSame}
+use Rattle.base_bytes.specs.Bytes.{sameBytes}
+use Rattle.text_words.specs.Words.{part, wordsOf, wordAt, onWord}
+use Rattle.text_lines.specs.Lines.{longest}
+use Rattle.card_isdp.specs.Sizes.{mostPlaces}
+use Rattle.base_bytes.specs.declared.Part.{Part}
+use Rattle.record_door.specs.declared.Call.{Call}
+use Rattle.record_door.specs.declared.Call.the-variants as call
+use Rattle.script_record.specs.Ascii.{ascii}
+use Rattle.script_record.specs.Arguments.{most32, most8, onBytes, onValue, bytesAt, valueAt}
+use Rattle.script_record.specs.declared.arguments.Reason.{Reason}
+use Rattle.script_record.specs.declared.arguments.Reason.the-variants.{TooLong, UnknownWord, WordsMissing, TooManyWords}
+use Rattle.script_record.specs.declared.arguments.Value.{Value}
+use Rattle.script_record.specs.declared.arguments.Value.the-variants as value
+use Rattle.script_line.specs.declared.Verb.{Verb}
+use Rattle.script_line.specs.declared.Verb.the-variants as verb
+use Rattle.script_line.specs.declared.Sent.{Sent}
+use Rattle.script_line.specs.declared.Sent.the-variants as sent
+use Rattle.script_line.specs.declared.Order.{Order}
+use Rattle.script_line.specs.declared.Order.the-variants as order
+
+-- `#`
+abbrev pub hash : ℕ
+hash = 35
+
+unfoldable pub verbOf : List ℕ → Verb
+verbOf w =
+    pick (sameBytes w (ascii "fresh")) verb.Fresh
+    (pick (sameBytes w (ascii "command")) verb.Command
+    (pick (sameBytes w (ascii "keyed")) verb.Keyed
+    (pick (sameBytes w (ascii "stored")) verb.Stored
+    (pick (sameBytes w (ascii "finished")) verb.Finished
+    (pick (sameBytes w (ascii "tick")) verb.Tick
+    (pick (sameBytes w (ascii "lost")) verb.Lost
+    (pick (sameBytes w (ascii "policy")) verb.Policy
+    (pick (sameBytes w (ascii "card")) verb.Card verb.Unknown))))))))
+
+-- the order of a line of n words, where it should have from `least` to `most`
+unfoldable pub counted : ℕ → ℕ → ℕ → Order → Order
+counted least most n o = pick (isBelow n least) (order.Wrong WordsMissing) (pick (isBelow most n) (order.Wrong TooManyWords) o)
+
+-- CAPACITY QUOTA USED VOLATILE
+unfoldable pub freshWith : List ℕ → ℕ → Part → Part → Order
+freshWith s at eid aid =
+    onValue (valueAt most32 s at) order.Wrong λ capacity b.
+    onValue (valueAt most32 s b) order.Wrong λ quota c.
+    onValue (valueAt most32 s c) order.Wrong λ used d.
+    onValue (valueAt most32 s d) order.Wrong λ volatile e. order.Fresh eid aid capacity quota used volatile
+
+-- EID AID CAPACITY QUOTA USED VOLATILE
+unfoldable pub freshAt : List ℕ → ℕ → Order
+freshAt s at =
+    onBytes (bytesAt s at) order.Wrong λ eid b.
+    onBytes (bytesAt s b) order.Wrong λ aid c. freshWith s c eid aid
+
+-- the last word, a number up to `most`, which may be missing and then counts as `missing`
+unfoldable pub valueOr : ℕ → ℕ → List ℕ → ℕ → Value
+valueOr missing most s at = onWord (wordAt s at) (value.Is missing at) λ a e. valueAt most s at
+
+abbrev pub onSent {ℓ} : {X : Type ℓ} → Sent → (Reason → X) → (Part → ℕ → X) → X
+onSent (sent.Wrong why) g f = g why
+onSent (sent.Is bytes room) g f = f bytes room
+
+-- HEX, or HEX LENGTH: a command, and "a response buffer of 256 bytes, or of LENGTH", 0 to 1,024
+unfoldable pub sentAt : List ℕ → ℕ → Sent
+sentAt s at =
+    onBytes (bytesAt s at) sent.Wrong λ bytes b.
+    onValue (valueOr 256 1024 s b) sent.Wrong λ room e. sent.Is bytes room
+
+-- VERDICT HEX, or VERDICT HEX LENGTH
+unfoldable pub commandAt : List ℕ → ℕ → Order
+commandAt s at =
+    onValue (valueAt most8 s at) order.Wrong λ verdict b.
+    onSent (sentAt s b) order.Wrong λ bytes room. order.Call (call.Command verdict bytes) room
+
+-- SPEAKER HEX, or SPEAKER HEX LENGTH: the AID of the profile whose domain speaks, and the command that this domain was sent
+unfoldable pub policyAt : List ℕ → ℕ → Order
+policyAt s at =
+    onBytes (bytesAt s at) order.Wrong λ speaker b.
+    onSent (sentAt s b) order.Wrong λ bytes room. order.Call (call.Policy speaker bytes) room
+
+-- a call that has no response lends no buffer
+abbrev pub inner : Call → Order
+inner x = order.Call x 0
+
+-- AID
+unfoldable pub keyedAt : List ℕ → ℕ → Order
+keyedAt s at = onBytes (bytesAt s at) order.Wrong λ aid b. inner (call.Keyed aid)
+
+-- AID N
+unfoldable pub storedAt : List ℕ → ℕ → Order
+storedAt s at =
+    onBytes (bytesAt s at) order.Wrong λ aid b.
+    onValue (valueAt most32 s b) order.Wrong λ n e. inner (call.Stored aid n)
+
+-- AID POLICY, or AID POLICY MARK: where MARK is missing the profile counts as marked
+unfoldable pub finishedAt : List ℕ → ℕ → Order
+finishedAt s at =
+    onBytes (bytesAt s at) order.Wrong λ aid b.
+    onValue (valueAt most8 s b) order.Wrong λ policy c.
+    onValue (valueOr 1 most8 s c) order.Wrong λ mark e. inner (call.Finished aid policy mark)
+
+-- `card` EID CAPACITY VOLATILE FREE LAST FALLBACK PHASE KEPT, and a word for each place
+abbrev pub recordWords : ℕ
+recordWords = 9 + mostPlaces
+
+-- by the first word, which ends at `at`, of n words
+unfoldable pub orderBy : Verb → ℕ → List ℕ → ℕ → Order
+orderBy verb.Fresh n s at = counted 7 7 n (freshAt s at)
+orderBy verb.Command n s at = counted 3 4 n (commandAt s at)
+orderBy verb.Keyed n s at = counted 2 2 n (keyedAt s at)
+orderBy verb.Stored n s at = counted 3 3 n (storedAt s at)
+orderBy verb.Finished n s at = counted 3 4 n (finishedAt s at)
+orderBy verb.Tick n s at = counted 1 1 n (inner call.Tick)
+orderBy verb.Lost n s at = counted 1 1 n (inner call.Lost)
+orderBy verb.Policy n s at = counted 3 4 n (policyAt s at)
+orderBy verb.Card n s at = counted recordWords recordWords n (order.Record at)
+orderBy verb.Unknown n s at = order.Wrong UnknownWord
+
+-- "(a line has at most 4,096 bytes)"
+unfoldable pub orderOf : List ℕ → Order
+orderOf s =
+    pick (isBelow longest (length s)) (order.Wrong TooLong)
+    (onWord (wordAt s 0) order.Nothing λ a e.
+    pick (isSame (getD s a 0) hash) order.Nothing
+    (orderBy (verbOf (part s a e)) (length (wordsOf s)) s e))

@@ -1,0 +1,11 @@
+-- `colons::no_place` meets its contract, by what `Isdp::none` ensures.
+use mathlib.Core.Path.{refl}
+use borrow.Author.Needs.{needs}
+use Rattle.script_record.proofs.colons.no_place.Statement.{statement}
+use Rattle.script_record.proofs.colons.no_place.Tie as tie
+
+returns : tie.Need-returns
+returns c = rw (c .none .ensures) refl
+
+pub no-place-spec : {M : Type 1} → statement M
+no-place-spec = tie.close (tie.spec (λ c κs. search needs) returns)

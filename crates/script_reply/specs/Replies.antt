@@ -1,0 +1,153 @@
+-- A session with a script: what a line makes of the card, and the text that answers it. "Each call writes SW RESPONSE NOTIFICATION
+-- TICKS"; with `explain` it writes for a person instead; a line that cannot be read is named, and the run stops there.
+use Prim.Native.Nat.{ℕ, suc, _+_, _*_}
+use mathlib.Core.Path.{_≡_}
+use mathlib.Core.List.{List, [], _∷_, _++_}
+use mathlib.Core.Bool.{Bool, true, false, cond, _&&_}
+use Rattle.text_words.specs.Hex.{spelled}
+use Rattle.base_status.specs.StatusWords.{isDone}
+use Rattle.base_status.specs.declared.Status.the-variants.{Done}
+use Rattle.card_isdp.specs.Aids.{noAid}
+use Rattle.card_record.specs.Steps.{stepTo}
+use Rattle.card_record.specs.Answers.{Outcome, Work, handed, outcome}
+use Rattle.card_record.specs.Fresh.{zeroCard, freshOutcome}
+use Rattle.card_record.specs.declared.Card.{Card}
+use Rattle.card_record.specs.declared.Answer.{Answer}
+use Rattle.base_bytes.specs.declared.Part.{Part}
+use Rattle.base_bytes.specs.Bytes.{partOf}
+use Rattle.rule_run.specs.Calls.{Call, Call.Command, Call.Keyed, Call.Stored, Call.Finished, Call.Tick, Call.Lost, Call.Policy}
+use Rattle.rule_run.specs.Step.{step, onSound}
+use Rattle.record_door.specs.declared.Call as declared
+use Rattle.record_door.specs.declared.Call.the-variants as code
+use Rattle.script_line.specs.Orders.{orderOf}
+use Rattle.script_record.specs.Records.{onReading, recordAt}
+use Rattle.script_record.specs.declared.arguments.Reason.{Reason}
+use Rattle.script_line.specs.declared.Order.{Order}
+use Rattle.script_line.specs.declared.Order.the-variants as order
+use Rattle.script_answer.specs.Lines.{answerLine}
+use Rattle.script_answer.specs.Explained.{explainedText, mostExplained}
+use Rattle.script_reply.specs.Reasons.{reasonLine}
+
+-- the byte strings of a call have together at most so many bytes: two digits each, in a line of 4,096
+abbrev pub mostBytes : ℕ
+mostBytes = 2048
+
+-- the largest response buffer that a line may ask for
+abbrev pub mostRoom : ℕ
+mostRoom = 1024
+
+-- the bytes that a part of the line spells, once the line's order was read: its words are hex then
+abbrev pub bytesOf : List ℕ → Part → List ℕ
+bytesOf s p = spelled (partOf s p)
+
+-- the call that a line asks for: over the bytes that its words spell
+abbrev pub callIn : List ℕ → ℕ → declared.Call → Call
+callIn s room (code.Command verdict bytes) = Command verdict (bytesOf s bytes) room
+callIn s room (code.Keyed aid) = Keyed (bytesOf s aid)
+callIn s room (code.Stored aid n) = Stored (bytesOf s aid) n
+callIn s room (code.Finished aid policy mark) = Finished (bytesOf s aid) policy mark
+callIn s room code.Tick = Tick
+callIn s room code.Lost = Lost
+callIn s room (code.Policy speaker bytes) = Policy (bytesOf s speaker) (bytesOf s bytes) room
+
+-- these bytes as they stand in the buffer that is lent for them: of two byte strings one after the other
+abbrev pub bytesIn : List ℕ → declared.Call → List ℕ
+bytesIn s (code.Command verdict bytes) = bytesOf s bytes
+bytesIn s (code.Keyed aid) = bytesOf s aid
+bytesIn s (code.Stored aid n) = bytesOf s aid
+bytesIn s (code.Finished aid policy mark) = bytesOf s aid
+bytesIn s code.Tick = []
+bytesIn s code.Lost = []
+bytesIn s (code.Policy speaker bytes) = bytesOf s speaker ++ bytesOf s bytes
+
+-- `card` hands in any record: 6F 00 where it is not sound, else 90 00 and its ticks
+abbrev pub recordWork : Card → Work
+recordWork c = record { rows = []; success = Done; step = stepTo c c noAid; response = [] }
+
+abbrev pub recordOutcome : Card → Outcome
+recordOutcome c = outcome c (recordWork c)
+
+-- what a line comes to: the card and whether it is known to be sound, the text, whether the run goes on, and what is left at the front
+-- of the two buffers that are lent for a call's bytes and its response
+pub record Reply : Type 0 where
+  pub card : Card
+  pub sound : Bool
+  pub text : List ℕ
+  pub goes : Bool
+  pub bytes : List ℕ
+  pub response : List ℕ
+
+-- an answer on one line, or for a person
+abbrev pub answerText : Bool → Answer → List ℕ → List ℕ
+answerText explain a response = cond explain (explainedText a response) (answerLine a response)
+
+-- the reply of an outcome; `bytes` were spelled for it
+abbrev pub replyOf : Bool → Bool → List ℕ → Outcome → Reply
+replyOf explain found bytes o =
+    record {
+      card = o .card;
+      sound = found;
+      text = answerText explain (handed o) (o .response);
+      goes = true;
+      bytes = bytes;
+      response = o .response;
+    }
+
+-- of a call that hands in a card: sound exactly where it is accepted
+abbrev pub firstReply : Bool → Outcome → Reply
+firstReply explain o = replyOf explain (isDone (o .status)) [] o
+
+-- nothing is said, or a fault, and the card stays
+abbrev pub silentReply : Card → Bool → Reply
+silentReply c found = record { card = c; sound = found; text = []; goes = true; bytes = []; response = [] }
+
+abbrev pub faultReply : Card → Bool → ℕ → Reason → Reply
+faultReply c found n reason = record { card = c; sound = found; text = reasonLine n reason; goes = false; bytes = []; response = [] }
+
+-- what an order comes to where `answer` answers the calls on the card; `found` says whether the card is known to be sound
+abbrev pub replyBy : (Call → Outcome) → Card → Bool → Bool → ℕ → List ℕ → Order → Reply
+replyBy answer c found explain n s order.Nothing = silentReply c found
+replyBy answer c found explain n s (order.Fresh eid aid capacity quota used volatile) =
+    firstReply explain (freshOutcome (bytesOf s eid) (bytesOf s aid) capacity quota used volatile)
+replyBy answer c found explain n s (order.Call x room) = replyOf explain found (bytesIn s x) (answer (callIn s room x))
+replyBy answer c found explain n s (order.Record at) =
+    onReading (recordAt s at .reading) (faultReply c found n) (firstReply explain (recordOutcome (recordAt s at .card)))
+replyBy answer c found explain n s (order.Wrong reason) = faultReply c found n reason
+
+-- a call on a card known to be sound, or on one that has to be asked
+abbrev pub answerTo : Bool → Card → Call → Outcome
+answerTo found c call = cond found (onSound c call) (step c call)
+
+-- line n of a script, on a card
+unfoldable pub lineOf : Card → Bool → Bool → ℕ → List ℕ → Reply
+lineOf c found explain n s = replyBy (answerTo found c) c found explain n s (orderOf s)
+
+-- what a script is answered, line by line from line n on; a line that cannot be read ends it. Before line n what is known of the
+-- card's soundness may be forgotten: `keep n` says whether it is kept.
+unfoldable pub scriptOf : (ℕ → Bool) → Card → Bool → Bool → ℕ → List (List ℕ) → List ℕ
+scriptOf keep c found explain n [] = []
+scriptOf keep c found explain n (s ∷ rest) =
+    lineOf c (keep n && found) explain n s .text
+    ++ cond (lineOf c (keep n && found) explain n s .goes)
+    (scriptOf keep (lineOf c (keep n && found) explain n s .card) (lineOf c (keep n && found) explain n s .sound) explain (suc n) rest)
+    []
+
+-- the same with nothing kept: the manager is asked at every call, and asks each time whether the card is sound
+unfoldable pub askedLine : Card → Bool → ℕ → List ℕ → Reply
+askedLine c explain n s = replyBy (step c) c false explain n s (orderOf s)
+
+unfoldable pub askedScript : Card → Bool → ℕ → List (List ℕ) → List ℕ
+askedScript c explain n [] = []
+askedScript c explain n (s ∷ rest) =
+    askedLine c explain n s .text
+    ++ cond (askedLine c explain n s .goes) (askedScript (askedLine c explain n s .card) explain (suc n) rest) []
+
+-- every script is answered as if soundness were asked at every call, wherever it is kept and wherever it is forgotten
+abbrev pub AskedOnce : Type 0
+AskedOnce =
+    (keep : ℕ → Bool) (explain : Bool) (lines : List (List ℕ)) →
+    scriptOf keep zeroCard false explain 1 lines ≡ askedScript zeroCard explain 1 lines
+
+-- no text of a line is longer: two digits for each byte of the largest response buffer, and what stands beside them
+abbrev pub mostText : ℕ
+mostText = mostRoom * 2 + mostExplained

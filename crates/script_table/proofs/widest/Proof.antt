@@ -1,0 +1,63 @@
+-- `profiles::widest`: m is the longest of the places before i.
+use borrow.Author.Needs.{needs}
+use mathlib.Core.Path.{_≡_}
+use Prim.Native.Nat.{_-_, _≤_, max}
+use native.Mathlib.Omega.{arith}
+use mathlib.Core.Logic.{⊎-elim}
+use lib.ListN.{length, drop}
+use Rattle.card_isdp.specs.Sizes.{mostPlaces}
+use Rattle.script_table.specs.Profiles.{widestOf}
+use Rattle.script_table.proofs.Pieces.{widest-step, widest-end}
+use Rattle.script_table.proofs.widest.Statement.{statement}
+use Rattle.script_table.proofs.widest.Tie as tie
+
+abbrev Inv-loop : tie.InvT-loop
+Inv-loop places m₀ i₀ m i = (i ≤ mostPlaces) × ((max m (widestOf (drop i places)) ≡ widestOf places) × (m ≤ 16))
+
+abbrev μ-loop : tie.MeasureT-loop
+μ-loop places m₀ i₀ m i = mostPlaces - i
+
+loop-holds : tie.Need-loop-holds Inv-loop μ-loop
+loop-holds c = (omega arith, (omega arith, omega arith))
+
+mul-aid-size : tie.Need-mul-aid-size Inv-loop μ-loop
+mul-aid-size c = search needs
+
+array-copy-out-aid-size : tie.Need-array-copy-out-aid-size Inv-loop μ-loop
+array-copy-out-aid-size c = search needs
+
+aid-size-requires : tie.Need-aid-size-requires Inv-loop μ-loop
+aid-size-requires c κs = search needs
+
+add-i : tie.Need-add-i Inv-loop μ-loop
+add-i c = search needs
+
+loop-less : tie.Need-loop-less Inv-loop μ-loop
+loop-less c = search needs
+
+loop-again : tie.Need-loop-again Inv-loop μ-loop
+loop-again c = let s = c .before .before .before .before .before in
+    let n : length (s .args .t1) ≡ mostPlaces = search needs in
+    let e = widest-step (s .args .t1) (c .before .before .before .before .loop .i) (omega arith) in
+    ⊎-elim (λ w. let h = w .0 .taken in (omega arith, (omega arith, omega arith))) (λ w. let h = w .0 .left in (omega arith, (omega arith, omega arith))) (c .if1 .came)
+
+returns : tie.Need-returns Inv-loop μ-loop
+returns c = let s = c .before .before in
+    let n : length (s .args .t1) ≡ mostPlaces = search needs in
+    let e = widest-end (s .args .t1) (c .before .loop .i) (omega arith) in
+    (omega arith, omega arith)
+
+pub widest-spec : {M : Type 1} → statement M
+widest-spec =
+    tie.close
+    (tie.spec
+    Inv-loop
+    μ-loop
+    loop-holds
+    mul-aid-size
+    array-copy-out-aid-size
+    aid-size-requires
+    add-i
+    loop-less
+    loop-again
+    returns)

@@ -1,0 +1,60 @@
+-- `words::past` meets its contract. The loop keeps: the place and the count still ahead of it make the answer.
+use borrow.Author.Needs.{needs}
+use native.Mathlib.Omega.{arith}
+use mathlib.Core.Path.{_≡_}
+use Prim.Native.Nat.{_+_, _-_}
+use lib.ListN.{length, drop}
+use Rattle.text_words.specs.Words.{leading}
+use Rattle.text_words.proofs.WordLaws.{leading-hit, leading-miss, leading-end}
+use Rattle.text_words.proofs.words.past.Statement.{statement}
+use Rattle.text_words.proofs.words.past.Tie as tie
+
+abbrev Inv-loop : tie.InvT-loop
+Inv-loop s at b i₀ i = at + leading b (drop at s) ≡ i + leading b (drop i s)
+
+abbrev μ-loop : tie.MeasureT-loop
+μ-loop s at b i₀ i = length s - i
+
+loop-holds : tie.Need-loop-holds Inv-loop μ-loop
+loop-holds c = search needs
+
+shared-slice-read-if1 : tie.Need-shared-slice-read-if1 Inv-loop μ-loop
+shared-slice-read-if1 c = search needs
+
+returns : tie.Need-returns Inv-loop μ-loop
+returns c = let a = c .before .before .before .before .args in
+    let l = c .before .before .before .loop in
+    let e = leading-miss (a .b) (a .s .now) (l .i) (omega arith) (c .if1 .taken) in
+    omega arith
+
+add-i : tie.Need-add-i Inv-loop μ-loop
+add-i c = search needs
+
+loop-less : tie.Need-loop-less Inv-loop μ-loop
+loop-less c = search needs
+
+loop-again : tie.Need-loop-again Inv-loop μ-loop
+loop-again c = let a = c .before .before .before .before .args in
+    let l = c .before .before .before .loop in
+    let e = leading-hit (a .b) (a .s .now) (l .i) (omega arith) (c .if1 .left) in
+    omega arith
+
+returns-2 : tie.Need-returns-2 Inv-loop μ-loop
+returns-2 c = let a = c .before .before .args in
+    let l = c .before .loop in
+    let e = leading-end (a .b) (a .s .now) (l .i) (omega arith) in
+    omega arith
+
+pub past-spec : {M : Type 1} → statement M
+past-spec =
+    tie.close
+    (tie.spec
+    Inv-loop
+    μ-loop
+    loop-holds
+    shared-slice-read-if1
+    returns
+    add-i
+    loop-less
+    loop-again
+    returns-2)
