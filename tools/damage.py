@@ -2,7 +2,11 @@
 many AIDs. All of them hang on the seed alone."""
 import random
 
-from stories import *
+from events import (
+    EVENTS, FILE_MOST, FINISHED, FINISHED_WITH_MARK, FRESH, KEYED, POLICY, TICK, contents, event, event_file, finished_event, number,
+    read_script,
+)
+from stories import command, confirms, deletes, enables, keyed, loaded, lost, of, profile, shared, stored, ticks, updates
 
 WRAP = 1 << 32
 CROWDS = (63, 64, 65, 66, 200)

@@ -1,4 +1,9 @@
-"""Builds event files as docs/EVENTS.md lays them out, from values or from a script of `teapot` (docs/SCRIPT.md)."""
+"""Builds event files as docs/EVENTS.md lays them out, from values or from a script of `teapot` (docs/SCRIPT.md).
+
+Nothing here is proved. It is made for tests and examples, and it is all there is that writes event
+files: `event-file`, which users are offered, is this. What it reads of the script language is its own
+reading of docs/SCRIPT.md, the third beside that of `teapot` and that of the peer; it takes only what a
+file can hold. The proved reader of event files is `minutes`."""
 import re
 
 FRESH, EVENTS = 1, 2

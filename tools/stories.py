@@ -1,6 +1,6 @@
 """The events of a card's life, for event files: an AID is a number or its hex, and every function hands back a list of events."""
-from commands import *
-from events import *
+from commands import C9, EID, TOKEN, b6, create, delete, ef, four_f, next_rows, status, store, update
+from events import COMMAND, KEYED, LOST, STORED, TICK, event, event_file, finished_event, fresh, number, policy_event
 
 EID_BYTES = bytes.fromhex(EID)
 

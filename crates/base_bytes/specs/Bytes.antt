@@ -26,7 +26,7 @@ fourBytes n = n / 16777216 % 256 ∷ n / 65536 % 256 ∷ n / 256 % 256 ∷ n % 2
 abbrev pub between : ℕ → ℕ → Part
 between start stop = record { start = start; len = stop - start }
 
--- the bytes that a part names, as far as they are there
+-- the bytes that a part names, as far as they are there (decision B16)
 abbrev pub partOf : List ℕ → Part → List ℕ
 partOf s part = take (part .len) (drop (part .start) s)
 

@@ -11,6 +11,7 @@ pub record Row : Type 0 where
 abbrev pub row : Bool → Status → Row
 row condition word = record { when = condition; word = word }
 
+-- "in this order": the first row that holds gives the word (decisions 15, B3)
 unfoldable pub wordOf : Status → List Row → Status
 wordOf success [] = success
 wordOf success (r ∷ rs) = cond (r .when) (r .word) (wordOf success rs)

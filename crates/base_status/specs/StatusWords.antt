@@ -4,6 +4,7 @@ use mathlib.Core.Bool.{Bool, true, false}
 use Rattle.base_status.specs.declared.Status.{Status}
 use Rattle.base_status.specs.declared.Status.the-variants.{Unsound, BufferShort, LengthWrong, ClassWrong, InstructionWrong, ParametersWrong, DataWrong, StateWrong, NotHeld, PolicyForbids, VerdictWrong, NoRoom, More, Done}
 
+-- the cases stand in the order of the table (decision B2)
 abbrev pub numberOf : Status → ℕ
 numberOf Unsound = 0x6F00
 numberOf BufferShort = 0x6F02
@@ -21,7 +22,7 @@ numberOf More = 0x6310
 numberOf Done = 0x9000
 
 -- the words that are a success, and no others: 90 00, and of GET STATUS, where rows are left, 63 10 (request 2026-05, "63 10 is a success").
--- A call is accepted exactly where its word is one of them
+-- A call is accepted exactly where its word is one of them (decision B74)
 abbrev pub isDone : Status → Bool
 isDone Unsound = false
 isDone BufferShort = false

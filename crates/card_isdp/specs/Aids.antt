@@ -16,7 +16,7 @@ aidOk aid = leb leastAid (length aid) && leb (length aid) mostAid
 unfoldable pub padded : List ℕ → List ℕ
 padded aid = take mostAid aid ++ replicate (mostAid - length aid) 0
 
--- an AID as it is kept; of one that is too long, the first sixteen bytes
+-- an AID as it is kept; of one that is too long, the first sixteen bytes (decision B35)
 abbrev pub named : List ℕ → Aid
 named aid = record { bytes = padded aid; len = length (take mostAid aid) }
 

@@ -17,15 +17,15 @@ use Rattle.card_isdp.specs.declared.Isdp.{Isdp}
 abbrev pub vacant : Isdp
 vacant = profile noAid 0 0 0 0 0
 
--- a new profile: its policy is empty, and it has no mark
+-- a new profile: its policy is empty, and it has no mark (decisions 49, B55)
 abbrev pub made : List ℕ → ℕ → ℕ → ℕ → Isdp
 made aid life quota used = profile (named aid) life quota used 0 0
 
--- a place is held when it has an AID
+-- a place is held when it has an AID (decision B5)
 abbrev pub held : Isdp → Bool
 held p = not (eqb (p .aid .len) 0)
 
--- the place is held and bears this AID
+-- the place is held and bears this AID, told by its length too (decision 35)
 unfoldable pub isFor : List ℕ → Isdp → Bool
 isFor aid p = held p && sameBytes (aidOf p) aid
 
@@ -38,7 +38,7 @@ unfoldable pub zeros : List ℕ → Bool
 zeros [] = true
 zeros (x ∷ xs) = eqb x 0 && zeros xs
 
--- SELECTABLE, PERSONALIZED, DISABLED or ENABLED
+-- SELECTABLE, PERSONALIZED, DISABLED or ENABLED; 03 INSTALLED of 000 is none of the four (decision 54)
 abbrev pub lifeOk : ℕ → Bool
 lifeOk v = eqb v selectable || (eqb v personalized || (eqb v disabled || eqb v enabled))
 
@@ -49,7 +49,7 @@ blank p = eqb (p .quota) 0 && (eqb (p .used) 0 && (eqb (p .policy) 0 && eqb (p .
 abbrev pub emptyOk : Isdp → Bool
 emptyOk p = eqb (p .life) 0 && blank p
 
--- the sizes and codings of a held place, its life cycle apart, which steps on the life cycle do not touch
+-- the sizes and codings of a held place, its life cycle apart, which steps on the life cycle do not touch; no state asks more (decision 56)
 abbrev pub heldOk : ℕ → Isdp → Bool
 heldOk capacity p =
     leb leastAid (p .aid .len)
@@ -58,7 +58,7 @@ heldOk capacity p =
     && (leb (p .quota) capacity
     && (leb (p .used) (p .quota) && (policyOk (p .policy) && markOk (p .mark))))))
 
--- the sizes and codings of one place; "bytes past an AID's length are zero"
+-- the sizes and codings of one place; "bytes past an AID's length are zero" (decisions 54, B4)
 unfoldable pub placeOk : ℕ → Isdp → Bool
 placeOk capacity p =
     eqb (length (p .aid .bytes)) mostAid

@@ -27,7 +27,7 @@ anyBit bit = true
 abbrev pub policyRow : (ℕ → Bool) → (ℕ → Bool) → (ℕ → Bool) → ℕ → Bool
 policyRow b3 b2 b1 b = b3 (b / 4 % 2) && (b2 (b / 2 % 2) && b1 (b % 2))
 
--- Table 70, row for row; "Other combinations are forbidden", so 05, 06 and 07 are not legal
+-- Table 70, row for row; "Other combinations are forbidden", so 05, 06 and 07 are not legal (decision 1)
 abbrev pub inTable70 : ℕ → Bool
 inTable70 b =
     policyRow bit0 bit0 bit0 b
@@ -35,6 +35,6 @@ inTable70 b =
     || (policyRow bit0 bit1 anyBit b
     || policyRow bit1 bit0 bit0 b))
 
--- b8 to b4 are for future use in Table 70; document 01: "wrong data, as is any other bit set"
+-- b8 to b4 are for future use in Table 70; document 01: "wrong data, as is any other bit set" (decisions 1, 2)
 abbrev pub policyOk : ℕ → Bool
 policyOk b = eqb (b / 8) 0 && inTable70 b

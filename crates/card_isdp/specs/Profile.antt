@@ -4,6 +4,7 @@ use Prim.Native.Nat.{ℕ}
 use Rattle.card_isdp.specs.declared.Aid.{Aid}
 use Rattle.card_isdp.specs.declared.Isdp.{Isdp}
 
+-- the numbers first, as the code lays the record out (decision B35)
 abbrev pub profile : Aid → ℕ → ℕ → ℕ → ℕ → ℕ → Isdp
 profile aid life quota used policy mark =
     record { quota = quota; used = used; life = life; policy = policy; mark = mark; aid = aid }

@@ -5,7 +5,7 @@ use lib.Dec.{leb, eqb}
 use Rattle.card_isdp.specs.LifeCycle.{isFinished}
 use Rattle.card_isdp.specs.declared.Isdp.{Isdp}
 
--- the mark is 0 or 1
+-- the mark is 0 or 1 (decision B55)
 abbrev pub markOk : ℕ → Bool
 markOk m = leb m 1
 
@@ -13,6 +13,7 @@ markOk m = leb m 1
 abbrev pub marked : Isdp → Bool
 marked p = eqb (p .mark) 1
 
--- "The Profile to be assigned the Fall-back Attribute must have Provisioning capability"; and it is DISABLED or ENABLED
+-- "The Profile to be assigned the Fall-back Attribute must have Provisioning capability";
+-- and it is DISABLED or ENABLED (decisions B56, B58)
 abbrev pub mayBeFallBack : Isdp → Bool
 mayBeFallBack p = isFinished (p .life) && marked p

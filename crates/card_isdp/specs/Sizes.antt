@@ -3,7 +3,7 @@
 -- 'Reading a command' does, as the bounds of an element.
 use Prim.Native.Nat.{ℕ}
 
--- "1 to 8 ISD-Ps"; request 2026-05: "Raise the limit to 32"
+-- "1 to 8 ISD-Ps"; request 2026-05: "Raise the limit to 32" (decision B70)
 abbrev pub mostPlaces : ℕ
 mostPlaces = 32
 

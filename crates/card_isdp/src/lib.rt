@@ -19,7 +19,7 @@ pub struct Aid {
     pub len: u8,
 }
 
-// The numbers stand first, so that a profile takes 28 bytes. The mark is that of provisioning capability.
+// The numbers stand first, so that a profile takes 28 bytes (decision B35). The mark is that of provisioning capability.
 pub struct Isdp {
     pub quota: u32,
     pub used: u32,
@@ -298,7 +298,7 @@ impl Isdp {
         ((self.life == Isdp::DISABLED) | (self.life == Isdp::ENABLED)) & (self.mark == 1)
     }
 
-    // Do n bytes more keep within the quota? Compared without a sum, which could pass 32 bits.
+    // Do n bytes more keep within the quota? Compared without a sum, which could pass 32 bits (decision 40).
     pub fn has_room(self, n: u32) -> bool
         ensures { λ r. ⌜ r ≡ leb (self .used + n) (self .quota) ⌝ }
     {

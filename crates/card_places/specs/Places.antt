@@ -12,16 +12,16 @@ use Rattle.card_isdp.specs.declared.Isdp.{Isdp}
 use Rattle.card_places.specs.declared.Found.{Found}
 use Rattle.card_places.specs.declared.Found.the-variants.{At, Nothing}
 
--- the place at a number; past the last one there is a place that is not held
+-- the place at a number; past the last one there is a place that is not held (decisions 60, B7)
 abbrev pub at : List Isdp → ℕ → Isdp
 at l i = getD l i vacant
 
--- the number of the first place that passes the test; the number of places if none does
+-- the number of the first place that passes the test; the number of places if none does (decision B6)
 unfoldable pub seek : (Isdp → Bool) → List Isdp → ℕ
 seek t [] = 0
 seek t (p ∷ ps) = cond (t p) 0 (suc (seek t ps))
 
--- the same, as the code answers it
+-- the same, as the code answers it (decision B6)
 abbrev pub foundOf : ℕ → Found
 foundOf i = cond (ltb i mostPlaces) (At i) Nothing
 

@@ -92,7 +92,7 @@ pub fn free_place(places: [Isdp; PLACES]) -> Found
     }
 }
 
-// Do the quotas leave just so much of the capacity? Taken off one by one, since their sum could pass 32 bits.
+// Do the quotas leave just so much of the capacity? Taken off one by one, since their sum could pass 32 bits (decision 60).
 pub fn leave(places: [Isdp; PLACES], capacity: u32, free: u32) -> bool
     ensures { λ r. ⌜ r ≡ eqb (free + quotas places) capacity ⌝ }
 {

@@ -24,7 +24,7 @@ pub record Outcome : Type 0 where
   pub notification : Notification
   pub ticks : ℕ
 
--- the same as the code hands it out: the response stands in the lent buffer, and its length is told
+-- the same as the code hands it out: the response stands in the lent buffer, and its length is told (decision B9)
 abbrev pub handed : Outcome → Answer
 handed o =
     record {
@@ -49,18 +49,18 @@ abbrev pub answerAt : ℕ → Status → Step → ℕ → Answer
 answerAt ticks word s n =
     record { status = word; card = s .card; length = n; notification = s .notification; ticks = ticks }
 
--- an answer without a notification: a refusal has no response either, a success that issues no number may have one
+-- an answer without a notification: a refusal has no response either, a success that issues no number may have one (decision B79)
 abbrev pub silentAt : ℕ → Status → Card → ℕ → Answer
 silentAt ticks word c n = record { status = word; card = c; length = n; notification = silent; ticks = ticks }
 
--- the ticks are counted by the tick rule, and 6F 00 carries 0
+-- the ticks are counted by the tick rule, and 6F 00 carries 0 (decision 47)
 unfoldable pub refused : Card → Status → Outcome
 refused c word = refusedAt (cond (sound c) (ticksToCome c) 0) c word
 
 unfoldable pub accepted : Status → Step → List ℕ → Outcome
 accepted word s response = acceptedAt (ticksToCome (s .card)) word s response
 
--- the answer of a table's word and a step: a success takes the step, any other word refuses
+-- the answer of a table's word and a step: a success takes the step, any other word refuses (decision B36)
 abbrev pub settle : Card → Status → Step → List ℕ → Outcome
 settle c word s response = cond (isDone word) (accepted word s response) (refused c word)
 
@@ -79,7 +79,7 @@ pub record Work : Type 0 where
 abbrev pub outcome : Card → Work → Outcome
 outcome c w = settle c (wordOf (w .success) (soundRow c ∷ w .rows)) (w .step) (w .response)
 
--- the same for a card known to be sound: the row 6F 00 is not asked, and the ticks are figured by the phase
+-- the same for a card known to be sound: the row 6F 00 is not asked, and the ticks are figured by the phase (decision B10)
 abbrev pub settleKnown : Card → Status → Step → List ℕ → Outcome
 settleKnown c word s response =
     cond (isDone word) (acceptedAt (ticksByPhase (s .card)) word s response) (refusedAt (ticksByPhase c) c word)

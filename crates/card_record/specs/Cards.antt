@@ -37,7 +37,7 @@ freePlace c = seek isFree (c .places)
 abbrev pub enabledAid : Card → Aid
 enabledAid c = at (c .places) (enabledPlace c) .aid
 
--- request 2026-04: "Keep free as a stored number in the card record"; what it equals is asked by soundness
+-- request 2026-04: "Keep free as a stored number in the card record"; what it equals is asked by soundness (decision B66)
 abbrev pub freeIn : Card → ℕ
 freeIn c = c .free
 
@@ -45,16 +45,16 @@ freeIn c = c .free
 abbrev pub onFallback : Card → Bool
 onFallback c = isEnabled (at (c .places) (c .fallback))
 
--- "Delete: target DISABLED and not fall-back"; request 2026-03: "now says yes for SELECTABLE and PERSONALIZED too"
+-- "Delete: target DISABLED and not fall-back"; request 2026-03: "now says yes for SELECTABLE and PERSONALIZED too" (decision B60)
 abbrev pub mayBeDeleted : Card → ℕ → Bool
 mayBeDeleted c i =
     (isCreated (at (c .places) i .life) || eqb (at (c .places) i .life) disabled) && not (eqb i (c .fallback))
 
--- "master delete stays with DISABLED only"
+-- "master delete stays with DISABLED only" (decision B61)
 abbrev pub mayBeMasterDeleted : Card → ℕ → Bool
 mayBeMasterDeleted c i = eqb (at (c .places) i .life) disabled && not (eqb i (c .fallback))
 
--- the whole record, spelled once: every other card is made of this
+-- the whole record, spelled once: every other card is made of this (decision B35)
 abbrev pub cardWith : List ℕ → ℕ → ℕ → ℕ → ℕ → ℕ → Phase → ℕ → List Isdp → Card
 cardWith eid capacity volatile free last fallback phase kept places =
     record {
@@ -69,7 +69,7 @@ cardWith eid capacity volatile free last fallback phase kept places =
       eid = eid;
     }
 
--- request 2026-05: "The card keeps the place of the first row not yet given": it stands for none, and is no place's number
+-- request 2026-05: "The card keeps the place of the first row not yet given": it stands for none, and is no place's number (decision B71)
 abbrev pub noPlace : ℕ
 noPlace = 255
 
@@ -88,11 +88,13 @@ over c l = recast c (c .phase) (c .kept) l
 abbrev pub inPhase : Card → Phase → Card
 inPhase c p = recast c p (c .kept) (c .places)
 
--- "any accepted command other than P2 03, any inner call that is accepted, any tick, any lost report .. forget it": what changes nothing forgets
+-- "any accepted command other than P2 03, any inner call that is accepted, any tick, any lost report .. forget it":
+-- what changes nothing forgets (decision B75)
 abbrev pub forgotten : Card → Card
 forgotten c = keeping c noPlace
 
--- the same card in another state: its free memory, last number, fall-back, phase and places. Every write is made of this, and so forgets too
+-- the same card in another state: its free memory, last number, fall-back, phase and places. Every write is made of this,
+-- and so forgets too (decision B75)
 abbrev pub inState : Card → ℕ → ℕ → ℕ → Phase → List Isdp → Card
 inState c free last fallback phase places =
     cardWith (c .eid) (c .capacity) (c .volatile) free last fallback phase noPlace places
@@ -111,15 +113,15 @@ withPhase c p = withChange c (c .last) p (c .places)
 abbrev pub withRoom : Card → ℕ → List Isdp → Card
 withRoom c free l = inState c free (c .last) (c .fallback) (c .phase) l
 
--- the writes: a free place filled with a new profile, whose quota is taken from free
+-- the writes: a free place filled with a new profile, whose quota is taken from free (decisions B66, B67)
 abbrev pub filled : Card → ℕ → Isdp → Card
 filled c i p = withRoom c (freeIn c - p .quota) (set (c .places) i p)
 
--- free with a quota given back; on no sound card would it pass the capacity
+-- free with a quota given back; on no sound card would it pass the capacity (decision B67)
 abbrev pub givenBack : ℕ → ℕ → ℕ → ℕ
 givenBack capacity free quota = min (free + quota) capacity
 
--- a place cleared and its quota given back: the deletion of delete, of master delete and of a confirmation
+-- a place cleared and its quota given back: the deletion of delete, of master delete and of a confirmation (decisions 49, B37, B66)
 abbrev pub cleared : Card → ℕ → Card
 cleared c i = withRoom c (givenBack (c .capacity) (freeIn c) (at (c .places) i .quota)) (set (c .places) i vacant)
 

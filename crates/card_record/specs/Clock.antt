@@ -10,11 +10,11 @@ use Rattle.card_record.specs.declared.Card.{Card}
 use Rattle.card_record.specs.declared.Phase.{Phase}
 use Rattle.card_record.specs.declared.Phase.the-variants.{Quiet, Trial, Back, Fallen}
 
--- "Notification numbers run 1, 2, .. 65535, 0, 1"
+-- "Notification numbers run 1, 2, .. 65535, 0, 1": an old number may be outstanding again (decision 66)
 abbrev pub nextOf : ℕ → ℕ
 nextOf n = cond (eqb n lastNumber) 0 (n + 1)
 
--- the place at i is enabled, the next number is issued, and the phase opens
+-- the place at i is enabled, the next number is issued, and the phase opens (decision 9)
 abbrev pub moved : Card → ℕ → Phase → Card
 moved c i p = withChange c (nextOf (c .last)) p (enableAt (c .places) i)
 
@@ -27,7 +27,7 @@ abbrev pub fallen : Card → Card
 fallen c = moved c (c .fallback) (Fallen wait (nextOf (c .last)))
 
 -- "Tick: Quiet, nothing. Else ticks left falls by one; at zero: Trial enables the previous profile, Back; Back enables the
--- fall-back, Fallen, or closes if the fall-back is already enabled; Fallen closes."
+-- fall-back, Fallen, or closes if the fall-back is already enabled; Fallen closes." (decisions 9, 10, 52)
 abbrev pub tickIn : Phase → Card → Card
 tickIn Quiet c = forgotten c
 tickIn (Trial previous left number) c =
@@ -56,18 +56,18 @@ shorter (Fallen left number) = Fallen (left - 1) number
 unfoldable pub tickOf : Card → Card
 tickOf c = tickIn (c .phase) c
 
--- "Lost: if Quiet and the enabled profile is not the fall-back, enable it, Fallen. Else nothing."
+-- "Lost: if Quiet and the enabled profile is not the fall-back, enable it, Fallen. Else nothing." (decision 52)
 unfoldable pub lostOf : Card → Card
 lostOf c = cond (isQuiet (c .phase)) (cond (onFallback c) (forgotten c) (fallen c)) (forgotten c)
 
--- n is the outstanding number
+-- n is the outstanding number; in Quiet there is none (decision 45)
 abbrev pub outstanding : Phase → ℕ → Bool
 outstanding Quiet n = false
 outstanding (Trial previous left number) n = eqb n number
 outstanding (Back left number) n = eqb n number
 outstanding (Fallen left number) n = eqb n number
 
--- "the previous profile is then deleted if its policy says delete once disabled and it is not the fall-back"
+-- "the previous profile is then deleted if its policy says delete once disabled and it is not the fall-back" (decisions 44, B63)
 abbrev pub dropped : Card → ℕ → Bool
 dropped c i = onceDisabled (at (c .places) i .policy) && not (eqb i (c .fallback))
 
@@ -75,7 +75,7 @@ abbrev pub trialClosed : Card → ℕ → Card
 trialClosed c previous =
     cond (dropped c previous) (cleared (withPhase c Quiet) previous) (withPhase c Quiet)
 
--- "Confirmation: closes the change. In Trial the previous profile is then deleted .."
+-- "Confirmation: closes the change. In Trial the previous profile is then deleted .." (decisions 10, 43)
 abbrev pub confirmIn : Phase → Card → Card
 confirmIn Quiet c = withPhase c Quiet
 confirmIn (Trial previous left number) c = trialClosed c previous

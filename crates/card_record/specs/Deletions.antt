@@ -25,7 +25,7 @@ pub record DeletionTests : Type 0 where
   pub if-disabled : Says disabled true true
   pub if-enabled : Says enabled false false
 
--- the place is zero, and of a sound card free has grown by the quota
+-- the place is zero, and of a sound card free has grown by the quota (decision 49)
 pub record DeletionLeaves : Type 0 where
   pub place-zero : (c : Card) (i : ℕ) → at (cleared c i .places) i ≡ vacant
   pub free-grows : (c : Card) (i : ℕ) → sound c ≡ true → freeIn (cleared c i) ≡ freeIn c + at (c .places) i .quota

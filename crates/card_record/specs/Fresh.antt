@@ -18,19 +18,20 @@ use Rattle.card_record.specs.Answers.{Outcome, settle}
 use Rattle.card_record.specs.declared.Card.{Card}
 use Rattle.card_record.specs.declared.Phase.the-variants.{Quiet}
 
--- the record of zeros; it keeps no place
+-- the record of zeros; it keeps no place (decisions 59, B8, B71)
 abbrev pub zeroCard : Card
 zeroCard = cardWith (replicate eidSize 0) 0 0 0 0 0 Quiet noPlace (replicate mostPlaces vacant)
 
--- the one profile of a fresh card
+-- the one profile of a fresh card (decision B55)
 abbrev pub freshProfile : List ℕ → ℕ → ℕ → Isdp
 freshProfile aid quota used = withMark (made aid enabled quota used) 1
 
--- free is what its quota leaves of the capacity
+-- free is what its quota leaves of the capacity (decision B66)
 abbrev pub freshCard : List ℕ → List ℕ → ℕ → ℕ → ℕ → ℕ → Card
 freshCard eid aid capacity quota used volatile =
     cardWith eid capacity volatile (capacity - quota) 0 0 Quiet noPlace (freshProfile aid quota used ∷ replicate (mostPlaces - 1) vacant)
 
+-- "Inputs that break the sizes, or used over quota": lengths are asked, and no other value of EID or AID (decisions 12, 48, B14)
 abbrev pub freshOk : List ℕ → List ℕ → ℕ → ℕ → ℕ → Bool
 freshOk eid aid capacity quota used =
     eqb (length eid) eidSize

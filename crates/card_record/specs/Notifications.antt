@@ -14,7 +14,7 @@ use Rattle.card_record.specs.declared.Notification.{Notification}
 use Rattle.card_record.specs.declared.Phase.{Phase}
 use Rattle.card_record.specs.declared.Phase.the-variants.{Quiet, Trial, Back, Fallen}
 
--- "changed, rolled back, fallen back; codes in 000"
+-- "changed, rolled back, fallen back; codes in 000" (decisions 46, B12)
 abbrev pub codeOf : Kind → ℕ
 codeOf Silent = 0x00
 codeOf Changed = 0x02
@@ -27,17 +27,17 @@ kindOf (Trial previous left number) = Changed
 kindOf (Back left number) = RolledBack
 kindOf (Fallen left number) = FallenBack
 
--- no notification
+-- no notification: one value, so that two answers without one are equal (decision B12)
 abbrev pub silent : Notification
 silent = record { kind = Silent; number = 0; eid = replicate eidSize 0; aid = noAid }
 
--- the notification of the number last issued, of a kind
+-- the notification of the number last issued, of a kind (decision 46)
 abbrev pub issuedAs : Kind → Card → Notification
 issuedAs kind c = record { kind = kind; number = c .last; eid = c .eid; aid = enabledAid c }
 
 abbrev pub issued : Card → Notification
 issued c = issuedAs (kindOf (c .phase)) c
 
--- a card after one whose last number was `last`: one is handed out exactly where a number was issued
+-- a card after one whose last number was `last`: one is handed out exactly where a number was issued (decision B13)
 unfoldable pub noticeSince : ℕ → Card → Notification
 noticeSince last d = cond (eqb (d .last) last) silent (issued d)

@@ -19,7 +19,7 @@ repolicy (b ∷ bs) (p ∷ ps) = withPolicy p b ∷ repolicy bs ps
 abbrev pub withPolicies : List ℕ → Card → Card
 withPolicies bs c = over c (repolicy bs (c .places))
 
--- a tick and a lost network do the same whatever the policies, and leave every place held that was
+-- a tick and a lost network do the same whatever the policies, and leave every place held that was (decisions 10, 43)
 pub record NoPolicyAsked : Type 0 where
   pub tick-blind : (policies : List ℕ) (c : Card) → tickOf (withPolicies policies c) ≡ withPolicies policies (tickOf c)
   pub lost-blind : (policies : List ℕ) (c : Card) → lostOf (withPolicies policies c) ≡ withPolicies policies (lostOf c)

@@ -12,7 +12,7 @@ use Rattle.card_record.specs.declared.Step.{Step}
 use Rattle.card_record.specs.declared.Phase.{Phase}
 use Rattle.card_record.specs.declared.Phase.the-variants.{Quiet, Trial, Back, Fallen}
 
--- every step is made here: a card after one whose last number was `last`, its notification, and the AID that was deleted
+-- every step is made here: a card after one whose last number was `last`, its notification, and the AID that was deleted (decision B37)
 abbrev pub stepSince : ℕ → Card → Aid → Step
 stepSince last d deleted = record { card = d; notification = noticeSince last d; deleted = deleted }
 

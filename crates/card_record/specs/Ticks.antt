@@ -16,16 +16,16 @@ unfoldable pub stepsIn : ℕ → Card → ℕ
 stepsIn zero c = 0
 stepsIn (suc k) c = cond (isQuiet (c .phase)) 0 (suc (stepsIn k (tickOf c)))
 
--- 300 is more than any record can ask for, sound or not: 255 ticks left, then two waits
+-- 300 is more than any record can ask for, sound or not: 255 ticks left, then two waits (decision B11)
 unfoldable pub ticksToCome : Card → ℕ
 ticksToCome c = stepsIn 300 c
 
--- the same without a bound: the steps counted one by one
+-- the same without a bound: the steps counted one by one (decision B11)
 pub data StepsTo : Card → ℕ → Type 0 where
   quiet : {c : Card} → isQuiet (c .phase) ≡ true → StepsTo c 0
   ticked : {c : Card} {n : ℕ} → isQuiet (c .phase) ≡ false → StepsTo (tickOf c) n → StepsTo c (suc n)
 
--- the same figure in closed form, for a sound card
+-- the same figure in closed form, for a sound card (decision 47)
 abbrev pub ticksIn : Phase → Card → ℕ
 ticksIn Quiet c = 0
 ticksIn (Trial previous left number) c = left + wait + cond (eqb previous (c .fallback)) 0 wait

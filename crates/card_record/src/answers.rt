@@ -13,7 +13,7 @@ ghost use Rattle.card_record.specs.Steps.{tickStep};
 ghost use Rattle.base_status.specs.declared.Status.the-variants.{Unsound, Done};
 
 impl Card {
-    // An answer without a notification, of a card known to be sound, and no step between.
+    // An answer without a notification, of a card known to be sound, and no step between (decision B79).
     pub fn silently(self, word: Status, length: usize) -> Answer
         ensures { λ r. ⌜ r ≡ silentAt (ticksByPhase self) word self length ⌝ }
     {
@@ -35,7 +35,7 @@ impl Card {
         self.silently(status, 0)
     }
 
-    // The answer of a tick. Most leave their phase open and issue no number: these have a way of their own.
+    // The answer of a tick. Most leave their phase open and issue no number: these have a way of their own (decision B79).
     pub fn ticked(self) -> Answer
         ensures { λ r. ⌜ r ≡ answerAt (ticksByPhase (tickStep self .card)) Done (tickStep self) 0 ⌝ }
     {
@@ -43,7 +43,7 @@ impl Card {
         if phase.waits() {
             return self.waited().silently(Status::Done, 0);
         }
-        // copied where the phase runs out, and not where the tick comes in
+        // copied where the phase runs out, and not where the tick comes in (decision B42)
         let late = self;
         late.tick().answer(Status::Done, 0)
     }

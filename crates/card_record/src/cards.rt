@@ -10,7 +10,7 @@ ghost use lib.ListN.{set};
 ghost use Rattle.card_record.specs.Cards.{isQuiet, placeOf, enabledPlace, freePlace, mayBeDeleted, mayBeMasterDeleted, cardWith, keeping, forgotten, withPhase, withPlaces, givenBack, filled, cleared, rewritten, withFallback};
 ghost use Rattle.card_places.specs.Places.{at, foundOf};
 
-// Free, or a capacity, less a quota; 0 where that is more, as on no sound card.
+// Free, or a capacity, less a quota; 0 where that is more, as on no sound card (decision B67).
 pub(crate) fn less(free: u32, quota: u32) -> u32
     ensures { λ r. ⌜ r ≡ free - quota ⌝ }
 {
@@ -20,7 +20,7 @@ pub(crate) fn less(free: u32, quota: u32) -> u32
     free - quota
 }
 
-// Free with a quota given back; the capacity where it would be more, as on no sound card.
+// Free with a quota given back; the capacity where it would be more, as on no sound card (decision B67).
 fn given_back(capacity: u32, free: u32, quota: u32) -> u32
     ensures { λ r. ⌜ r ≡ givenBack capacity free quota ⌝ }
 {

@@ -21,7 +21,7 @@ pub enum Phase {
     Fallen { left: u8, number: u16 },
 }
 
-// The record goes by value: its fields stand in an order that leaves no gaps.
+// The record goes by value: its fields stand in an order that leaves no gaps (decision B35).
 pub struct Card {
     pub capacity: u32,
     pub volatile: u32,

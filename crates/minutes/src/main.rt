@@ -1,5 +1,5 @@
 // minutes: reports how many minutes each profile was enabled, from event files (docs/EVENTS.md). Its words are taken from left to right:
-// `explain`, what follows is written for a person; `-`, standard input is read as a file; any other names an event file.
+// `explain`, what follows is written for a person; `-`, standard input is read as a file; any other names an event file (decision B52).
 // What a file means and what is written of it is proved below, in `account`; here only bytes are moved.
 use base_bytes::same;
 use libc::STDIN_FILENO;
@@ -10,7 +10,7 @@ use text_input::arrival_of;
 ghost use Prim.Native.Nat.{_≤_};
 ghost use lib.ListN.{length};
 
-// A file of so many bytes is refused whatever they are, so no more are read.
+// A file of so many bytes is refused whatever they are, so no more are read (decision B44).
 const FILE: usize = 65537;
 
 // The longest text has room.

@@ -10,7 +10,7 @@ use Rattle.month_contents.specs.Below.{someBelow, firstBelow, sumBelow}
 use Rattle.month_contents.specs.declared.Section.{Section}
 use Rattle.month_contents.specs.declared.Section.the-variants.{Body, Missing}
 
--- "A file has at most 65,536 bytes."
+-- "A file has at most 65,536 bytes." (decision B44)
 abbrev pub mostFile : ℕ
 mostFile = 65536
 
@@ -40,6 +40,7 @@ startAt s i = fourAt s (entryAt i + 4)
 abbrev pub lengthAt : List ℕ → ℕ → ℕ
 lengthAt s i = fourAt s (entryAt i + 8)
 
+-- "A start plus a length .. does not wrap" (decision B43)
 abbrev pub stopAt : List ℕ → ℕ → ℕ
 stopAt s i = startAt s i + lengthAt s i
 
@@ -70,10 +71,12 @@ bodyWrong s i =
     || (ltb (length s) (stopAt s i)
     || someBelow i (overlap s i))
 
--- "there is a gap, or bytes are left over": bodies that lie inside and do not overlap fill the file exactly where their lengths do
+-- "there is a gap, or bytes are left over": bodies that lie inside and do not overlap fill the file exactly where
+-- their lengths do (decision B43)
 abbrev pub notFilled : List ℕ → Bool
 notFilled s = not (eqb (contentsEnd s + sumBelow (sections s) (lengthAt s)) (length s))
 
+-- sections may lie in any order; a file that is too long or too short is wrong here too (decisions B43, B44)
 unfoldable pub contentsWrong : List ℕ → Bool
 contentsWrong s =
     ltb mostFile (length s)

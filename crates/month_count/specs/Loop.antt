@@ -12,6 +12,7 @@ use Rattle.month_events.specs.Events.{checkedOf}
 use Rattle.month_events.specs.declared.Checked.the-variants.{Right}
 use Rattle.month_tally.specs.Lines.{restLine, noMinutes}
 
+-- fresh makes the card sound and every call keeps it so: no event asks (decision B49)
 pub record Countable (c : Card) (b : List ℕ) (minutes : List ℕ) : Type 0 where
   pub sound-card : sound c ≡ true
   pub right : checkedOf b ≡ Right

@@ -32,7 +32,8 @@ atFirst c =
       minutes = noMinutes;
     }
 
--- one event on a card, whose answer is `o`: a tick is a minute for the profile enabled before, and then the one enabled after has its line
+-- one event on a card, whose answer is `o`: a tick is a minute for the profile enabled before,
+-- and then the one enabled after has its line (decisions B45, B46, B47)
 abbrev pub tallied : Tally → Call → Outcome → Tally
 tallied t call o =
     record {
@@ -48,7 +49,7 @@ timed c call k = cond (isTick call) (minuteOn (lineOf (k .tally .names) (enabled
 abbrev pub counted : Card → Call → Counted → Counted
 counted c call k = record { tally = tallied (k .tally) call (step c call); minutes = timed c call k }
 
--- events in order, each on the card then reached
+-- events in order, each on the card then reached, by the rules as they stand (decision B64)
 unfoldable pub counting : Card → List Call → Counted → Counted
 counting c [] k = k
 counting c (call ∷ calls) k = counting (step c call .card) calls (counted c call k)

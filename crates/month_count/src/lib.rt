@@ -1,5 +1,5 @@
 // A month counted: the events of a file run through the manager, a tick for the profile that was enabled before it (docs/EVENTS.md).
-// Soundness is made by fresh and kept by every call, so it is not asked at any event.
+// Soundness is made by fresh and kept by every call, so it is not asked at any event (decision B49).
 use base_bytes::part_of;
 use base_status::Status;
 use card_record::Card;
@@ -67,7 +67,8 @@ fn refusals(status: Status) -> u32
     1
 }
 
-// The events of a body on a card, counted. The enabled profile changes only where an answer has a notification, which names it.
+// The events of a body on a card, counted. The enabled profile changes only where an answer has a notification, which names it. Every
+// event goes through the one door, a tick in Quiet too (decisions B50, B53).
 fn count(card: Card, body: &[u8], minutes: &mut [u32; 65]) -> Tally
     requires { ⌜ Countable card (now body) (now minutes) ⌝ }
     ensures { λ r. ⌜ (r ≡ counting card (callsOf (eventsOf (now (body .entry)))) (atFirst card) .tally) × (now (minutes .exit) ≡ counting card (callsOf (eventsOf (now (body .entry)))) (atFirst card) .minutes) ⌝ }

@@ -72,7 +72,7 @@ kindUnknown b = someEvent ofUnknownKind (eventsOf b)
 unfoldable pub wrongLength : List ℕ → Bool
 wrongLength b = someEvent ofWrongLength (eventsOf b)
 
--- the three tests of a body, in their order
+-- the three tests of a body, in their order (decision B44)
 unfoldable pub checkedOf : List ℕ → Checked
 checkedOf b = pick (cutShort b) CutShort (pick (kindUnknown b) UnknownKind (pick (wrongLength b) WrongLength Right))
 

@@ -11,6 +11,7 @@ use Rattle.rule_run.specs.Table.{leastBuffer}
 use Rattle.month_events.specs.declared.Kind.{Kind}
 use Rattle.month_events.specs.declared.Kind.the-variants.{Command, Keyed, Stored, Finished, Tick, Lost, FinishedWithMark, Policy, Unknown}
 
+-- 7 has the mark that an old finished event, 4, has not; 8 is a policy update (decisions B59, B85)
 unfoldable pub kindOf : ℕ → Kind
 kindOf n =
     pick (isSame n 1) Command
@@ -33,11 +34,12 @@ isUnknown FinishedWithMark = false
 isUnknown Policy = false
 isUnknown Unknown = true
 
--- "the speaker's length (1), the speaker": the bytes that both have, at a place
+-- "the speaker's length (1), the speaker": the bytes that both have, at a place (decision B85)
 abbrev pub speakerSize : List ℕ → ℕ → ℕ
 speakerSize b at = 1 + byte b at
 
--- too few or too many bytes for an event of this kind; a byte that is not there counts as 00, so a policy update of no bytes has too few
+-- too few or too many bytes for an event of this kind; a byte that is not there counts as 00,
+-- so a policy update of no bytes has too few (decisions B45, B85)
 abbrev pub lengthWrong : Kind → List ℕ → Bool
 lengthWrong Command bytes = ltb (length bytes) 1
 lengthWrong Keyed bytes = false
@@ -50,7 +52,7 @@ lengthWrong Policy bytes = ltb (length bytes) (speakerSize bytes 0)
 lengthWrong Unknown bytes = false
 
 -- the manager's call; "the response buffer of a command and of a policy update has 256 bytes"; request 2026-02: "Old finished events count as marked".
--- An event of unknown kind is never run: what it would be does not matter
+-- An event of unknown kind is never run: what it would be does not matter (decision B59)
 abbrev pub callFor : Kind → List ℕ → manager.Call
 callFor Command bytes = manager.Call.Command (byte bytes 0) (drop 1 bytes) leastBuffer
 callFor Keyed bytes = manager.Call.Keyed bytes

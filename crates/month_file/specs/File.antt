@@ -43,6 +43,7 @@ pub record Row : Type 0 where
 abbrev pub row : Bool → Refusal → Row
 row condition refusal = record { when = condition; refusal = refusal }
 
+-- each row is asked of the whole file before the next (decision B44)
 abbrev pub table : List ℕ → List Row
 table s =
     row (contentsWrong s) ContentsWrong

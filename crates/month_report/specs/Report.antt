@@ -19,7 +19,8 @@ nameColumn = 32
 unfoldable pub figureText : ℕ → ℕ → List ℕ
 figureText size n = spaces (nameColumn - size) ++ text "  " ++ columnText n
 
--- "a percentage with one digit after the point, rounded to the nearest tenth, a half upwards, and `%`"; right-aligned in a column of eight
+-- "a percentage with one digit after the point, rounded to the nearest tenth, a half upwards, and `%`";
+-- right-aligned in a column of eight (decision B48)
 abbrev pub tenthsOf : ℕ → ℕ → ℕ
 tenthsOf minutes ticks = (minutes * 2000 + ticks) / (ticks * 2)
 
@@ -53,7 +54,7 @@ linesText explain ticks minutes line [] = []
 linesText explain ticks minutes line (a ∷ aids) =
     aidLine explain ticks a (getD minutes line 0) ++ linesText explain ticks minutes (suc line) aids
 
--- "the line `rest`, which is printed only where there is a 65th"
+-- "the line `rest`, which is printed only where there is a 65th" (decision B47)
 unfoldable pub restText : Bool → ℕ → Bool → ℕ → List ℕ
 restText explain ticks more minutes = pick more (text "rest" ++ minutesText explain ticks 4 minutes) []
 

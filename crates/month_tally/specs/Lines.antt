@@ -10,6 +10,7 @@ use Rattle.card_isdp.specs.Aids.{noAid, bytesOf}
 use Rattle.card_isdp.specs.declared.Aid.{Aid}
 use Rattle.month_tally.specs.declared.Names.{Names}
 
+-- request 2026-01: "The first 64 AIDs ever enabled have lines" (decision B47)
 abbrev pub mostLines : ℕ
 mostLines = 64
 
@@ -17,7 +18,7 @@ mostLines = 64
 abbrev pub restLine : ℕ
 restLine = mostLines
 
--- "Two AIDs are the same if they have the same length and the same bytes."
+-- "Two AIDs are the same if they have the same length and the same bytes." (decisions 35, B47)
 abbrev pub sameAid : Aid → Aid → Bool
 sameAid a b = sameBytes (bytesOf a) (bytesOf b)
 
@@ -39,7 +40,7 @@ lineOf n a = cond (hasLine n a) (seekAid a (aidsIn n)) restLine
 abbrev pub noNames : Names
 noNames = record { aids = replicate mostLines noAid; count = 0; more = false }
 
--- an AID that is enabled: it has its line, or gets the next one, or is among the rest
+-- an AID that is enabled: it has its line, or gets the next one, or is among the rest (decision B47)
 abbrev pub noted : Names → Aid → Names
 noted n a =
     cond (hasLine n a) n

@@ -17,7 +17,7 @@ pub struct Names {
     pub more: bool,
 }
 
-// What a report tells beside the minutes, which stand in lent memory: a number for each line, and the last for the rest.
+// What a report tells beside the minutes, which stand in lent memory: a number for each line, and the last for the rest (decision B51).
 pub struct Tally {
     pub names: Names,
     pub ticks: u32,

@@ -22,7 +22,7 @@ staysOpen reach [] = true
 staysOpen reach (call ∷ calls) =
     not (isQuiet (reach (call ∷ []) .phase)) && staysOpen (λ rest. reach (call ∷ rest)) calls
 
--- phase, enabled profile, fall-back and last number are as they were, and every place bears the AID that it bore
+-- phase, enabled profile, fall-back and last number are as they were, and every place bears the AID that it bore (decision 64)
 pub record Unmoved (c d : Card) : Type 0 where
   pub phase : d .phase ≡ c .phase
   pub enabled : (i : ℕ) → isEnabled (at (d .places) i) ≡ isEnabled (at (c .places) i)
@@ -30,7 +30,7 @@ pub record Unmoved (c d : Card) : Type 0 where
   pub fallback : d .fallback ≡ c .fallback
   pub last : d .last ≡ c .last
 
--- of the profile asked for, the previous one and the fall-back, the one enabled after so many ticks, while the change is open
+-- of the profile asked for, the previous one and the fall-back, the one enabled after so many ticks, while the change is open (decision 62)
 abbrev pub holder : {A : Type 0} → A → A → A → ℕ → A
 holder wanted previous fallback ticks = cond (ltb ticks 10) wanted (cond (ltb ticks 20) previous fallback)
 
@@ -62,11 +62,11 @@ pub data Opens (c : Card) (call : Call) : List ℕ → Type 0 where
   enables : (aid : List ℕ) → asked c call ≡ on aid enable → taken c call ≡ true → Opens c call aid
   disables : (aid : List ℕ) → asked c call ≡ on aid disable → taken c call ≡ true → Opens c call (fallbackBytes c)
 
--- left alone it closes at the thirtieth tick; a change away from the fall-back at the twentieth, when the fall-back is back
+-- left alone it closes at the thirtieth tick; a change away from the fall-back at the twentieth, when the fall-back is back (decision 63)
 abbrev pub lastTick : Card → ℕ
 lastTick c = cond (onFallback c) 20 30
 
--- demand 3: of every card on which an enable or disable is accepted, so of the second and every later change too
+-- demand 3: of every card on which an enable or disable is accepted, so of the second and every later change too (decision 61)
 abbrev pub Demand3 : Type 0
 Demand3 =
     (c : Card) (call : Call) (wanted : List ℕ) → Opens c call wanted
@@ -102,13 +102,13 @@ ThirtyTicksClose =
     (wanted previous fallback : List ℕ) (last : ℕ) (reach : List Call → Card) → Change wanted previous fallback last reach
     → (calls : List Call) → 30 ≤ ticksAmong calls → FirstClose reach calls
 
--- "Nothing but ticks and the confirmation of the outstanding number moves this along or holds it up", of any open change
+-- "Nothing but ticks and the confirmation of the outstanding number moves this along or holds it up", of any open change (decisions 61, 64)
 abbrev pub Frame : Type 0
 Frame =
     (c : Card) (call : Call) → sound c ≡ true → isQuiet (c .phase) ≡ false → (isTick call || confirms c call) ≡ false
     → Unmoved c (step c call .card)
 
--- an accepted confirmation is of the outstanding number
+-- an accepted confirmation is of the outstanding number (decision 66)
 abbrev pub OnlyOutstanding : Type 0
 OnlyOutstanding =
     (c : Card) (call : Call) (number : ℕ) → asked c call ≡ confirm number → taken c call ≡ true

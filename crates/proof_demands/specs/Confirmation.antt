@@ -25,7 +25,7 @@ ConfirmationTaken =
     → Encodes (c .capacity) (storeData (confirmation number)) s
     → taken c (Command verdict s room) ≡ outstanding (c .phase) number
 
--- an accepted one closes any open change, a lost network's too, and the profile that is enabled stays enabled
+-- an accepted one closes any open change, a lost network's too, and the profile that is enabled stays enabled (decision 65)
 pub record Closed (c d : Card) : Type 0 where
   pub was-open : isQuiet (c .phase) ≡ false
   pub quiet : d .phase ≡ Quiet

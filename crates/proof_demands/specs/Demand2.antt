@@ -85,7 +85,7 @@ RunAnswered =
     → answers c (before ++ call ∷ after)
     ≡ answers c before ++ step (run c before) call ∷ answers (run c (before ++ call ∷ [])) after
 
--- soundness is kept by every call and made by fresh
+-- soundness is kept by every call and made by fresh (decision 57)
 abbrev pub Keeps : Type 0
 Keeps = (c : Card) (call : Call) → sound c ≡ true → sound (step c call .card) ≡ true
 

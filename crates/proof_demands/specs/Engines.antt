@@ -40,7 +40,7 @@ abbrev pub answerAfter : Engine → Inputs → List Call → Call → Outcome
 answerAfter e x past call = e .answer (remembered e (e .start x) (e .fresh x .card) past) (cardAfter e x past) call
 
 -- "Each command and event has the status word, response bytes, notification and new profile table that .. document 01 give, and nothing
--- further changes": the new card is the whole record
+-- further changes": the new card is the whole record (decision 53)
 pub record Answered (o right : Outcome) : Type 0 where
   pub status : o .status ≡ right .status
   pub response : o .response ≡ right .response

@@ -55,7 +55,7 @@ afterAsked getData response ms = ms
 afterAsked tick response ms = ms
 afterAsked lost response ms = ms
 
--- "made .. and not since deleted": a call is read with the capacity that fresh was given, and a refused one changes nothing
+-- "made .. and not since deleted": a call is read with the capacity that fresh was given, and a refused one changes nothing (decision 69)
 abbrev pub madeAfter : ℕ → Exchange → List Made → List Made
 madeAfter capacity x ms =
     cond (isDone (x .answer .status)) (afterAsked (askedOf capacity (x .call)) (x .answer .response) ms) ms

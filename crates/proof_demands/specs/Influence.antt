@@ -24,7 +24,7 @@ reuse name u c = over c (set (c .places) (placeOf c name) (withUsed (profileOf c
 abbrev pub Differ : List ℕ → Card → Card → Type 0
 Differ name c d = (u : ℕ) × (d ≡ reuse name u c)
 
--- "stored or finished for that profile" names its AID
+-- "stored or finished for that profile" names its AID (decisions 39, B86)
 abbrev pub fills : List ℕ → Call → Bool
 fills name (Command verdict s room) = false
 fills name (Keyed other) = false
@@ -38,7 +38,7 @@ unfoldable pub noneFills : List ℕ → List Call → Bool
 noneFills name [] = true
 noneFills name (call ∷ calls) = not (fills name call) && noneFills name calls
 
--- "equal answers" are equal exchanges
+-- "equal answers" are equal exchanges (decision 67)
 abbrev pub UsedBytesStayPrivate : Type 0
 UsedBytesStayPrivate =
     (c : Card) (name : List ℕ) (u : ℕ) (calls : List Call) → sound c ≡ true → sound (reuse name u c) ≡ true →

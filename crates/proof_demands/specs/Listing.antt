@@ -28,7 +28,7 @@ use Rattle.proof_demands.specs.WrongEngines.{withCard}
 abbrev pub Lists : Bool → Bool → Bool → Card → Call → Type 0
 Lists next life shown c call = Writes (c .capacity) (field.getStatus (field.asked next [] life shown)) call
 
--- a whole listing: GET STATUS of all, then P2 03 for the same tags until 90 00; refused calls may stand between
+-- a whole listing: GET STATUS of all, then P2 03 for the same tags until 90 00; refused calls may stand between (decision B77)
 pub data Whole (answer : Card → Call → Outcome) (life shown : Bool) : Bool → Card → List Call → Type 0 where
   ends : {next : Bool} {c : Card} {call : Call} → Lists next life shown c call → answer c call .status ≡ Done → Whole answer life shown next c (call ∷ [])
   goes-on : {next : Bool} {c : Card} {call : Call} {calls : List Call} → Lists next life shown c call → answer c call .status ≡ More → Whole answer life shown true (answer c call .card) calls → Whole answer life shown next c (call ∷ calls)
@@ -57,7 +57,7 @@ pub record Joins (answer : Card → Call → Outcome) (life shown : Bool) (c : C
   pub four-at-most : partsAmong answer c calls ≤ 4
   pub each : EachPart answer c calls
 
--- from any sound card, whatever it keeps of an earlier listing
+-- from any sound card, whatever it keeps of an earlier listing (decision B77)
 abbrev pub PartsJoin : (Card → Call → Outcome) → Type 0
 PartsJoin answer =
     (c : Card) (life shown : Bool) (calls : List Call) → sound c ≡ true → Whole answer life shown false c calls → Joins answer life shown c calls

@@ -19,7 +19,7 @@ use Rattle.rule_run.specs.Step.{step}
 use Rattle.rule_run.specs.Samples as sample
 use Rattle.proof_demands.specs.SampleRun.{loaded, changed}
 
--- AID, quota, used, policy and mark are as they were; the life cycle is not spoken of
+-- AID, quota, used, policy and mark are as they were; the life cycle is not spoken of (decision 68)
 pub record AsItWas (before after : Isdp) : Type 0 where
   pub aid : after .aid ≡ before .aid
   pub quota : after .quota ≡ before .quota
@@ -27,7 +27,7 @@ pub record AsItWas (before after : Isdp) : Type 0 where
   pub policy : after .policy ≡ before .policy
   pub mark : after .mark ≡ before .mark
 
--- the call's target stands at this place
+-- the call's target stands at this place; of a policy update it is the speaker (decision B86)
 abbrev pub targets : Card → Asked → ℕ → Bool
 targets c a place = onTarget false (λ aid act. eqb (placeOf c aid) place) a
 

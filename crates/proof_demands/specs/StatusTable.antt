@@ -89,6 +89,7 @@ onto policy = load 2 policy ++ enable 2 ∷ confirm 1 ∷ []
 abbrev pub case : ℕ → ℕ → Card → List Call → Call → Case
 case row word start before call = record { row = row; word = word; start = start; before = before; call = call }
 
+-- pairs of rows that no call can meet have no case (decision B40)
 abbrev pub cases : List Case
 cases =
     -- 6F 00, also before 6F 02

@@ -26,7 +26,7 @@ use Rattle.proof_demands.specs.StatusTable.{masterDelete}
 use Rattle.proof_demands.specs.Engines.{reachedBy}
 use Rattle.proof_demands.specs.WrongEngines.{withCard}
 
--- the manager of a record whose free is summed
+-- the manager of a record whose free is summed (decision B69)
 abbrev pub summing : Card → Call → Outcome
 summing c call = step (summed c) call
 
@@ -47,7 +47,8 @@ answersBy answer c (call ∷ calls) = answer c call ∷ answersBy answer (answer
 abbrev pub AsSummed : (Card → Call → Outcome) → Type 0
 AsSummed answer = (c : Card) (calls : List Call) → sound c ≡ true → answersBy answer c calls ≡ answersBy summing c calls
 
--- "All answers stay as they are": of every sound card the response of GET DATA, the answer to a create, and every answer to any calls
+-- "All answers stay as they are": of every sound card the response of GET DATA, the answer to a create,
+-- and every answer to any calls (decision B69)
 pub record AnswersStay : Type 0 where
   pub get-data : (c : Card) → sound c ≡ true → dataResponse c ≡ dataResponse (summed c)
   pub create : (c : Card) (aid : List ℕ) (quota : ℕ) → sound c ≡ true → outcome c (askedWork c (create aid quota)) ≡ outcome (summed c) (askedWork (summed c) (create aid quota))

@@ -21,6 +21,7 @@ OneAnswer =
 abbrev pub OneOutcome : Type 0
 OneOutcome = (o : Outcome) (r s : Answer) → r ≡ handed o → s ≡ handed o → r ≡ s
 
+-- the promise of a read is the one that is not so (decision B20)
 pub record Unique : Type 0 where
   pub one-answer : OneAnswer
   pub one-outcome : OneOutcome

@@ -15,7 +15,7 @@ use Rattle.rule_run.specs.Step.{step}
 abbrev pub Allowed : Asked → Type 0
 Allowed a = (c : Card) (call : Call) → sound c ≡ true → asked c call ≡ a → step c call .status ≡ step (inPhase c Quiet) call .status
 
--- "69 85: a change is open, for create, enable, disable, delete, master delete, set fall-back"; for none of these
+-- "69 85: a change is open, for create, enable, disable, delete, master delete, set fall-back"; for none of these (decisions 37, B86)
 pub record AllowedWhileOpen : Type 0 where
   pub keyed-allowed : (aid : List ℕ) → Allowed (on aid keyed)
   pub stored-allowed : (aid : List ℕ) (n : ℕ) → Allowed (on aid (stored n))

@@ -64,7 +64,7 @@ Along e m c (call ∷ calls) =
 abbrev pub AlongFrom : Engine → Inputs → List Call → Type 0
 AlongFrom e x calls = Along e (e .start x) (e .fresh x .card) calls
 
--- "by demand 2 on examples 1, 2 and 7", each by itself. F is told by its AID alone, so example 1 is held on two fresh cards.
+-- "by demand 2 on examples 1, 2 and 7", each by itself. F is told by its AID alone, so example 1 is held on two fresh cards (decision B39)
 abbrev pub larger : Inputs
 larger = record { eid = replicate 16 0x89; aid = example.aid 1; capacity = 2000; quota = 100; used = 10; volatile = 7 }
 
@@ -97,7 +97,7 @@ RefusesAll = (word : Card → Call → Status) → ((c : Card) (call : Call) →
 abbrev pub FixedAnswer : Type 0
 FixedAnswer = (o : Outcome) → RefutedOnEach (fixedAnswer o)
 
--- example 1 changes no card: an engine that leaves every card can be right there, so that example alone refutes none
+-- example 1 changes no card: an engine that leaves every card can be right there, so that example alone refutes none (decision B39)
 pub record LeavesEveryCard : Type 0 where
   pub first : OnExample1 (leavesEveryCard step)
   pub second : (says : Card → Call → Outcome) → OnExample2 (leavesEveryCard says) → ⊥
@@ -124,7 +124,7 @@ firstThen n later =
       remember = λ m c call. cond (isCommand call) (suc m) m;
     }
 
--- by demand 2, however many it works on and whatever it answers later, if only the word is 90 00
+-- by demand 2, however many it works on and whatever it answers later, if only the word is 90 00 (decision B41)
 abbrev pub FirstThenOnly9000 : Type 0
 FirstThenOnly9000 =
     (n : ℕ) (later : Card → Call → Outcome) → ((c : Card) (call : Call) → later c call .status ≡ Done) → MeetsDemand2 (firstThen n later) → ⊥
@@ -134,7 +134,7 @@ abbrev pub idle : Card → Call → Outcome
 idle c call = accepted Done (stepTo c c noAid) []
 
 -- by demand 3 from the second change on: the first takes four commands (two creations, the enable and its confirmation), and it may work
--- on any number more
+-- on any number more (decision B41)
 abbrev pub NotTheSecondChange : Type 0
 NotTheSecondChange = (n : ℕ) → MeetsDemand3 (firstThen (n + 4) idle) → ⊥
 

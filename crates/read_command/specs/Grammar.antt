@@ -45,15 +45,16 @@ Encodes capacity (deletion v) s = Framed 0xE4 (EncodesDeleted v) s
 Encodes capacity (getStatus v) s = Listing v s
 Encodes capacity getData s = Bare s
 
--- reading an encoded command gives it back
+-- reading an encoded command gives it back (decision B17)
 abbrev pub CommandBack : Type 0
 CommandBack = (s : List ℕ) (capacity : ℕ) (v : Wanted) → Encodes capacity v s → readAs s (readOf s capacity) ≡ some v
 
--- whatever is accepted is the encoding of what was read
+-- whatever is accepted is the encoding of what was read (decision B17)
 abbrev pub CommandWritten : Type 0
 CommandWritten = (s : List ℕ) (capacity : ℕ) (v : Wanted) → Bytes s → readAs s (readOf s capacity) ≡ some v → Encodes capacity v s
 
--- the same data field asks for the same tags with P2 02 and with P2 03, whatever class and Le: request 2026-05, "With the same data field throughout"
+-- the same data field asks for the same tags with P2 02 and with P2 03, whatever class and Le: request 2026-05,
+-- "With the same data field throughout" (decision B77)
 abbrev pub SameTags : Type 0
 SameTags = (next next′ : Bool) (class class′ : ℕ) (withLe withLe′ : Bool) (field : List ℕ) (capacity : ℕ) (life shown : Bool)
     → Bytes (listingOf class next field withLe)

@@ -28,7 +28,7 @@ unfoldable pub readOf : List ℕ → ℕ → Reading
 readOf s capacity =
     cond (isDone (wordOf status.Done (readingRows s capacity))) (accepted (fieldOf s capacity)) (reading.Refused (wordOf status.Done (readingRows s capacity)))
 
--- the word of a refusal; 90 00 where the command was read
+-- the word of a refusal; 90 00 where the command was read (decision B18)
 abbrev pub readingWord : Reading → Status
 readingWord (reading.Read r) = status.Done
 readingWord (reading.Refused word) = word

@@ -15,7 +15,7 @@ use Rattle.read_install.specs.Install.{installOf}
 use Rattle.base_bytes.specs.Bytes.{byte}
 use Rattle.read_frame.specs.Framing.{dataEnd}
 
--- P2 03 of a GET STATUS: the listing goes on from the kept place (request 2026-05; 000, Table 26: "Get next occurrence(s)")
+-- P2 03 of a GET STATUS: the listing goes on from the kept place (request 2026-05; 000, Table 26: "Get next occurrence(s)") (decision B73)
 abbrev pub goesOn : List ℕ → Bool
 goesOn s = eqb (byte s 3) 0x03
 

@@ -13,7 +13,7 @@ use Rattle.read_fields.specs.declared.request.Request.the-variants as re
 use Rattle.read_fields.specs.declared.request.Field.{Field}
 use Rattle.read_fields.specs.declared.request.Field.the-variants as field
 
--- what B6 holds
+-- what B6 holds, in this order, each of at least one byte (decision 28)
 unfoldable pub verificationAt : List ℕ → ℕ → ℕ → Verification
 verificationAt s at end =
     onFound (expectAt s at end 0x42 1 255) verification.Wrong λ _ first.
@@ -26,6 +26,7 @@ abbrev pub onFilled {ℓ} : {X : Type ℓ} → Verification → X → X → X
 onFilled verification.Wrong w x = w
 onFilled verification.Filled w x = x
 
+-- the data field alone tells the two apart, and the verdict does not choose (decisions 28, 29)
 unfoldable pub deletionAt : List ℕ → ℕ → ℕ → Field
 deletionAt s at end =
     pick (listWrong s at end) field.Wrong

@@ -17,7 +17,7 @@ use Rattle.read_fields.specs.declared.request.Request.the-variants as re
 use Rattle.read_fields.specs.declared.request.Field.{Field}
 use Rattle.read_fields.specs.declared.request.Field.the-variants as field
 
--- one more listed tag
+-- one more listed tag; "Repeats count once" (decision 30)
 unfoldable pub noted : ℕ → Bool → Bool → Tags
 noted t life fallBack =
     pick (isSame t 0x4F) (tags.Shown life fallBack)
@@ -45,13 +45,15 @@ listedWithin (suc n) s at end life fallBack =
 unfoldable pub listedAt : List ℕ → ℕ → ℕ → Tags
 listedAt s at end = listedWithin (end - at) s at end false false
 
+-- "then optionally 5C": without it all three tags are shown, and an empty one is taken (decisions 7, 30)
 unfoldable pub tagsAt : List ℕ → ℕ → ℕ → Tags
 tagsAt s at end =
     pick (isSame at end) (tags.Shown true true)
     (onFound (aloneAt s at end 0x5C 0 255) tags.Wrong λ start stop.
     listedAt s start stop)
 
--- all rows where 4F is empty, else the row of its AID; 02, request 2026-05: "P2 03 leaves the 6A 86 row; with an AID named it is 6A 80"
+-- all rows where 4F is empty, else the row of its AID; 02, request 2026-05: "P2 03 leaves the 6A 86 row;
+-- with an AID named it is 6A 80" (decisions 29, B73)
 abbrev pub rowsOf : Bool → ℕ → ℕ → Bool → Bool → Field
 rowsOf next start stop life fallBack =
     pick (isSame (stop - start) 0) (field.Found (request.GetStatusOfAll next life fallBack))
@@ -59,7 +61,7 @@ rowsOf next start stop life fallBack =
     (pick (isBelow (stop - start) 5) field.Wrong
     (field.Found (request.GetStatusOfOne (between start stop) life fallBack))))
 
--- `next`: with P2 03 the listing goes on from the kept place, with P2 02 it begins anew
+-- `next`: with P2 03 the listing goes on from the kept place, with P2 02 it begins anew (decisions 7, B72)
 unfoldable pub listingAt : Bool → List ℕ → ℕ → ℕ → Field
 listingAt next s at end =
     pick (listWrong s at end) field.Wrong

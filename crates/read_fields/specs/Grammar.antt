@@ -196,7 +196,7 @@ abbrev pub showsFallBack : Option (List ListedTag) → Bool
 showsFallBack none = true
 showsFallBack (some ts) = listsFallBack ts
 
--- no more than a length can say
+-- no more than a length can say; document 01 sets no other limit (decision 30)
 abbrev pub Short : Option (List ListedTag) → Type 0
 Short none = Unit
 Short (some ts) = length (encodeTags ts) ≤ 255

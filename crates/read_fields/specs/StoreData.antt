@@ -15,6 +15,7 @@ use Rattle.read_fields.specs.declared.request.Request.the-variants as re
 use Rattle.read_fields.specs.declared.request.Field.{Field}
 use Rattle.read_fields.specs.declared.request.Field.the-variants as field
 
+-- "one length byte up to FE, and fills the data field": not the length form of an element (decisions 23, 32)
 unfoldable pub dgiAt : List ℕ → ℕ → ℕ → Dgi
 dgiAt s at end =
     pick (isBelow (length s) end) dgi.Wrong
@@ -28,13 +29,13 @@ abbrev pub onDgi {ℓ} : {X : Type ℓ} → Dgi → X → (ℕ → ℕ → X) �
 onDgi dgi.Wrong w f = w
 onDgi (dgi.Found number start) w f = f number start
 
--- one 4E of exactly 2 bytes
+-- one 4E of exactly 2 bytes, high byte first (decision 33)
 unfoldable pub confirmationAt : List ℕ → ℕ → ℕ → Field
 confirmationAt s at end =
     onFound (aloneAt s at end 0x4E 2 2) field.Wrong λ start stop.
     field.Found (request.Confirm (pairAt s start))
 
--- the command that a DGI names, on an AID
+-- the command that a DGI names, on an AID; 3A06 and 3A07 of 000 are not bought (decision 6)
 unfoldable pub namedBy : ℕ → Part → Field
 namedBy number aid =
     pick (isSame number 0x3A03) (field.Found (request.Enable aid))
@@ -42,6 +43,7 @@ namedBy number aid =
     (pick (isSame number 0x3A05) (field.Found (request.SetFallBack aid))
     field.Wrong))
 
+-- an AID of another length is wrong data before it is looked for (decision 29)
 unfoldable pub storeDataAt : List ℕ → ℕ → ℕ → Field
 storeDataAt s at end =
     onDgi (dgiAt s at end) field.Wrong λ number contents.

@@ -6,7 +6,8 @@ use mathlib.Core.Bool.{Bool, false, cond, _&&_, _||_}
 use lib.Dec.{leb, eqb}
 use Rattle.read_frame.specs.Framing.{classRight}
 
--- '80' - '8F', 'C0' - 'CF' or 'E0' - 'EF' (000: Tables 17, 30, 34 and 60), value by value
+-- '80' - '8F', 'C0' - 'CF' or 'E0' - 'EF' (000: Tables 17, 30, 34 and 60), value by value,
+-- so that no range is held against itself (decision B89)
 abbrev pub printedClasses : List ℕ
 printedClasses =
     0x80 ∷ 0x81 ∷ 0x82 ∷ 0x83 ∷ 0x84 ∷ 0x85 ∷ 0x86 ∷ 0x87 ∷ 0x88 ∷ 0x89 ∷ 0x8A ∷ 0x8B ∷ 0x8C ∷ 0x8D ∷ 0x8E ∷ 0x8F
@@ -30,7 +31,7 @@ unfoldable pub yesUnder : (ℕ → Bool) → ℕ → ℕ
 yesUnder test zero = zero
 yesUnder test (suc n) = cond (test n) (suc (yesUnder test n)) (yesUnder test n)
 
--- the test as it was written before this request
+-- the test as it was written before this request (decision B89)
 unfoldable pub classRightBefore : ℕ → Bool
 classRightBefore class =
     (leb 0x80 class && leb class 0x8F) || ((leb 0xC0 class && leb class 0xCF) || (leb 0xE0 class && leb class 0xEF))

@@ -16,7 +16,7 @@ lengthWrong s = ltb (length s) 4 || ltb 261 (length s)
 abbrev pub isWithin : ℕ → ℕ → ℕ → Bool
 isWithin low high value = leb low value && leb value high
 
--- GP 11.1.4 in its printed order: 80-8F, C0-CF, E0-EF
+-- GP 11.1.4 in its printed order: 80-8F, C0-CF, E0-EF (decisions 5, B88)
 unfoldable pub classRight : ℕ → Bool
 classRight class =
     isWithin 0x80 0x8F class
@@ -34,7 +34,7 @@ instructionWrong s =
     (eqb (byte s 1) 0xE6
     || (eqb (byte s 1) 0xE4 || (eqb (byte s 1) 0xE2 || (eqb (byte s 1) 0xF2 || eqb (byte s 1) 0xCA))))
 
--- create 0C/00; E4 00/40; E2 P1 88 to 8F, P2 00; F2 40/02, and 40/03: request 2026-05; CA FF/21
+-- create 0C/00; E4 00/40; E2 P1 88 to 8F, P2 00; F2 40/02, and 40/03: request 2026-05; CA FF/21 (decisions 3, 4, 6, B73)
 unfoldable pub parametersRight : ℕ → ℕ → ℕ → Bool
 parametersRight instruction p1 p2 =
     (eqb instruction 0xE6 && (eqb p1 0x0C && eqb p2 0x00))
@@ -50,11 +50,11 @@ parametersWrong s = not (parametersRight (byte s 1) (byte s 2) (byte s 3))
 abbrev pub dataEnd : List ℕ → ℕ
 dataEnd s = 5 + byte s 4
 
--- exactly 5 bytes, the fifth 00
+-- exactly 5 bytes, the fifth 00 (decision 19)
 abbrev pub isBare : List ℕ → Bool
 isBare s = eqb (length s) 5 && eqb (byte s 4) 0
 
--- Lc 1 to 255, then Lc bytes, then nothing or Le 00
+-- Lc 1 to 255, then Lc bytes, then nothing or Le 00 (decisions 16, 17, 18)
 abbrev pub isFilled : List ℕ → Bool
 isFilled s =
     not (eqb (byte s 4) 0) && (eqb (length s) (dataEnd s) || (eqb (length s) (dataEnd s + 1) && eqb (byte s (dataEnd s)) 0))

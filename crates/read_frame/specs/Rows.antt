@@ -5,6 +5,7 @@ use mathlib.Core.Bool.{Bool}
 use Rattle.base_status.specs.Rows.{Row, row}
 use Rattle.base_status.specs.declared.Status.the-variants.{LengthWrong, ClassWrong, InstructionWrong, ParametersWrong, DataWrong}
 
+-- "in this order", said once for both readers (decisions 15, B87)
 abbrev pub rowsBy : Bool → Bool → Bool → Bool → Bool → Bool → List Row
 rowsBy length class instruction parameters shape field =
     row length LengthWrong

@@ -21,7 +21,7 @@ unfoldable pub encodeProtocols : List (List ℕ) → List ℕ
 encodeProtocols [] = []
 encodeProtocols (value ∷ values) = encodeElement 0x81 value ++ encodeProtocols values
 
--- what a create has beside AID and quota; the quota's bytes are 2 or 4
+-- what a create has beside AID and quota; the quota's bytes are 2 or 4; only lengths are tested (decision 12)
 pub record Free : Type 0 where
   pub loadFile : List ℕ
   pub moduleAid : List ℕ

@@ -30,14 +30,14 @@ unfoldable pub prefixedAt : List ℕ → ℕ → ℕ → ℕ → ℕ → Element
 unfolding prefixedOf
 prefixedAt s at end low high = prefixedOf end low high (lengthAt s at end)
 
--- load file AID, module AID, and then the ISD-P AID, which is handed on
+-- load file AID, module AID, and then the ISD-P AID, which is handed on (decisions 12, 27)
 unfoldable pub namesAt : List ℕ → ℕ → ℕ → Element
 namesAt s at end =
     onFound (prefixedAt s at end 5 16) element.Wrong λ _ next.
     onFound (prefixedAt s next end 5 16) element.Wrong λ _ own.
     prefixedAt s own end 5 16
 
--- privileges, install parameters, which are handed on, and token, which is empty and ends the field
+-- privileges, install parameters, which are handed on, and token, which is empty and ends the field (decisions 12, 13, 27)
 unfoldable pub rightsAt : List ℕ → ℕ → ℕ → Element
 rightsAt s at end =
     onFound (prefixedAt s at end 1 3) element.Wrong λ start stop.
@@ -50,6 +50,7 @@ abbrev pub onGranted {ℓ} : {X : Type ℓ} → Quota → X → (ℕ → X) → 
 onGranted quota.Wrong w f = w
 onGranted (quota.Granted number) w f = f number
 
+-- "1 up to capacity" is a matter of the data field, so the reader is handed the capacity (decision 26)
 unfoldable pub installOf : List ℕ → ℕ → ℕ → ℕ → Field
 installOf s at end capacity =
     onFound (namesAt s at end) field.Wrong λ start stop.

@@ -12,7 +12,7 @@ use Rattle.read_install.specs.declared.Protocols.the-variants as protoco
 use Rattle.read_install.specs.declared.Quota.{Quota}
 use Rattle.read_install.specs.declared.Quota.the-variants as quota
 
--- elements 81 of two bytes that fill the window; n counts down, from the bytes left or more
+-- elements 81 of two bytes that fill the window; n counts down, from the bytes left or more (decision 24)
 unfoldable pub protocolsWithin : ℕ → List ℕ → ℕ → ℕ → Protocols
 protocolsWithin zero s at end = protocols.Listed
 protocolsWithin (suc n) s at end =
@@ -30,17 +30,17 @@ onListed protocols.Listed q = q
 unfoldable pub numberAt : List ℕ → ℕ → ℕ → ℕ
 numberAt s start count = pick (isSame count 2) (pairAt s start) (fourAt s start)
 
--- "1 up to capacity"
+-- "1 up to capacity" (decision 26)
 unfoldable pub grantOf : ℕ → ℕ → Quota
 grantOf number capacity = pick (isSame number 0) quota.Wrong (pick (isBelow capacity number) quota.Wrong (quota.Granted number))
 
--- the cumulative granted non-volatile memory, alone in its window
+-- the cumulative granted non-volatile memory, alone in its window (decisions 14, 25)
 unfoldable pub memoryAt : List ℕ → ℕ → ℕ → ℕ → Quota
 memoryAt s at end capacity =
     onFound (aloneAt s at end 0x83 2 4) quota.Wrong λ start stop.
     pick (isSame (stop - start) 3) quota.Wrong (grantOf (numberAt s start (stop - start)) capacity)
 
--- a list of elements: C9, then EF, and nothing after
+-- a list of elements: C9, then EF, and nothing after (decisions 14, 24, 25)
 unfoldable pub parametersAt : List ℕ → ℕ → ℕ → ℕ → Quota
 parametersAt s at end capacity =
     pick (listWrong s at end) quota.Wrong

@@ -13,6 +13,7 @@ use Rattle.read_frame.specs.Framing.{dataEnd}
 use Rattle.read_operator.specs.declared.Policy.{Policy}
 use Rattle.read_operator.specs.declared.Policy.the-variants as policy
 
+-- one element 81 of one byte; any other DGI, those of the root domain too, is wrong (decision B82)
 unfoldable pub policyAt : List ℕ → ℕ → ℕ → Policy
 policyAt s at end =
     onDgi (dgiAt s at end) policy.Wrong λ number contents.

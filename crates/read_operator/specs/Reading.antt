@@ -17,7 +17,7 @@ use Rattle.read_operator.specs.declared.Update.{Update}
 use Rattle.read_operator.specs.declared.Update.the-variants as update
 use Rattle.read_operator.specs.Field.{policyOf, isWrong}
 
--- 6D 00: INS not E2; the INSTALL [for personalization] that 4.1.2.1 sends first has been done when the call arrives
+-- 6D 00: INS not E2; the INSTALL [for personalization] that 4.1.2.1 sends first has been done when the call arrives (decision B81)
 unfoldable pub notStoreData : List ℕ → Bool
 notStoreData s = not (eqb (byte s 1) 0xE2)
 
@@ -25,6 +25,7 @@ notStoreData s = not (eqb (byte s 1) 0xE2)
 unfoldable pub policyWrong : List ℕ → Bool
 policyWrong s = isWrong (policyOf s)
 
+-- "01's framing rows", in its order (decision B83)
 abbrev pub updateRows : List ℕ → List Row
 updateRows s = rowsBy (lengthWrong s) (classWrong s) (notStoreData s) (parametersWrong s) (shapeWrong s) (policyWrong s)
 

@@ -8,7 +8,7 @@ use lib.ListN.{length}
 use Rattle.read_tlv.specs.declared.HeadRead.the-variants.{Head}
 use Rattle.read_tlv.specs.Tlv.{headAt}
 
--- the outermost list is level 1, and four levels are the most
+-- the outermost list is level 1, and four levels are the most (decision 31)
 pub record Level (level : ℕ) : Type 0 where
   pub outermost : 1 ≤ level
   pub deepest : level ≤ 4

@@ -31,7 +31,7 @@ unfoldable pub restOf : (ℕ → ListRead) → ElementRead → ListRead
 restOf rest element.Wrong = list.Wrong
 restOf rest (element.Next next) = rest next
 
--- a list: its window lies in the bytes, its level is 1 to 4, and it is at its end or `elements` says what stands there
+-- a list: its window lies in the bytes, its level is 1 to 4, and it is at its end or `elements` says what stands there (decision 31)
 unfoldable pub listOf : List ℕ → ℕ → ℕ → ℕ → ListRead → ListRead
 listOf s at end level elements =
     pick (isBelow (length s) end) list.Wrong
@@ -62,6 +62,6 @@ abbrev pub isWrong : ListRead → Bool
 isWrong list.Filled = false
 isWrong list.Wrong = true
 
--- the window is no list of elements, at the outermost level
+-- the window is no list of elements, at the outermost level; no answer hangs on it, as each table asks for more (decision B19)
 unfoldable pub listWrong : List ℕ → ℕ → ℕ → Bool
 listWrong s at end = isWrong (listAt s at end 1)

@@ -20,7 +20,7 @@ use Rattle.read_tlv.specs.declared.Element.the-variants as element
 abbrev pub isConstructed : ℕ → Bool
 isConstructed first = eqb (first / 32 % 2) 1
 
--- "one byte, or two when the low five bits of the first are all ones; the second byte is then below 80"
+-- "one byte, or two when the low five bits of the first are all ones; the second byte is then below 80" (decision 22)
 unfoldable pub tagAt : List ℕ → ℕ → ℕ → TagRead
 tagAt s at end =
     pick (isBelow (length s) end) tag.Wrong
@@ -31,7 +31,7 @@ tagAt s at end =
     (tag.Tag (pairAt s at) (isConstructed (byte s at)) (at + 1 + 1))))
     (tag.Tag (byte s at) (isConstructed (byte s at)) (at + 1))))
 
--- "length is 00-7F, or 81 with 80-FF; other forms are wrong"
+-- "length is 00-7F, or 81 with 80-FF; other forms are wrong" (decision 23)
 unfoldable pub lengthAt : List ℕ → ℕ → ℕ → LengthRead
 lengthAt s at end =
     pick (isBelow (length s) end) len.Wrong

@@ -11,7 +11,7 @@ use Rattle.rule_run.specs.Calls.{Call, Call.Command, Call.Keyed, Call.Stored, C
 use Rattle.record_door.specs.declared.Call as declared
 use Rattle.record_door.specs.declared.Call.the-variants as code
 
--- the call that the code's value names over the bytes it came in, with a response buffer of so many bytes lent
+-- the call that the code's value names over the bytes it came in, with a response buffer of so many bytes lent (decision B32)
 abbrev pub callOf : List ℕ → ℕ → declared.Call → Call
 callOf s room (code.Command verdict bytes) = Command verdict (partOf s bytes) room
 callOf s room (code.Keyed aid) = Keyed (partOf s aid)
@@ -21,6 +21,6 @@ callOf s room code.Tick = Tick
 callOf s room code.Lost = Lost
 callOf s room (code.Policy speaker bytes) = Policy (partOf s speaker) (partOf s bytes) room
 
--- an outcome as it is handed out over a lent buffer that has room for the whole response
+-- an outcome as it is handed out over a lent buffer that has room for the whole response (decision B33)
 abbrev pub Served : List ℕ → Outcome → Answer → List ℕ → Type 0
 Served old o r new = Handed old o r new × (r .length ≤ length old)

@@ -1,5 +1,5 @@
 // The manager of the root domain: one door for every call, answered whole.
-// `answer` asks first whether the card is sound; `answer_on_sound` is the same for a card known to be, for runs of many calls.
+// `answer` asks first whether the card is sound; `answer_on_sound` is the same for a card known to be, for runs of many calls (decision B10).
 use base_bytes::Part;
 use base_bytes::part_of;
 use base_bytes::put_byte;
@@ -33,7 +33,7 @@ ghost use Rattle.rule_run.specs.Table.{leastBuffer};
 ghost use Rattle.rule_run.specs.Step.{step, onSound};
 ghost use Rattle.record_door.specs.Door.{Served};
 
-// A call over the bytes that it came in: each part names some of them.
+// A call over the bytes that it came in: each part names some of them (decisions B15, B16, B32).
 pub enum Call {
     // with the token verdict
     Command { verdict: u8, bytes: Part },
@@ -183,7 +183,7 @@ fn command(card: Card, verdict: u8, bytes: &[u8], buf: &mut [u8]) -> Answer
     if buf.len() < BUFFER {
         return card.refused(Status::BufferShort);
     }
-    // the copy that `serve` takes is made here, and not where the door is entered
+    // the copy that `serve` takes is made here, and not where the door is entered (decision B42)
     let served = card;
     let reading = read(bytes, card.capacity);
     let Reading::Read(request) = reading else {

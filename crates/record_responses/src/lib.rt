@@ -228,7 +228,7 @@ pub enum Information {
     Data,
 }
 
-// The response of each, by one door, so that the card of the caller stays whole.
+// The response of each, by one door, so that the card of the caller stays whole (decision B42).
 pub fn write_information(card: Card, asked: Information, buf: &mut [u8], at: usize) -> usize
     ensures { λ r. ⌜ Wrote (now (buf .entry)) at (informationOf card asked) r (now (buf .exit)) × (length (informationOf card asked) ≤ mostRow) ⌝ }
 {

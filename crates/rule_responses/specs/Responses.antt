@@ -14,7 +14,7 @@ use Rattle.card_places.specs.Places.{at, countOf}
 use Rattle.card_record.specs.Cards.{noPlace, freeIn}
 use Rattle.card_record.specs.declared.Card.{Card}
 
--- "4F": the AID, with its true length
+-- "4F": the AID, with its true length (decision 13)
 abbrev pub aidElement : List ℕ → List ℕ
 aidElement aid = 0x4F ∷ length aid ∷ aid
 
@@ -42,11 +42,11 @@ unfoldable pub statusRow : Isdp → ℕ → Bool → Bool → List ℕ
 statusRow p attribute life fallback =
     0xE3 ∷ length (statusBody p attribute life fallback) ∷ statusBody p attribute life fallback
 
--- a row is 27 bytes at the most: E3 and its length, 4F with 16 bytes, 9F70, 53
+-- a row is 27 bytes at the most: E3 and its length, 4F with 16 bytes, 9F70, 53 (decision 50)
 abbrev pub mostRow : ℕ
 mostRow = 27
 
--- a place that is not held has no row
+-- a place that is not held has no row; a held one has, SELECTABLE too (decision 50)
 unfoldable pub rowOf : Isdp → ℕ → Bool → Bool → List ℕ
 rowOf p attribute life fallback = cond (held p) (statusRow p attribute life fallback) []
 
@@ -67,11 +67,12 @@ listingFrom c from life fallback = rowsFrom (c .fallback) from life fallback (dr
 abbrev pub listing : Card → Bool → Bool → List ℕ
 listing c life fallback = listingFrom c 0 life fallback
 
--- a response "has at most 255"
+-- a response "has at most 255" (decision B70)
 abbrev pub mostResponse : ℕ
 mostResponse = 255
 
--- request 2026-05: "as many whole rows as fit 255 bytes": of these places, the first of which has the number `place`, in so much room
+-- request 2026-05: "as many whole rows as fit 255 bytes": of these places, the first of which has the number `place`,
+-- in so much room (decision B72)
 unfoldable pub partFrom : ℕ → ℕ → ℕ → Bool → Bool → List Isdp → List ℕ
 partFrom room holder place life fallback [] = []
 partFrom room holder place life fallback (p ∷ ps) =
@@ -79,7 +80,7 @@ partFrom room holder place life fallback (p ∷ ps) =
     (rowOf p (attributeOf holder place) life fallback ++ partFrom (room - rowSize p life fallback) holder (suc place) life fallback ps)
     []
 
--- "the place of the first row not yet given"
+-- "the place of the first row not yet given" (decision B72)
 unfoldable pub leftFrom : ℕ → ℕ → ℕ → Bool → Bool → List Isdp → ℕ
 leftFrom room holder place life fallback [] = noPlace
 leftFrom room holder place life fallback (p ∷ ps) =
@@ -98,7 +99,7 @@ leftAfter c from life fallback = leftFrom mostResponse (c .fallback) from life f
 unfoldable pub oneStatus : Card → ℕ → Bool → Bool → List ℕ
 oneStatus c place life fallback = rowOf (at (c .places) place) (attributeOf (c .fallback) place) life fallback
 
--- GET DATA: "FF21 holding 81 (number of ISD-Ps, 1 byte), 82 (free, 4 bytes), 83 (volatile figure, 4 bytes)"
+-- GET DATA: "FF21 holding 81 (number of ISD-Ps, 1 byte), 82 (free, 4 bytes), 83 (volatile figure, 4 bytes)", high byte first (decision 51)
 unfoldable pub dataResponse : Card → List ℕ
 dataResponse c =
     0xFF ∷ 0x21 ∷ 0x0F
@@ -106,7 +107,7 @@ dataResponse c =
     ∷ 0x82 ∷ 4 ∷ fourBytes (freeIn c)
     ++ (0x83 ∷ 4 ∷ fourBytes (c .volatile))
 
--- confirmation: the AID deleted, where there is one
+-- confirmation: the AID deleted, where there is one (decisions 13, 44)
 unfoldable pub deletedResponse : Aid → List ℕ
 deletedResponse a =
     cond (eqb (a .len) 0) []

@@ -13,6 +13,7 @@ use Rattle.read_operator.specs.declared.Policy.the-variants as policy
 use Rattle.rule_steps.specs.Asked.{Act.enable, Act.disable, Act.delete, Act.masterDelete, Act.setFallBack, Act.status, Act.keyed, Act.stored, Act.finished, Act.setPolicy, Asked, Asked.unread, Asked.create, Asked.on, Asked.confirm, Asked.statusOfAll, Asked.getData, Asked.tick, Asked.lost}
 use Rattle.card_record.specs.declared.Card.{Card}
 
+-- a call is a value, and so an operator's policy update is one case more (decisions B32, B80)
 pub data Call : Type 0 where
   -- the token verdict, the bytes, and how many bytes the lent response buffer has
   Command : ℕ → List ℕ → ℕ → Call
@@ -45,7 +46,7 @@ abbrev pub policyAsks : List ℕ → operator.Policy → Asked
 policyAsks speaker policy.Wrong = unread
 policyAsks speaker (policy.Found p) = on speaker (setPolicy p)
 
--- what a call asks; of the card a reader needs the capacity
+-- what a call asks; of the card a reader needs the capacity (decision 26)
 abbrev pub askedOf : ℕ → Call → Asked
 askedOf capacity (Command verdict s room) = fieldAsks verdict s (fieldOf s capacity)
 askedOf capacity (Keyed aid) = on aid keyed

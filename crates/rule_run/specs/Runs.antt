@@ -49,7 +49,7 @@ isConfirmation getData = false
 isConfirmation tick = false
 isConfirmation lost = false
 
--- the confirmation of the outstanding number: of any other number the table refuses it
+-- the confirmation of the outstanding number: of any other number the table refuses it (decision 62)
 abbrev pub confirms : Card → Call → Bool
 confirms c call = isConfirmation (asked c call) && taken c call
 

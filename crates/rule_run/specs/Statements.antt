@@ -21,7 +21,7 @@ use Rattle.rule_run.specs.Calls.{Call, Call.Command, Call.Keyed, Call.St
 use Rattle.rule_run.specs.Table.{leastBuffer, bufferShort, rowsAfter, table}
 use Rattle.rule_run.specs.Step.{step, onSound}
 
--- on a sound card nothing depends on whether soundness is asked
+-- on a sound card nothing depends on whether soundness is asked (decision B10)
 abbrev pub OnSoundAgrees : Type 0
 OnSoundAgrees = (c : Card) (call : Call) → sound c ≡ true → onSound c call ≡ step c call
 
@@ -30,7 +30,8 @@ abbrev pub ResponseMost : Type 0
 ResponseMost = (c : Card) (call : Call) → length (step c call .response) ≤ 255
 
 -- the table of a command is the rows of soundness and of the buffer, then those of reading, then the card's; of an inner call, tick
--- or lost the rows after soundness give the word that its values' row and then the card's rows give, whatever the word of success
+-- or lost the rows after soundness give the word that its values' row and then the card's rows give,
+-- whatever the word of success (decision B3)
 pub record TableParts (c : Card) (success : Status) : Type 0 where
   pub command : (verdict : ℕ) (s : List ℕ) (room : ℕ) → let call = Command verdict s room in table c call ≡ soundRow c ∷ row (bufferShort call) BufferShort ∷ (readingRows s (c .capacity) ++ cardRows c (asked c call))
   pub keyed-rows : (aid : List ℕ) → wordOf success (rowsAfter c (Keyed aid)) ≡ wordOf success (innerWork c aid keyed .rows)

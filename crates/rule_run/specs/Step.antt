@@ -21,7 +21,7 @@ work c call =
 unfoldable pub step : Card → Call → Outcome
 step c call = outcome c (work c call)
 
--- the same on a card known to be sound: the row 6F 00 is not asked (statement `OnSoundAgrees`)
+-- the same on a card known to be sound: the row 6F 00 is not asked (statement `OnSoundAgrees`) (decision B10)
 unfoldable pub onSound : Card → Call → Outcome
 onSound c call = known c (work c call)
 

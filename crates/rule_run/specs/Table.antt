@@ -22,7 +22,7 @@ use Rattle.rule_run.specs.Calls.{Call, Call.Command, Call.Keyed, Call.St
 abbrev pub leastBuffer : ℕ
 leastBuffer = 256
 
--- "response buffer under 256 bytes (commands only)"; request 2026-06: of the policy update's command too
+-- "response buffer under 256 bytes (commands only)"; request 2026-06: of the policy update's command too (decisions 20, 41)
 abbrev pub bufferShort : Call → Bool
 bufferShort (Command verdict s room) = ltb room leastBuffer
 bufferShort (Keyed aid) = false
@@ -32,7 +32,7 @@ bufferShort Tick = false
 bufferShort Lost = false
 bufferShort (Policy speaker s room) = ltb room leastBuffer
 
--- a test of a command's bytes, the operator's too; no other call meets it
+-- a test of a command's bytes, the operator's too; no other call meets it (decision 41)
 abbrev pub inCommand : (List ℕ → Bool) → Call → Bool
 inCommand test (Command verdict s room) = test s
 inCommand test (Keyed aid) = false
@@ -42,7 +42,7 @@ inCommand test Tick = false
 inCommand test Lost = false
 inCommand test (Policy speaker s room) = test s
 
--- "INS not E6, E4, E2, F2, CA"; of a policy update not E2
+-- "INS not E6, E4, E2, F2, CA"; of a policy update not E2 (decision B81)
 abbrev pub instructionUnknown : Call → Bool
 instructionUnknown (Command verdict s room) = instructionWrong s
 instructionUnknown (Keyed aid) = false
@@ -52,7 +52,7 @@ instructionUnknown Tick = false
 instructionUnknown Lost = false
 instructionUnknown (Policy speaker s room) = notStoreData s
 
--- a policy update's data field, or else its speaker and its policy
+-- a policy update's data field, or else its speaker and its policy (decision B83)
 abbrev pub updateWrong : List ℕ → operator.Policy → Bool
 updateWrong speaker update.Wrong = true
 updateWrong speaker (update.Found p) = innerWrong speaker (setPolicy p)
@@ -86,6 +86,6 @@ rowsAfter c call =
     ∷ row (noRoom c (asked c call)) NoRoom
     ∷ []
 
--- the whole table: "the card is not sound" stands first
+-- the whole table: "the card is not sound" stands first (decisions 15, B3)
 abbrev pub table : Card → Call → List Row
 table c call = soundRow c ∷ rowsAfter c call

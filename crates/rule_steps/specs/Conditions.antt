@@ -19,7 +19,8 @@ use Rattle.card_record.specs.declared.Card.{Card}
 use Rattle.rule_steps.specs.Asked.{Act, Act.enable, Act.disable, Act.delete, Act.masterDelete, Act.setFallBack, Act.status, Act.keyed, Act.stored, Act.finished, Act.setPolicy, Asked, Asked.unread, Asked.create, Asked.on, Asked.confirm, Asked.statusOfAll, Asked.getData, Asked.tick, Asked.lost}
 
 -- "6A 80: .. inner call's values wrong": "An AID handed to an inner call is wrong unless it has 5 to 16 bytes", the policy unless Table 70 has it,
--- the mark unless it is 0 or 1; request 2026-06: "AID length or coding wrong, or the two delete rules together 6A 80"
+-- the mark unless it is 0 or 1; request 2026-06: "AID length or coding wrong,
+-- or the two delete rules together 6A 80" (decisions 41, B57, B83)
 abbrev pub innerWrong : List ℕ → Act → Bool
 innerWrong aid enable = false
 innerWrong aid disable = false
@@ -33,7 +34,7 @@ innerWrong aid (finished policy mark) = not (aidOk aid && (policyOk policy && ma
 innerWrong aid (setPolicy policy) = not (aidOk aid && policyOk policy)
 
 -- "69 85: a change is open, for create, enable, disable, delete, master delete, set fall-back; none is open, for confirmation"; request 2026-06:
--- for the policy update too
+-- for the policy update too (decisions 37, 58)
 abbrev pub asksForQuiet : Act → Bool
 asksForQuiet enable = true
 asksForQuiet disable = true
@@ -57,7 +58,7 @@ changeWrong c tick = false
 changeWrong c lost = false
 
 -- "6A 88: target AID not held (all but create); confirmation not of the outstanding number"; request 2026-05: P2 03 "with no listing open 6A 88
--- in the target's place"
+-- in the target's place" (decisions 34, B73)
 abbrev pub targetMissing : Card → Asked → Bool
 targetMissing c unread = false
 targetMissing c (create aid quota) = false
@@ -68,7 +69,7 @@ targetMissing c getData = false
 targetMissing c tick = false
 targetMissing c lost = false
 
--- "6A 80: create with an AID already held"
+-- "6A 80: create with an AID already held" (decision 36)
 abbrev pub alreadyHeld : Card → Asked → Bool
 alreadyHeld c unread = false
 alreadyHeld c (create aid quota) = held (profileOf c aid)
@@ -81,7 +82,7 @@ alreadyHeld c lost = false
 
 -- "69 85: target in the wrong state (steps below)": "Keyed: SELECTABLE", "Stored n: PERSONALIZED only", "Finished ..: PERSONALIZED, used over 0";
 -- request 2026-02: "69 85 for set fall-back on an unmarked target, among the wrong-state tests"; request 2026-03: "69 85 for Delete narrows
--- to ENABLED or fall-back"; request 2026-06: "that profile not enabled 69 85"
+-- to ENABLED or fall-back"; request 2026-06: "that profile not enabled 69 85" (decisions 39, 42, B58)
 abbrev pub actStateWrong : Card → List ℕ → Act → Bool
 actStateWrong c aid enable = not (eqb (profileOf c aid .life) disabled)
 actStateWrong c aid disable = not (isEnabled (profileOf c aid) && not (eqb (placeOf c aid) (c .fallback)))
@@ -104,7 +105,8 @@ stateWrong c getData = false
 stateWrong c tick = false
 stateWrong c lost = false
 
--- "69 E1: policy forbids": enabling "if the enabled profile forbids disabling", disabling "if it forbids disabling", deletion "if it forbids deletion"
+-- "69 E1: policy forbids": enabling "if the enabled profile forbids disabling", disabling "if it forbids disabling",
+-- deletion "if it forbids deletion" (decisions 8, 42, B62)
 abbrev pub actForbidden : Card → List ℕ → Act → Bool
 actForbidden c aid enable = forbidsDisabling (at (c .places) (enabledPlace c) .policy)
 actForbidden c aid disable = forbidsDisabling (profileOf c aid .policy)
@@ -127,7 +129,7 @@ policyForbids c getData = false
 policyForbids c tick = false
 policyForbids c lost = false
 
--- "69 82: master delete: token verdict handed in is not 1"
+-- "69 82: master delete: token verdict handed in is not 1" (decision 21)
 abbrev pub actVerdictWrong : Act → Bool
 actVerdictWrong enable = false
 actVerdictWrong disable = false
@@ -150,7 +152,8 @@ verdictWrong getData = false
 verdictWrong tick = false
 verdictWrong lost = false
 
--- "6A 84: create: 8 held, or quota over free; stored: used + n over quota"; request 2026-05: 32 held
+-- "6A 84: create: 8 held, or quota over free; stored: used + n over quota"; request 2026-05: 32 held;
+-- n is any number of 32 bits (decision 40)
 abbrev pub actNoRoom : Card → List ℕ → Act → Bool
 actNoRoom c aid enable = false
 actNoRoom c aid disable = false
@@ -163,6 +166,7 @@ actNoRoom c aid (stored n) = not (leb (profileOf c aid .used + n) (profileOf c a
 actNoRoom c aid (finished policy mark) = false
 actNoRoom c aid (setPolicy policy) = false
 
+-- "quota over free": over the capacity it was wrong data before (decision 26)
 abbrev pub noRoom : Card → Asked → Bool
 noRoom c unread = false
 noRoom c (create aid quota) = not (ltb (freePlace c) mostPlaces) || not (leb quota (freeIn c))
@@ -173,7 +177,7 @@ noRoom c getData = false
 noRoom c tick = false
 noRoom c lost = false
 
--- the rows of the table that look at the card
+-- the rows of the table that look at the card; the state before the policy (decisions 11, 36)
 abbrev pub cardRows : Card → Asked → List Row
 cardRows c a =
     row (changeWrong c a) StateWrong

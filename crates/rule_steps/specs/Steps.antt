@@ -22,11 +22,11 @@ use Rattle.base_bytes.specs.Put.{put}
 use Rattle.rule_steps.specs.Asked.{Act, Act.enable, Act.disable, Act.delete, Act.masterDelete, Act.setFallBack, Act.status, Act.keyed, Act.stored, Act.finished, Act.setPolicy, Asked, Asked.unread, Asked.create, Asked.on, Asked.confirm, Asked.statusOfAll, Asked.getData, Asked.tick, Asked.lost}
 use Rattle.rule_steps.specs.Conditions.{innerWrong, cardRows}
 
--- nothing changes, but that a listing is forgotten
+-- nothing changes, but that a listing is forgotten (decision B75)
 abbrev pub still : Card → Step
 still c = stepTo c (forgotten c) noAid
 
--- where a listing begins: at the lowest place, and with P2 03 at the kept one
+-- where a listing begins: at the lowest place, and with P2 03 at the kept one (decision B72)
 abbrev pub beginsAt : Card → Bool → ℕ
 beginsAt c next = cond next (c .kept) 0
 
@@ -34,10 +34,11 @@ beginsAt c next = cond next (c .kept) 0
 abbrev pub goesOnAt : Card → Bool → Bool → Bool → ℕ
 goesOnAt c next life fallback = leftAfter c (beginsAt c next) life fallback
 
--- "as many whole rows as fit 255 bytes with 63 10": 90 00 where none is left
+-- "as many whole rows as fit 255 bytes with 63 10": 90 00 where none is left (decision B74)
 abbrev pub partWord : ℕ → Status
 partWord left = cond (eqb left noPlace) Done More
 
+-- naming the holder, or setting the policy that stands, is a step like any other (decisions 38, B84)
 abbrev pub actStep : Card → List ℕ → Act → Step
 -- "Enable: .. They trade states; Trial."
 actStep c aid enable = stepTo c (opened c (placeOf c aid)) noAid
@@ -91,7 +92,7 @@ responseOf c getData = dataResponse c
 responseOf c tick = []
 responseOf c lost = []
 
--- "Otherwise 90 00": the word of success; of a listing "63 10 is a success" too
+-- "Otherwise 90 00": the word of success; of a listing "63 10 is a success" too (decision B36)
 abbrev pub successOf : Card → Asked → Status
 successOf c unread = Done
 successOf c (create aid quota) = Done
@@ -115,7 +116,7 @@ innerWork c aid act =
       response = actResponse c aid act;
     }
 
--- an outcome as it is handed out over a lent buffer: the answer, and in the buffer the response and then its old bytes
+-- an outcome as it is handed out over a lent buffer: the answer, and in the buffer the response and then its old bytes (decisions 20, B9)
 pub record Handed (old : List ℕ) (o : Outcome) (r : Answer) (new : List ℕ) : Type 0 where
   pub answer : r ≡ handed o
   pub content : new ≡ put old 0 (o .response)

@@ -18,7 +18,7 @@ use Rattle.card_record.specs.declared.Phase.the-variants.{Quiet, Trial, Back, F
 use Rattle.script_table.specs.Letters.{text}
 use Rattle.script_table.specs.Profiles.{hex8, aidText, tableText, mostTable}
 
--- the word, and what it means
+-- the word, and what it means (decisions B59, B76)
 unfoldable pub meaningOf : Status → List ℕ
 meaningOf Unsound = text "the card is not sound"
 meaningOf BufferShort = text "response buffer under 256 bytes"
@@ -81,7 +81,7 @@ phaseText (Trial previous left number) = trialText previous left number
 phaseText (Back left number) = text "phase back: " ++ openText left number
 phaseText (Fallen left number) = text "phase fallen: " ++ openText left number
 
--- a card that keeps no place has no listing open
+-- a card that keeps no place has no listing open (decision B76)
 unfoldable pub listingText : ℕ → List ℕ
 listingText kept = pick (isSame kept noPlace) [] (text "listing open: next row at place " ++ decimalText kept ++ text "\n")
 

@@ -66,7 +66,7 @@ abbrev pub onSent {ℓ} : {X : Type ℓ} → Sent → (Reason → X) → (Part �
 onSent (sent.Wrong why) g f = g why
 onSent (sent.Is bytes room) g f = f bytes room
 
--- HEX, or HEX LENGTH: a command, and "a response buffer of 256 bytes, or of LENGTH", 0 to 1,024
+-- HEX, or HEX LENGTH: a command, and "a response buffer of 256 bytes, or of LENGTH", 0 to 1,024 (decision B25)
 unfoldable pub sentAt : List ℕ → ℕ → Sent
 sentAt s at =
     onBytes (bytesAt s at) sent.Wrong λ bytes b.
@@ -78,7 +78,7 @@ commandAt s at =
     onValue (valueAt most8 s at) order.Wrong λ verdict b.
     onSent (sentAt s b) order.Wrong λ bytes room. order.Call (call.Command verdict bytes) room
 
--- SPEAKER HEX, or SPEAKER HEX LENGTH: the AID of the profile whose domain speaks, and the command that this domain was sent
+-- SPEAKER HEX, or SPEAKER HEX LENGTH: the AID of the profile whose domain speaks, and the command that this domain was sent (decision B85)
 unfoldable pub policyAt : List ℕ → ℕ → Order
 policyAt s at =
     onBytes (bytesAt s at) order.Wrong λ speaker b.
@@ -98,14 +98,14 @@ storedAt s at =
     onBytes (bytesAt s at) order.Wrong λ aid b.
     onValue (valueAt most32 s b) order.Wrong λ n e. inner (call.Stored aid n)
 
--- AID POLICY, or AID POLICY MARK: where MARK is missing the profile counts as marked
+-- AID POLICY, or AID POLICY MARK: where MARK is missing the profile counts as marked (decision B59)
 unfoldable pub finishedAt : List ℕ → ℕ → Order
 finishedAt s at =
     onBytes (bytesAt s at) order.Wrong λ aid b.
     onValue (valueAt most8 s b) order.Wrong λ policy c.
     onValue (valueOr 1 most8 s c) order.Wrong λ mark e. inner (call.Finished aid policy mark)
 
--- `card` EID CAPACITY VOLATILE FREE LAST FALLBACK PHASE KEPT, and a word for each place
+-- `card` EID CAPACITY VOLATILE FREE LAST FALLBACK PHASE KEPT, and a word for each place (decisions B68, B76)
 abbrev pub recordWords : ℕ
 recordWords = 9 + mostPlaces
 
@@ -122,7 +122,7 @@ orderBy verb.Policy n s at = counted 3 4 n (policyAt s at)
 orderBy verb.Card n s at = counted recordWords recordWords n (order.Record at)
 orderBy verb.Unknown n s at = order.Wrong UnknownWord
 
--- "(a line has at most 4,096 bytes)"
+-- "(a line has at most 4,096 bytes)": its length is looked at first, then its first word (decisions B22, B23, B24)
 unfoldable pub orderOf : List ℕ → Order
 orderOf s =
     pick (isBelow longest (length s)) (order.Wrong TooLong)

@@ -17,7 +17,7 @@ use Rattle.script_record.specs.declared.arguments.Bytes.the-variants as 
 use Rattle.script_record.specs.declared.arguments.Value.{Value}
 use Rattle.script_record.specs.declared.arguments.Value.the-variants as value
 
--- the most that a number of 32, 16 and 8 bits can be
+-- the most that a number of 32, 16 and 8 bits can be (decision B25)
 abbrev pub most32 : ℕ
 most32 = 4294967295
 

@@ -86,7 +86,7 @@ phaseWord w =
     pick (sameBytes (part w a e) (ascii "B")) (phased.Is (Back left number))
     (pick (sameBytes (part w a e) (ascii "F")) (phased.Is (Fallen left number)) phased.Wrong)))
 
--- QUOTA:USED:POLICY:MARK
+-- QUOTA:USED:POLICY:MARK: a record handed in is spelled whole (decision B59)
 unfoldable pub sizesFields : List ℕ → ℕ → Sizes
 sizesFields w at =
     onField (numberField most32 w at) sizes.Wrong λ quota b.

@@ -68,7 +68,7 @@ phaseAt s at =
     onWord (wordAt s at) (phaseread.Wrong WordsMissing) λ a e.
     onPhased (phaseWord (part s a e)) (phaseread.Wrong BadPhase) λ phase. phaseread.Is phase e
 
--- KEPT: `-`, or the number of a place. The number that stands for none is not taken, so that none has one spelling
+-- KEPT: `-`, or the number of a place. The number that stands for none is not taken, so that none has one spelling (decision B76)
 unfoldable pub keptIn : List ℕ → Number
 keptIn w = pick (sameBytes w (ascii "-")) (number.Value noPlace) (decimalOf (noPlace - 1) w)
 
@@ -83,7 +83,7 @@ pendingAt s at =
     onPhase (phaseAt s at) pending.Wrong λ phase b.
     onValue (keptAt s b) pending.Wrong λ kept next. pending.Is phase kept next
 
--- CAPACITY VOLATILE FREE, and the place after them
+-- CAPACITY VOLATILE FREE, and the place after them (decision B68)
 unfoldable pub memoryAt : List ℕ → ℕ → Memory
 memoryAt s at =
     onValue (valueAt most32 s at) memory.Wrong λ capacity b.
@@ -125,7 +125,7 @@ recordWith s at eid =
     onReading (placesOn mostPlaces s next [] .reading) noRecord
     (fine eid capacity volatile free last fallback phase kept (placesOn mostPlaces s next [] .places))
 
--- the words after `card`
+-- the words after `card`; an EID that has not 16 bytes is bad hex (decision B25)
 unfoldable pub recordAt : List ℕ → ℕ → Record
 recordAt s at =
     onWord (wordAt s at) (noRecord WordsMissing) λ a e.

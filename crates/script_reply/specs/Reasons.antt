@@ -6,6 +6,7 @@ use Rattle.script_record.specs.declared.arguments.Reason.{Reason}
 use Rattle.script_record.specs.declared.arguments.Reason.the-variants.{TooLong, UnknownWord, WordsMissing, TooManyWords, BadHex, BadNumber, BadPlace, BadPhase}
 use Rattle.script_table.specs.Letters.{text}
 
+-- one reason is told, the first that is wrong (decision B23)
 unfoldable pub reasonText : Reason → List ℕ
 reasonText TooLong = text "too long"
 reasonText UnknownWord = text "unknown word"

@@ -60,7 +60,7 @@ bytesIn s code.Tick = []
 bytesIn s code.Lost = []
 bytesIn s (code.Policy speaker bytes) = bytesOf s speaker ++ bytesOf s bytes
 
--- `card` hands in any record: 6F 00 where it is not sound, else 90 00 and its ticks
+-- `card` hands in any record: 6F 00 where it is not sound, else 90 00 and its ticks (decisions B26, B75)
 abbrev pub recordWork : Card → Work
 recordWork c = record { rows = []; success = Done; step = stepTo c c noAid; response = [] }
 
@@ -101,6 +101,7 @@ firstReply explain o = replyOf explain (isDone (o .status)) [] o
 abbrev pub silentReply : Card → Bool → Reply
 silentReply c found = record { card = c; sound = found; text = []; goes = true; bytes = []; response = [] }
 
+-- a bad line is told by its text, and ends its own script (decision B27)
 abbrev pub faultReply : Card → Bool → ℕ → Reason → Reply
 faultReply c found n reason = record { card = c; sound = found; text = reasonLine n reason; goes = false; bytes = []; response = [] }
 
@@ -114,7 +115,7 @@ replyBy answer c found explain n s (order.Record at) =
     onReading (recordAt s at .reading) (faultReply c found n) (firstReply explain (recordOutcome (recordAt s at .card)))
 replyBy answer c found explain n s (order.Wrong reason) = faultReply c found n reason
 
--- a call on a card known to be sound, or on one that has to be asked
+-- a call on a card known to be sound, or on one that has to be asked (decision B29)
 abbrev pub answerTo : Bool → Card → Call → Outcome
 answerTo found c call = cond found (onSound c call) (step c call)
 
@@ -142,12 +143,12 @@ askedScript c explain n (s ∷ rest) =
     askedLine c explain n s .text
     ++ cond (askedLine c explain n s .goes) (askedScript (askedLine c explain n s .card) explain (suc n) rest) []
 
--- every script is answered as if soundness were asked at every call, wherever it is kept and wherever it is forgotten
+-- every script is answered as if soundness were asked at every call, wherever it is kept and wherever it is forgotten (decision B29)
 abbrev pub AskedOnce : Type 0
 AskedOnce =
     (keep : ℕ → Bool) (explain : Bool) (lines : List (List ℕ)) →
     scriptOf keep zeroCard false explain 1 lines ≡ askedScript zeroCard explain 1 lines
 
--- no text of a line is longer: two digits for each byte of the largest response buffer, and what stands beside them
+-- no text of a line is longer: two digits for each byte of the largest response buffer, and what stands beside them (decision B30)
 abbrev pub mostText : ℕ
 mostText = mostRoom * 2 + mostExplained

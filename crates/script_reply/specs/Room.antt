@@ -9,7 +9,7 @@ use Rattle.script_line.specs.declared.Order.{Order}
 use Rattle.script_line.specs.declared.Order.the-variants as order
 use Rattle.script_reply.specs.Replies.{mostBytes, mostRoom, bytesOf, bytesIn}
 
--- the two byte strings of a fresh card have a buffer each, those of a call one together
+-- the two byte strings of a fresh card have a buffer each, those of a call one together (decision B85)
 abbrev pub HasRoom : List ℕ → Order → Type 0
 HasRoom s order.Nothing = Unit {0}
 HasRoom s (order.Fresh eid aid capacity quota used volatile) = (length (bytesOf s eid) ≤ mostBytes) × (length (bytesOf s aid) ≤ mostBytes)

@@ -11,7 +11,7 @@ use Rattle.record_door.specs.declared.Call as declared
 use Rattle.script_reply.specs.Replies.{callIn, bytesIn, Reply, mostText}
 use Rattle.script_session.specs.declared.Turn.{Turn}
 
--- "Calls before the first accepted `fresh` or `card` act on the record of zeros", which is not sound
+-- "Calls before the first accepted `fresh` or `card` act on the record of zeros", which is not sound (decision B26)
 abbrev pub firstTurn : Turn
 firstTurn = record { card = zeroCard; sound = false; filled = 0; goes = true }
 

@@ -37,7 +37,7 @@ ghost use Rattle.script_session.specs.Session.{firstTurn, Laid, Replied,
 
 // Where a session stands: its card, whether that card is known to be sound, up to where the lent buffer is filled, and whether the run
 // goes on. Soundness is asked where a card is handed in, and kept: every call leaves a sound card sound. Where it is not known, each
-// call asks for itself.
+// call asks for itself (decision B29).
 pub struct Turn {
     pub card: Card,
     pub sound: bool,
@@ -158,7 +158,7 @@ fn write_text(explain: bool, answer: Answer, response: &[u8], out: &mut [u8], at
     ensures { λ r. ⌜ Wrote (now (out .entry)) at (answerText explain answer (now (response .entry))) r (now (out .exit)) × (length (answerText explain answer (now (response .entry))) ≤ length (now (response .entry)) * 2 + mostExplained) ⌝ }
 {
     if explain {
-        // only this arm hands the card on, so that only it copies it
+        // only this arm hands the card on, so that only it copies it (decision B42)
         let shown = answer;
         return write_explained(shown, response, out, at);
     }

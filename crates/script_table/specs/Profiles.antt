@@ -54,7 +54,7 @@ stateText life =
 unfoldable pub yesText : Bool → ℕ → List ℕ
 yesText told rest = pick told (text "yes" ++ spaces rest) (text "   " ++ spaces rest)
 
--- the mark of provisioning capability in a column of twelve; one that no profile of a sound card has in hex
+-- the mark of provisioning capability in a column of twelve; one that no profile of a sound card has in hex (decision B59)
 unfoldable pub provisioningText : ℕ → List ℕ
 provisioningText mark = pick (isBelow 1 mark) (hex8 mark ++ spaces 10) (yesText (eqb mark 1) 9)
 

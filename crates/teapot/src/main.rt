@@ -21,7 +21,7 @@ ghost use lib.ListN.{length};
 ghost use Rattle.script_reply.specs.Replies.{mostText};
 
 // The bytes collected before they are written out, and the room that is kept for the answer of one line: no answer is longer, which
-// `make_room` promises.
+// `make_room` promises (decision B30).
 const OUT: usize = 32768;
 
 const ANSWER: usize = 16384;

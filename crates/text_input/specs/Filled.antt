@@ -25,6 +25,7 @@ Brings arrival.End bytes = bytes ≡ []
 Brings arrival.Failed bytes = bytes ≡ []
 Brings arrival.Full bytes = bytes ≡ []
 
+-- the system says which bytes, so that this promise alone is not unique (decision B20)
 pub record FilledFrom (w : Window) (buf : List ℕ) (r : Filled) (m : List ℕ) : Type 0 where
   pub bytes : List ℕ
   pub held : heldOf (r .window) m ≡ heldOf w buf ++ bytes

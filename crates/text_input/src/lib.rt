@@ -1,4 +1,4 @@
-// Reads from a descriptor into a window of lines. A read that failed is told from the end of the input.
+// Reads from a descriptor into a window of lines. A read that failed is told from the end of the input (decision B27).
 ghost use mathlib.Core.Path.{_≡_};
 ghost use Rattle.text_input.specs.Filled.{arrivalOf, FilledFrom};
 use text_lines::Window;

@@ -5,7 +5,7 @@ use mathlib.Core.List.{List, [], _∷_, _++_}
 use lib.ListN.{length}
 use Rattle.base_choice.specs.Choice.{pick, isBelow, isSame}
 
--- the most bytes of a line, without its end
+-- the most bytes of a line, without its end (decision B24)
 abbrev pub longest : ℕ
 longest = 4096
 
@@ -19,7 +19,7 @@ pub data Line : Type 0 where
 unfoldable pub lineOf : List ℕ → Line
 lineOf line = pick (isBelow longest (length line)) TooLong (Whole line)
 
--- what stands after the last LF; no bytes are no line
+-- what stands after the last LF; no bytes are no line (decision B22)
 unfoldable pub lastOf : List ℕ → List Line
 lastOf [] = []
 lastOf (c ∷ cs) = lineOf (c ∷ cs) ∷ []

@@ -14,7 +14,7 @@ digitsOn most value (c ∷ cs) =
     (pick (isBelow most (value * 10 + (c - 48))) Wrong
     (digitsOn most (value * 10 + (c - 48)) cs)))
 
--- no digits are no number
+-- no digits are no number; zeros may stand in front (decision B25)
 unfoldable pub decimalOf : ℕ → List ℕ → Number
 decimalOf most [] = Wrong
 decimalOf most (c ∷ cs) = digitsOn most 0 (c ∷ cs)

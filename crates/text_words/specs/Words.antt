@@ -26,7 +26,7 @@ abbrev pub closed : List ℕ → List (List ℕ) → List (List ℕ)
 closed [] ws = ws
 closed (c ∷ cs) ws = (c ∷ cs) ∷ ws
 
--- the words of a text, where `word` was read of the one that it begins in
+-- the words of a text, where `word` was read of the one that it begins in (decision B22)
 unfoldable pub wordsOn : List ℕ → List ℕ → List (List ℕ)
 wordsOn word [] = closed word []
 wordsOn word (c ∷ cs) = pick (isSame c 32) (closed word (wordsOn [] cs)) (wordsOn (word ++ (c ∷ [])) cs)

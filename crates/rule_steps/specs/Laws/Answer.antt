@@ -27,7 +27,7 @@ use Rattle.card_record.specs.declared.Phase.{Phase}
 abbrev pub profileAt : Card → ℕ → Isdp
 profileAt c t = at (c .places) t
 
--- place t holds the profile with this AID
+-- place t holds the profile with this AID; the place is handed in, so that a wrong search is refused too (decision B38)
 pub record Holds (c : Card) (aid : List ℕ) (t : ℕ) : Type 0 where
   pub held-there : held (profileAt c t) ≡ true
   pub named : aidOf (profileAt c t) ≡ aid
@@ -51,7 +51,8 @@ pub record Result : Type 0 where
   pub notification : Notification
   pub ticks : ℕ
 
--- 90 00 with this result; EID, capacity, volatile figure and the number of places are never touched, and no place of a listing is kept
+-- 90 00 with this result; EID, capacity, volatile figure and the number of places are never touched,
+-- and no place of a listing is kept (decision 53)
 pub record Answers (c : Card) (r : Result) (o : Outcome) : Type 0 where
   pub status : o .status ≡ Done
   pub eid : o .card .eid ≡ c .eid

@@ -32,7 +32,7 @@ fallsBackTo c t =
       ticks = 0;
     }
 
--- any target, and the holder
+-- any target, and the holder (decision 38)
 pub record SetFallBackAnswers (c : Card) (aid : List ℕ) (o : Outcome) : Type 0 where
   pub target : OnPlace (Holds c aid) (MayBeFallBack c) (λ t. Answers c (fallsBackTo c t)) o
   pub holder : c .phase ≡ Quiet → Holds c aid (c .fallback) → Still c [] o

@@ -21,7 +21,7 @@ pub record MaySetPolicy (c : Card) (policy t : ℕ) : Type 0 where
   pub none-open : c .phase ≡ Quiet
   pub is-enabled : profileAt c t .life ≡ enabled
 
--- the profile has this policy; no response
+-- the profile has this policy; no response (decision B84)
 abbrev pub ruled : Card → ℕ → ℕ → Result
 ruled c policy t = replaced c (c .free) (onlyAt c t (withPolicy (profileAt c t) policy)) [] 0
 
@@ -33,7 +33,7 @@ abbrev pub Right : List ℕ → ℕ → Type 0
 Right speaker policy = (aidOk speaker && policyOk policy) ≡ true
 
 -- "AID length or coding wrong, or the two delete rules together 6A 80; change open 69 85; AID not held 6A 88; that profile not enabled 69 85; in the
--- order of document 01": the word of each refusal, whatever the later ones say
+-- order of document 01": the word of each refusal, whatever the later ones say (decision B83)
 pub record Refused (c : Card) (speaker : List ℕ) (policy : ℕ) (o : Outcome) : Type 0 where
   pub values-wrong : (aidOk speaker && policyOk policy) ≡ false → o .status ≡ DataWrong
   pub change-open : Right speaker policy → (c .phase ≡ Quiet → ⊥) → o .status ≡ StateWrong

@@ -51,7 +51,7 @@ pub record Listed (c : Card) (word : Status) (kept : ℕ) (bytes : List ℕ) (o 
   pub ticks : o .ticks ≡ ticksByPhase c
 
 -- request 2026-05: "as many whole rows as fit 255 bytes with 63 10": the rows from here to the last, 90 00 and none kept; or those before a held
--- place whose row would not have fit, 63 10 and that place kept
+-- place whose row would not have fit, 63 10 and that place kept (decision B72)
 pub data PartAnswers (c : Card) (life attribute : Bool) (from : ℕ) (o : Outcome) : Type 0 where
   to-the-last : Listed c Done noPlace (statusFrom c life attribute from (length (c .places) - from)) o → PartAnswers c life attribute from o
   up-to : (n : ℕ) → from + n < length (c .places) → held (profileAt c (from + n)) ≡ true → 255 < length (statusFrom c life attribute from n) + length (statusAt c life attribute (from + n)) → Listed c More (from + n) (statusFrom c life attribute from n) o → PartAnswers c life attribute from o
