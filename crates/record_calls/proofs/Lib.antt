@@ -1,2 +1,4 @@
--- What the proofs of the functions share.
+-- What the proofs of the functions share, and that their promise has one answer.
 pub mod Accepted
+pub mod Asking
+pub mod Unique

@@ -1,2 +1,2 @@
--- Laws that several proofs cite: responses in a buffer.
+-- Laws that several proofs cite: what a call answers, over the buffer lent.
 pub mod Buffers

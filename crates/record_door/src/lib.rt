@@ -1,37 +1,24 @@
-// The manager of the root domain: one door for every call, answered whole.
+// The manager of the root domain: one door for every call, answered whole. What each call does stands in `record_calls`.
 // `answer` asks first whether the card is sound; `answer_on_sound` is the same for a card known to be, for runs of many calls (decision B10).
 use base_bytes::Part;
 use base_bytes::part_of;
-use base_bytes::put_byte;
 use base_status::Status;
-use card_isdp::Aid;
-use card_places::Found;
 use card_record::Answer;
 use card_record::Card;
 use read_command::Reading;
 use read_command::Request;
 use read_command::read;
 use read_operator::Update;
-use record_responses::Information;
-use record_responses::write_deleted;
-use record_responses::write_information;
-use record_responses::write_part;
 ghost use mathlib.Core.Path.{_≡_};
-ghost use mathlib.Core.List.{_∷_, []};
-ghost use mathlib.Core.Bool.{cond};
 ghost use Prim.Native.Nat.{_≤_};
 ghost use lib.ListN.{length};
-ghost use lib.Dec.{eqb};
-ghost use Rattle.base_bytes.specs.Put.{put};
 ghost use Rattle.card_record.specs.Answers.{handed, known};
 ghost use Rattle.card_record.specs.Fresh.{freshOutcome};
-ghost use Rattle.rule_steps.specs.Asked.{Act.status, Asked.on, Asked.confirm, Asked.statusOfAll, Asked.getData};
-ghost use Rattle.rule_steps.specs.Steps.{partWord, askedWork};
+ghost use Rattle.rule_steps.specs.Steps.{askedWork};
 ghost use Rattle.rule_run.specs.Calls.{Call.Command, Call.Policy, requestAsks};
-ghost use Rattle.record_door.specs.Door.{callOf};
 ghost use Rattle.rule_run.specs.Table.{leastBuffer};
 ghost use Rattle.rule_run.specs.Step.{step, onSound};
-ghost use Rattle.record_door.specs.Door.{Served};
+ghost use Rattle.record_door.specs.Door.{callOf, Served};
 
 // A call over the bytes that it came in: each part names some of them (decisions B15, B16, B32).
 pub enum Call {
@@ -50,98 +37,6 @@ pub enum Call {
 // A lent response buffer has at least so many bytes.
 const BUFFER: usize = 256;
 
-// The response 00 of an accepted creation or deletion.
-fn acknowledged(answer: Answer, buf: &mut [u8]) -> Answer
-    ensures { λ r. ⌜ (r ≡ answer) × (now (buf .exit) ≡ put (now (buf .entry)) 0 (cond (eqb (answer .length) 1) (0 ∷ []) [])) ⌝ }
-{
-    if answer.length == 1 {
-        put_byte(buf, 0, 0);
-    }
-    answer
-}
-
-fn confirm(card: Card, number: u16, buf: &mut [u8]) -> Answer
-    requires { ⌜ leastBuffer ≤ length (now buf) ⌝ }
-    ensures { λ r. ⌜ Served (now (buf .entry)) (known card (askedWork card (confirm number))) r (now (buf .exit)) ⌝ }
-{
-    let phase = card.phase;
-    if phase.is_quiet() {
-        return card.refused(Status::StateWrong);
-    }
-    if !phase.is_outstanding(number) {
-        return card.refused(Status::NotHeld);
-    }
-    let step = card.confirmed();
-    let deleted = step.deleted;
-    let n = write_deleted(deleted, buf, 0);
-    step.answer(Status::Done, n)
-}
-
-// Where a listing begins: at the lowest place, or where it goes on.
-fn begins_at(kept: u8, next: bool) -> u8
-    ensures { λ r. ⌜ r ≡ cond next kept 0 ⌝ }
-{
-    if next {
-        return kept;
-    }
-    0
-}
-
-// The word of a part of a listing: are rows left?
-fn part_word(left: u8) -> Status
-    ensures { λ r. ⌜ r ≡ partWord left ⌝ }
-{
-    if left == Card::NO_PLACE {
-        return Status::Done;
-    }
-    Status::More
-}
-
-fn status_of_all(card: Card, next: bool, life: bool, fallback: bool, buf: &mut [u8]) -> Answer
-    requires { ⌜ leastBuffer ≤ length (now buf) ⌝ }
-    ensures { λ r. ⌜ Served (now (buf .entry)) (known card (askedWork card (statusOfAll next life fallback))) r (now (buf .exit)) ⌝ }
-{
-    if next & (card.kept == Card::NO_PLACE) {
-        return card.refused(Status::NotHeld);
-    }
-    let part = write_part(card, begins_at(card.kept, next), life, fallback, buf, 0);
-    card.keeping(part.left)
-        .step_since(card.last, Aid::none())
-        .answer(part_word(part.left), part.end)
-}
-
-fn status_of_one(card: Card, aid: &[u8], life: bool, fallback: bool, buf: &mut [u8]) -> Answer
-    requires { ⌜ leastBuffer ≤ length (now buf) ⌝ }
-    ensures { λ r. ⌜ Served (now (buf .entry)) (known card (askedWork card (on (now (aid .entry)) (status life fallback)))) r (now (buf .exit)) ⌝ }
-{
-    let Found::At(t) = card.place_of(aid) else {
-        return card.refused(Status::NotHeld);
-    };
-    let n = write_information(
-        card,
-        Information::One {
-            place: t,
-            life,
-            fallback,
-        },
-        buf,
-        0,
-    );
-    card.forgotten()
-        .step_since(card.last, Aid::none())
-        .answer(Status::Done, n)
-}
-
-fn get_data(card: Card, buf: &mut [u8]) -> Answer
-    requires { ⌜ leastBuffer ≤ length (now buf) ⌝ }
-    ensures { λ r. ⌜ Served (now (buf .entry)) (known card (askedWork card getData)) r (now (buf .exit)) ⌝ }
-{
-    let n = write_information(card, Information::Data, buf, 0);
-    card.forgotten()
-        .step_since(card.last, Aid::none())
-        .answer(Status::Done, n)
-}
-
 // What a request asks, done on a card known to be sound.
 fn serve(card: Card, verdict: u8, request: Request, bytes: &[u8], buf: &mut [u8]) -> Answer
     requires { ⌜ leastBuffer ≤ length (now buf) ⌝ }
@@ -149,30 +44,27 @@ fn serve(card: Card, verdict: u8, request: Request, bytes: &[u8], buf: &mut [u8]
 {
     match request {
         Request::Create { aid, quota } => {
-            acknowledged(record_calls::create(card, part_of(bytes, aid), quota), buf)
+            record_calls::create(card, part_of(bytes, aid), quota, buf)
         }
         Request::Enable(aid) => record_calls::enable(card, part_of(bytes, aid)),
         Request::Disable(aid) => record_calls::disable(card, part_of(bytes, aid)),
         Request::SetFallBack(aid) => record_calls::set_fall_back(card, part_of(bytes, aid)),
-        Request::Delete(aid) => acknowledged(record_calls::delete(card, part_of(bytes, aid)), buf),
+        Request::Delete(aid) => record_calls::delete(card, part_of(bytes, aid), buf),
         Request::MasterDelete(aid) => {
-            acknowledged(
-                record_calls::master_delete(card, part_of(bytes, aid), verdict),
-                buf,
-            )
+            record_calls::master_delete(card, part_of(bytes, aid), verdict, buf)
         }
-        Request::Confirm(number) => confirm(card, number, buf),
+        Request::Confirm(number) => record_calls::confirm(card, number, buf),
         Request::GetStatusOfAll {
             next,
             life,
             fall_back,
-        } => status_of_all(card, next, life, fall_back, buf),
+        } => record_calls::status_of_all(card, next, life, fall_back, buf),
         Request::GetStatusOfOne {
             aid,
             life,
             fall_back,
-        } => status_of_one(card, part_of(bytes, aid), life, fall_back, buf),
-        Request::GetData => get_data(card, buf),
+        } => record_calls::status_of_one(card, part_of(bytes, aid), life, fall_back, buf),
+        Request::GetData => record_calls::get_data(card, buf),
     }
 }
 

@@ -1,15 +1,13 @@
--- `manager::answer`: a card that is not sound is stopped by the first row; on a sound one `answer_on_sound` answers the same.
-use mathlib.Core.Path.{ap, sym, _∙_}
-use native.Mathlib.Omega.{arith}
+-- `door::answer`: a card that is not sound is stopped by the first row; on a sound one `answer_on_sound` answers the same.
+use mathlib.Core.Path.{refl, sym, _∙_}
 use lib.ListN.{length}
 use borrow.Author.Tests.{not-true, not-false}
-use Rattle.base_bytes.proofs.PutLaws.{put-none}
-use Rattle.card_record.specs.Answers.{handed}
 use Rattle.card_record.proofs.Outcomes.{stopped}
 use Rattle.rule_run.specs.Calls.{Call}
 use Rattle.record_door.specs.Door.{callOf}
 use Rattle.rule_run.specs.Step.{work, step}
 use Rattle.rule_run.proofs.Kept.{on-sound-agrees}
+use Rattle.record_door.proofs.Buffers.{kept}
 use borrow.Author.Needs.{needs}
 use Rattle.record_door.proofs.answer.Statement.{statement}
 use Rattle.record_door.proofs.answer.Tie as tie
@@ -26,7 +24,7 @@ returns c =
     let e = c .before in
     let s = start (e .before) in
     let z = stopped (s .args .card) (work (s .args .card) (call s)) (sym (e .before .is-sound .ensures) ∙ not-true _ (e .if1 .taken)) in
-    (record { answer = c .unsound .ensures ∙ ap handed (sym z); content = rw z (sym (put-none _ 0)) }, rw (c .unsound .ensures) (omega arith))
+    rw z (kept _ refl (c .unsound .ensures))
 
 returns-2 : tie.Need-returns-2
 returns-2 c =
@@ -38,9 +36,5 @@ pub answer-spec : {M : Type 1} → statement M
 answer-spec =
     tie.close
     (tie.spec
-    (λ c κs. search needs)
-    (λ c κs. search needs)
-    returns
-    (λ c κs. search needs)
-    (λ c. search needs)
-    returns-2)
+    (λ c κs. search needs) (λ c κs. search needs) returns
+    (λ c κs. search needs) (λ c. search needs) returns-2)

@@ -1,14 +1,14 @@
--- `manager::command`: the row of the buffer, then the rows of reading (proofs/Readings), then what the request asks.
-use mathlib.Core.Path.{ap, sym, _∙_}
+-- `door::command`: the row of the buffer, then the rows of reading (proofs/Readings), then what the request asks.
+use mathlib.Core.Path.{refl, ap, sym, _∙_}
 use native.Mathlib.Omega.{arith}
 use lib.ListN.{length}
 use borrow.Author.Tests.{lt-ltb}
 use Rattle.base_status.specs.Rows.{wordOf}
-use Rattle.base_bytes.proofs.PutLaws.{put-none}
 use Rattle.read_command.specs.Reading.{readingWord}
 use Rattle.rule_run.specs.Table.{leastBuffer}
 use Rattle.rule_run.specs.Step.{onSound}
 use Rattle.rule_run.proofs.Readings.{refused-read, known-read}
+use Rattle.record_door.proofs.Buffers.{kept}
 use borrow.Author.Needs.{needs}
 use Rattle.record_door.proofs.command.Statement.{statement}
 use Rattle.record_door.proofs.command.Tie as tie
@@ -20,7 +20,7 @@ returns : tie.Need-returns
 unfolding onSound wordOf
 returns c =
     let e = lt-ltb (length (c .before .before .before .before .args .buf .now)) leastBuffer (c .before .if1 .taken) in
-    (record { answer = rw e (c .refused .ensures); content = rw e (sym (put-none _ 0)) }, rw (c .refused .ensures) (omega arith))
+    rw e (kept _ refl (c .refused .ensures))
 
 returns-2 : tie.Need-returns-2
 returns-2 c =
@@ -29,7 +29,7 @@ returns-2 c =
     let s = start r in
     let e = refused-read (s .args .card) (s .args .verdict) (s .args .bytes .now) (length (s .args .buf .now)) (omega arith) _ (sym (o .enum-told .given .1) ∙ r .read .ensures) in
     let w = c .before .word .ensures ∙ ap readingWord (o .enum-told .given .1) in
-    (record { answer = rw e (rw w at (c .refused2 .ensures)); content = rw e (sym (put-none _ 0)) }, rw (c .refused2 .ensures) (omega arith))
+    rw e (kept _ refl (rw w at (c .refused2 .ensures)))
 
 returns-3 : tie.Need-returns-3
 returns-3 c =
@@ -42,14 +42,6 @@ pub command-spec : {M : Type 1} → statement M
 command-spec =
     tie.close
     (tie.spec
-    (λ c κs. search needs)
-    returns
-    (λ c κs. search needs)
-    (λ c. search needs)
-    (λ c. search needs)
-    (λ c κs. search needs)
-    (λ c κs. search needs)
-    returns-2
-    (λ c κs. search needs)
-    (λ c. search needs)
-    returns-3)
+    (λ c κs. search needs) returns
+    (λ c κs. search needs) (λ c. search needs) (λ c. search needs) (λ c κs. search needs) (λ c κs. search needs) returns-2
+    (λ c κs. search needs) (λ c. search needs) returns-3)

@@ -1,16 +1,15 @@
--- `manager::policy`: the row of the buffer, then the rows of reading (proofs/Updates), then what the update asks, which has no response.
+-- `door::policy`: the row of the buffer, then the rows of reading (proofs/Updates), then what the update asks, which has no response.
 use mathlib.Core.Path.{refl, ap, sym, _∙_}
 use native.Mathlib.Omega.{arith}
 use lib.ListN.{length}
 use borrow.Author.Tests.{lt-ltb}
 use Rattle.base_status.specs.Rows.{wordOf}
-use Rattle.base_bytes.proofs.PutLaws.{put-none}
 use Rattle.read_operator.specs.Reading.{updateWord}
 use Rattle.rule_steps.specs.Asked.{Act.setPolicy}
 use Rattle.rule_steps.specs.Steps.{innerWork}
 use Rattle.rule_run.specs.Table.{leastBuffer}
 use Rattle.rule_run.specs.Step.{onSound}
-use Rattle.record_door.proofs.Buffers.{none-served}
+use Rattle.record_door.proofs.Buffers.{kept, none-served}
 use Rattle.rule_run.proofs.Updates.{refused-update, known-update}
 use borrow.Author.Needs.{needs}
 use Rattle.record_door.proofs.policy.Statement.{statement}
@@ -23,7 +22,7 @@ returns : tie.Need-returns
 unfolding onSound wordOf
 returns c =
     let e = lt-ltb (length (c .before .before .before .before .before .args .buf .now)) leastBuffer (c .before .if1 .taken) in
-    (record { answer = rw e (c .refused .ensures); content = rw e (sym (put-none _ 0)) }, rw (c .refused .ensures) (omega arith))
+    rw e (kept _ refl (c .refused .ensures))
 
 returns-2 : tie.Need-returns-2
 returns-2 c =
@@ -32,7 +31,7 @@ returns-2 c =
     let s = start r .args in
     let e = refused-update (s .card) (s .speaker .now) (s .bytes .now) (length (s .buf .now)) (omega arith) _ (sym (o .enum-told .given .1) ∙ r .read .ensures) in
     let w = c .before .word .ensures ∙ ap updateWord (o .enum-told .given .1) in
-    (record { answer = rw e (rw w at (c .refused2 .ensures)); content = rw e (sym (put-none _ 0)) }, rw (c .refused2 .ensures) (omega arith))
+    rw e (kept _ refl (rw w at (c .refused2 .ensures)))
 
 returns-3 : tie.Need-returns-3
 returns-3 c =
@@ -46,13 +45,6 @@ pub policy-spec : {M : Type 1} → statement M
 policy-spec =
     tie.close
     (tie.spec
-    (λ c κs. search needs)
-    returns
-    (λ c κs. search needs)
-    (λ c. search needs)
-    (λ c. search needs)
-    (λ c κs. search needs)
-    (λ c κs. search needs)
-    returns-2
-    (λ c κs. search needs)
-    returns-3)
+    (λ c κs. search needs) returns
+    (λ c κs. search needs) (λ c. search needs) (λ c. search needs) (λ c κs. search needs) (λ c κs. search needs) returns-2
+    (λ c κs. search needs) returns-3)
