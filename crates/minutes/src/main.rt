@@ -5,13 +5,14 @@ use base_bytes::same;
 use libc::STDIN_FILENO;
 use libc::STDOUT_FILENO;
 use month_account::write_month;
+use month_contents::MOST_FILE;
 use text_input::Arrival;
 use text_input::arrival_of;
 ghost use Prim.Native.Nat.{_≤_};
 ghost use lib.ListN.{length};
 
 // A file of so many bytes is refused whatever they are, so no more are read (decision B44).
-const FILE: usize = 65537;
+const FILE: usize = MOST_FILE + 1;
 
 // The longest text has room.
 const OUT: usize = 8192;

@@ -5,6 +5,7 @@ mod refusals;
 use month_count::count_month;
 use month_file::Verdict;
 use month_report::write_report;
+use month_tally::MINUTES;
 use refusals::write_refusal;
 ghost use Prim.Native.Nat.{_≤_};
 ghost use lib.ListN.{length};
@@ -15,7 +16,7 @@ ghost use Rattle.month_account.specs.Account.{accountText, mostAccount};
 pub fn write_month(s: &[u8], explain: bool, out: &mut [u8], at: usize) -> usize
     ensures { λ r. ⌜ Wrote (now (out .entry)) at (accountText explain (now (s .entry))) r (now (out .exit)) × (length (accountText explain (now (s .entry))) ≤ mostAccount) ⌝ }
 {
-    let mut minutes = [0u32; 65];
+    let mut minutes = [0u32; MINUTES];
     let month = count_month(s, &mut minutes);
     let verdict = month.verdict;
     match verdict {

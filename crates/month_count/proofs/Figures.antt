@@ -17,7 +17,7 @@ use Rattle.card_record.specs.declared.Card.{Card}
 use Rattle.rule_run.specs.Calls.{Call}
 use Rattle.rule_run.specs.Step.{step}
 use Rattle.rule_run.specs.Runs.{isTick}
-use Rattle.month_tally.specs.Lines.{sameAid, aidsIn, lineOf, noNames, noted, minuteOn}
+use Rattle.month_tally.specs.Lines.{restLine, minutesLength, sameAid, aidsIn, lineOf, noNames, noted, minuteOn}
 use Rattle.month_tally.specs.declared.Names.{Names}
 use Rattle.month_count.specs.Month.{Counted, atFirst, counted, counting}
 use Rattle.month_count.specs.Statements.{monthFrom, figure, reached, enabledIn, isAmong, WhatALineSays}
@@ -31,12 +31,12 @@ use Rattle.month_count.proofs.Settled.{Fit, Settled, Later, later-self,
 pub record Kept (c : Card) (k : Counted) : Type 0 where
   pub fit : Fit (k .tally .names)
   pub settled : Settled (k .tally .names) (enabledAid c)
-  pub size : length (k .minutes) ≡ 65
+  pub size : length (k .minutes) ≡ minutesLength
 
 pub first-kept : (c : Card) → Kept c (atFirst c)
 first-kept c =
     let h = after noNames (enabledAid c) none-fit in
-    record { fit = h .fits; settled = h .settled; size = length-replicate {A = ℕ} 65 0 }
+    record { fit = h .fits; settled = h .settled; size = length-replicate {A = ℕ} minutesLength 0 }
 
 -- a minute more on a line that is there, and nowhere else
 minute-case : (line i : ℕ) (minutes : List ℕ) (b : Bool) → line < length minutes → eqb line i ≡ b → getD (minuteOn line minutes) i 0 ≡ getD minutes i 0 + cond b 1 0
@@ -119,13 +119,13 @@ what-a-line-says c calls =
     let end = monthFrom c calls .tally .names in
     let names = names-from c calls (atFirst c) noNames refl in
     let fit = kept-end c calls (atFirst c) (first-kept c) in
-    let told : (i : ℕ) → i < 65 → getD (monthFrom c calls .minutes) i 0 ≡ figure c calls (has end i) = λ i h.
+    let told : (i : ℕ) → i < minutesLength → getD (monthFrom c calls .minutes) i 0 ≡ figure c calls (has end i) = λ i h.
     let f = figures c calls (atFirst c) i (first-kept c) in
-    let z = getD-replicate {A = ℕ} 65 i 0 0 h in
+    let z = getD-replicate {A = ℕ} minutesLength i 0 0 h in
     omega arith in
     record {
       aids = ap aidsIn names ∙ lines-in-order .first-64 (enabledIn c calls);
       more = ap (λ (n : Names). n .more) names ∙ lines-in-order .rest-from-65 (enabledIn c calls);
       line = λ i h. told i (omega (arith, lines-most end (fit .size))) ∙ figure-same c calls (has end i) (sameAid (getD (aidsIn end) i noAid)) (λ a. line-is end i a fit h);
-      rest = told 64 (omega arith) ∙ figure-same c calls (has end 64) (λ a. not (isAmong a (aidsIn end))) (λ a. rest-is end a fit);
+      rest = told restLine (omega arith) ∙ figure-same c calls (has end restLine) (λ a. not (isAmong a (aidsIn end))) (λ a. rest-is end a fit);
     }

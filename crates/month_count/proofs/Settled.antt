@@ -12,7 +12,7 @@ use borrow.Author.Tests.{ltb-true, ltb-false, lt-ltb, le-ltb, eq-eqb, ne-eqb}
 use Rattle.base_bytes.proofs.Alike.{same-true}
 use Rattle.card_isdp.specs.Aids.{noAid, bytesOf}
 use Rattle.card_isdp.specs.declared.Aid.{Aid}
-use Rattle.month_tally.specs.Lines.{sameAid, seekAid, aidsIn, hasLine, lineOf, noNames, noted}
+use Rattle.month_tally.specs.Lines.{mostLines, restLine, sameAid, seekAid, aidsIn, hasLine, lineOf, noNames, noted}
 use Rattle.month_tally.specs.declared.Names.{Names}
 use Rattle.month_tally.proofs.Seeking.{seek-kept, seek-last}
 use Rattle.month_tally.proofs.Noting.{lines-most, withLine, by-noting, aids-new}
@@ -59,19 +59,19 @@ abbrev Own : List Aid → Type 0
 Own xs = (i : ℕ) → i < length xs → seekAid (getD xs i noAid) xs ≡ i
 
 pub record Fit (n : Names) : Type 0 where
-  pub size : length (n .aids) ≡ 64
+  pub size : length (n .aids) ≡ mostLines
   pub own : Own (aidsIn n)
 
 -- the AID has its line, or shares that of the rest because no line is left
 pub data Settled (n : Names) (a : Aid) : Type 0 where
   on-line : seekAid a (aidsIn n) < length (aidsIn n) → Settled n a
-  in-rest : length (aidsIn n) ≤ seekAid a (aidsIn n) → 64 ≤ length (aidsIn n) → n .more ≡ true → Settled n a
+  in-rest : length (aidsIn n) ≤ seekAid a (aidsIn n) → mostLines ≤ length (aidsIn n) → n .more ≡ true → Settled n a
 
 -- the lines later on: behind the lines that there are, and none where all are taken
 pub record Later (n m : Names) : Type 0 where
   pub new : List Aid
   pub grown : aidsIn m ≡ aidsIn n ++ new
-  pub taken : 64 ≤ length (aidsIn n) → aidsIn m ≡ aidsIn n
+  pub taken : mostLines ≤ length (aidsIn n) → aidsIn m ≡ aidsIn n
 
 pub later-self : (n : Names) → Later n n
 later-self n = record { new = []; grown = sym (append-nil (aidsIn n)); taken = λ h. refl }
@@ -81,17 +81,17 @@ later-then {n} {m} {l} p q =
     record {
       new = p .new ++ q .new;
       grown = q .grown ∙ ap (λ (xs : List Aid). xs ++ q .new) (p .grown) ∙ append-assoc (aidsIn n) (p .new) (q .new);
-      taken = λ h. q .taken (subst (λ (xs : List Aid). 64 ≤ length xs) (sym (p .taken h)) h) ∙ p .taken h;
+      taken = λ h. q .taken (subst (λ (xs : List Aid). mostLines ≤ length xs) (sym (p .taken h)) h) ∙ p .taken h;
     }
 
 -- the line of an AID, by whether it is found
 abbrev lineIn : List Aid → Aid → ℕ
-lineIn xs a = cond (ltb (seekAid a xs) (length xs)) (seekAid a xs) 64
+lineIn xs a = cond (ltb (seekAid a xs) (length xs)) (seekAid a xs) restLine
 
 pub line-found : (xs : List Aid) (a : Aid) → seekAid a xs < length xs → lineIn xs a ≡ seekAid a xs
 line-found xs a h = rw (lt-ltb (seekAid a xs) (length xs) h)
 
-pub line-rest : (xs : List Aid) (a : Aid) → length xs ≤ seekAid a xs → lineIn xs a ≡ 64
+pub line-rest : (xs : List Aid) (a : Aid) → length xs ≤ seekAid a xs → lineIn xs a ≡ restLine
 line-rest xs a h = rw (le-ltb (seekAid a xs) (length xs) h)
 
 -- the line of an AID that was noted never moves
@@ -103,7 +103,7 @@ line-stays n m a p (on-line h) =
 line-stays n m a p (in-rest h k e) = ap (λ (xs : List Aid). lineIn xs a) (p .taken k)
 
 pub none-fit : Fit noNames
-none-fit = record { size = length-replicate 64 noAid; own = λ i h. absurd (omega arith) }
+none-fit = record { size = length-replicate mostLines noAid; own = λ i h. absurd (omega arith) }
 
 -- what holds of the names m once an AID is noted in n
 pub record After (n : Names) (a : Aid) (m : Names) : Type 0 where
@@ -113,7 +113,7 @@ pub record After (n : Names) (a : Aid) (m : Names) : Type 0 where
 
 module _ (n : Names) (a : Aid) (fit : Fit n) where
   -- with a line more
-  module _ (miss : hasLine n a ≡ false) (room : n .count < 64) where
+  module _ (miss : hasLine n a ≡ false) (room : n .count < mostLines) where
     unfound : length (aidsIn n) ≤ seekAid a (aidsIn n)
     unfound = ltb-false (seekAid a (aidsIn n)) (length (aidsIn n)) miss
 
@@ -155,7 +155,8 @@ module _ (n : Names) (a : Aid) (fit : Fit n) where
       })
 
 -- which AIDs are on a line, and which are on none
-line-is-case : (xs : List Aid) (i : ℕ) (a : Aid) (t b : Bool) → Own xs → length xs ≤ 64 → i < length xs → sameAid (getD xs i noAid) a ≡ t → ltb (seekAid a xs) (length xs) ≡ b → eqb (lineIn xs a) i ≡ t
+line-is-case : (xs : List Aid) (i : ℕ) (a : Aid) (t b : Bool) → Own xs → length xs ≤ mostLines → i < length xs
+    → sameAid (getD xs i noAid) a ≡ t → ltb (seekAid a xs) (length xs) ≡ b → eqb (lineIn xs a) i ≡ t
 line-is-case xs i a true b own m h e f =
     let same = seek-same a (getD xs i noAid) xs (sym (same-true _ _ e)) ∙ own i h in
     eq-eqb (lineIn xs a) i (line-found xs a (omega arith) ∙ same)
@@ -170,9 +171,10 @@ pub line-is : (n : Names) (i : ℕ) (a : Aid) → Fit n → i < length (aidsIn n
 line-is n i a fit h =
     line-is-case (aidsIn n) i a (sameAid (getD (aidsIn n) i noAid) a) (hasLine n a) (fit .own) (lines-most n (fit .size)) h refl refl
 
-rest-is-case : (xs : List Aid) (a : Aid) (b : Bool) → length xs ≤ 64 → ltb (seekAid a xs) (length xs) ≡ b → eqb (cond b (seekAid a xs) 64) 64 ≡ not b
-rest-is-case xs a true m e = let k = ltb-true (seekAid a xs) (length xs) e in ne-eqb (seekAid a xs) 64 (λ q. absurd (omega arith))
+rest-is-case : (xs : List Aid) (a : Aid) (b : Bool) → length xs ≤ mostLines → ltb (seekAid a xs) (length xs) ≡ b
+    → eqb (cond b (seekAid a xs) restLine) restLine ≡ not b
+rest-is-case xs a true m e = let k = ltb-true (seekAid a xs) (length xs) e in ne-eqb (seekAid a xs) restLine (λ q. absurd (omega arith))
 rest-is-case xs a false m e = refl
 
-pub rest-is : (n : Names) (a : Aid) → Fit n → eqb (lineOf n a) 64 ≡ not (isAmong a (aidsIn n))
+pub rest-is : (n : Names) (a : Aid) → Fit n → eqb (lineOf n a) restLine ≡ not (isAmong a (aidsIn n))
 rest-is n a fit = rest-is-case (aidsIn n) a (hasLine n a) (lines-most n (fit .size)) refl ∙ ap not (seek-among a (aidsIn n))

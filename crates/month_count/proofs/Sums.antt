@@ -13,7 +13,7 @@ use Rattle.card_record.specs.declared.Card.{Card}
 use Rattle.rule_run.specs.Calls.{Call}
 use Rattle.rule_run.specs.Step.{step}
 use Rattle.rule_run.specs.Runs.{isTick, ticksAmong}
-use Rattle.month_tally.specs.Lines.{seekAid, aidsIn, lineOf, noNames, noted, minuteOn, noMinutes, minutesIn}
+use Rattle.month_tally.specs.Lines.{mostLines, restLine, minutesLength, seekAid, aidsIn, lineOf, noNames, noted, minuteOn, noMinutes, minutesIn}
 use Rattle.month_tally.specs.declared.Names.{Names}
 use Rattle.month_tally.proofs.Noting.{lines-most, withLine, withRest, by-noting, aids-new}
 use Rattle.month_count.specs.Month.{Counted, atFirst, counted, counting}
@@ -39,10 +39,10 @@ lines-minute (x ∷ xs) (suc i) (suc j) h k = let e = lines-minute xs i j (omega
 
 -- the lines and the rest that are told add up to t, and nothing stands elsewhere
 record Sums (n : Names) (minutes : List ℕ) (t : ℕ) : Type 0 where
-  size : length minutes ≡ 65
-  told : minutesIn (take (length (aidsIn n)) minutes) + cond (n .more) (getD minutes 64 0) 0 ≡ t
-  unused : (i : ℕ) → length (aidsIn n) ≤ i → i < 64 → getD minutes i 0 ≡ 0
-  no-rest : n .more ≡ false → getD minutes 64 0 ≡ 0
+  size : length minutes ≡ minutesLength
+  told : minutesIn (take (length (aidsIn n)) minutes) + cond (n .more) (getD minutes restLine 0) 0 ≡ t
+  unused : (i : ℕ) → length (aidsIn n) ≤ i → i < mostLines → getD minutes i 0 ≡ 0
+  no-rest : n .more ≡ false → getD minutes restLine 0 ≡ 0
 
 module _ (n : Names) (minutes : List ℕ) (t : ℕ) (fit : Fit n) (sums : Sums n minutes t) where
   -- a minute on a line
@@ -53,22 +53,22 @@ module _ (n : Names) (minutes : List ℕ) (t : ℕ) (fit : Fit n) (sums : Sums n
       let other : (j : ℕ) → i < j → getD (minuteOn i minutes) j 0 ≡ getD minutes j 0 = λ j k. getD-set-other minutes i j (getD minutes i 0 + 1) 0 (λ q. absurd (omega arith)) in
       record {
         size = length-set minutes i (getD minutes i 0 + 1) ∙ sums .size;
-        told = let g = sums .told in rw (other 64 (omega arith)) (omega arith);
+        told = let g = sums .told in rw (other restLine (omega arith)) (omega arith);
         unused = λ j k l. other j (omega arith) ∙ sums .unused j k l;
-        no-rest = λ m. other 64 (omega arith) ∙ sums .no-rest m;
+        no-rest = λ m. other restLine (omega arith) ∙ sums .no-rest m;
       }
 
   -- a minute of the rest
-  rest-sums : n .more ≡ true → Sums n (minuteOn 64 minutes) (t + 1)
+  rest-sums : n .more ≡ true → Sums n (minuteOn restLine minutes) (t + 1)
   rest-sums m =
       let few = lines-most n (fit .size) in
-      let e = take-set-le (length (aidsIn n)) minutes 64 (getD minutes 64 0 + 1) few in
-      let f = getD-set-same minutes 64 (getD minutes 64 0 + 1) 0 (omega (arith, sums .size)) in
-      let g : minutesIn (take (length (aidsIn n)) minutes) + getD minutes 64 0 ≡ t = rw m at (sums .told) in
+      let e = take-set-le (length (aidsIn n)) minutes restLine (getD minutes restLine 0 + 1) few in
+      let f = getD-set-same minutes restLine (getD minutes restLine 0 + 1) 0 (omega (arith, sums .size)) in
+      let g : minutesIn (take (length (aidsIn n)) minutes) + getD minutes restLine 0 ≡ t = rw m at (sums .told) in
       record {
-        size = length-set minutes 64 (getD minutes 64 0 + 1) ∙ sums .size;
+        size = length-set minutes restLine (getD minutes restLine 0 + 1) ∙ sums .size;
         told = rw (m, e, f) (omega arith);
-        unused = λ j k l. getD-set-other minutes 64 j (getD minutes 64 0 + 1) 0 (λ q. absurd (omega arith)) ∙ sums .unused j k l;
+        unused = λ j k l. getD-set-other minutes restLine j (getD minutes restLine 0 + 1) 0 (λ q. absurd (omega arith)) ∙ sums .unused j k l;
         no-rest = λ x. absurd (false≢true (sym x ∙ m));
       }
 
@@ -81,7 +81,7 @@ module _ (n : Names) (minutes : List ℕ) (t : ℕ) (fit : Fit n) (sums : Sums n
   tick-sums a false s = subst (Sums n minutes) (omega arith) sums
 
   -- an AID noted: a new line has no minutes yet
-  new-sums : (a : Aid) → n .count < 64 → Sums (withLine n a) minutes t
+  new-sums : (a : Aid) → n .count < mostLines → Sums (withLine n a) minutes t
   new-sums a h =
       let lines = length-take (n .count) (n .aids) in
       let size : length (aidsIn (withLine n a)) ≡ suc (length (aidsIn n)) = ap length (aids-new n (fit .size) a h) ∙ length-append (aidsIn n) (a ∷ []) ∙ omega arith in
@@ -104,7 +104,7 @@ module _ (n : Names) (minutes : List ℕ) (t : ℕ) (fit : Fit n) (sums : Sums n
   left-sums =
       record {
         size = sums .size;
-        told = rest-case (n .more) (minutesIn (take (length (aidsIn n)) minutes)) (getD minutes 64 0) (sums .no-rest) (sums .told);
+        told = rest-case (n .more) (minutesIn (take (length (aidsIn n)) minutes)) (getD minutes restLine 0) (sums .no-rest) (sums .told);
         unused = sums .unused;
         no-rest = λ e. absurd (false≢true (sym e));
       }
@@ -117,10 +117,10 @@ unfolding minutesIn
 first-sums c =
     noted-sums noNames noMinutes 0 none-fit
     (record {
-      size = length-replicate {A = ℕ} 65 0;
+      size = length-replicate {A = ℕ} minutesLength 0;
       told = refl;
-      unused = λ i h k. getD-replicate {A = ℕ} 65 i 0 0 (omega arith);
-      no-rest = λ e. getD-replicate {A = ℕ} 65 64 0 0 (omega arith);
+      unused = λ i h k. getD-replicate {A = ℕ} minutesLength i 0 0 (omega arith);
+      no-rest = λ e. getD-replicate {A = ℕ} minutesLength restLine 0 0 (omega arith);
     })
     (enabledAid c)
 

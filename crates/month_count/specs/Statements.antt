@@ -15,7 +15,7 @@ use Rattle.card_record.specs.declared.Card.{Card}
 use Rattle.rule_run.specs.Calls.{Call}
 use Rattle.rule_run.specs.Step.{step, run, answers}
 use Rattle.rule_run.specs.Runs.{isTick, ticksAmong}
-use Rattle.month_tally.specs.Lines.{sameAid, aidsIn, minutesIn}
+use Rattle.month_tally.specs.Lines.{restLine, sameAid, aidsIn, minutesIn}
 use Rattle.month_tally.specs.Statements.{firsts}
 use Rattle.month_file.specs.File.{verdictOf, fileEvents, fileCalls}
 use Rattle.month_file.specs.declared.Refusal.{Refusal}
@@ -39,7 +39,7 @@ abbrev pub minutesOf : Counted → List ℕ
 minutesOf k = take (length (linesIn k)) (k .minutes)
 
 abbrev pub restOf : Counted → ℕ
-restOf k = getD (k .minutes) 64 0
+restOf k = getD (k .minutes) restLine 0
 
 -- the figure of the rest is told only where there is a 65th AID
 abbrev pub restTold : Counted → ℕ

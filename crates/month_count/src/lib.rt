@@ -7,9 +7,11 @@ use month_events::Next;
 use month_events::next_event;
 use month_file::Verdict;
 use month_file::open;
+use month_tally::MINUTES;
 use month_tally::Names;
 use month_tally::Tally;
 use record_door::Call;
+use record_door::LEAST_BUFFER;
 use record_door::answer_on_sound;
 ghost use mathlib.Core.Path.{_≡_};
 ghost use mathlib.Core.List.{[]};
@@ -28,9 +30,6 @@ pub struct Month {
     pub tally: Tally,
 }
 
-// The response buffer of a command and of a policy update.
-const BUFFER: usize = 256;
-
 fn is_tick(call: Call) -> bool
     ensures { λ r. ⌜ r ≡ isTick (callOf [] 0 call) ⌝ }
 {
@@ -46,7 +45,7 @@ fn is_tick(call: Call) -> bool
 }
 
 // The minute of a tick, on the line of the profile that is enabled before it; how many ticks the call is.
-fn time(call: Call, line: usize, minutes: &mut [u32; 65]) -> u32
+fn time(call: Call, line: usize, minutes: &mut [u32; MINUTES]) -> u32
     requires { ⌜ Line line (now minutes) ⌝ }
     ensures { λ r. ⌜ (r ≡ cond (isTick (callOf [] 0 call)) 1 0) × (now (minutes .exit) ≡ cond (isTick (callOf [] 0 call)) (minuteOn line (now (minutes .entry))) (now (minutes .entry))) ⌝ }
 {
@@ -69,11 +68,11 @@ fn refusals(status: Status) -> u32
 
 // The events of a body on a card, counted. The enabled profile changes only where an answer has a notification, which names it. Every
 // event goes through the one door, a tick in Quiet too (decisions B50, B53).
-fn count(card: Card, body: &[u8], minutes: &mut [u32; 65]) -> Tally
+fn count(card: Card, body: &[u8], minutes: &mut [u32; MINUTES]) -> Tally
     requires { ⌜ Countable card (now body) (now minutes) ⌝ }
     ensures { λ r. ⌜ (r ≡ counting card (callsOf (eventsOf (now (body .entry)))) (atFirst card) .tally) × (now (minutes .exit) ≡ counting card (callsOf (eventsOf (now (body .entry)))) (atFirst card) .minutes) ⌝ }
 {
-    let mut buf = [0u8; BUFFER];
+    let mut buf = [0u8; LEAST_BUFFER];
     let profile = card.profile(card.enabled_place());
     let aid = profile.aid;
     let mut names = Names::none().noted(aid);
@@ -125,10 +124,10 @@ fn nothing() -> Tally
 
 // A file counted: the minutes of each line and of the rest are left in the memory lent, whatever was there. Of a refused file nothing is
 // counted, and no event is run.
-pub fn count_month(s: &[u8], minutes: &mut [u32; 65]) -> Month
+pub fn count_month(s: &[u8], minutes: &mut [u32; MINUTES]) -> Month
     ensures { λ r. ⌜ (r ≡ fileMonth (now (s .entry))) × (now (minutes .exit) ≡ fileCounted (now (s .entry)) .minutes) ⌝ }
 {
-    *minutes = [0u32; 65];
+    *minutes = [0u32; MINUTES];
     let opened = open(s);
     let verdict = opened.verdict;
     let Verdict::Accepted = verdict else {

@@ -6,6 +6,8 @@ use base_bytes::put_bytes;
 use card_isdp::Aid;
 use cells::put_minutes;
 use cells::put_total;
+use month_tally::LINES;
+use month_tally::MINUTES;
 use month_tally::Names;
 use month_tally::Tally;
 use script_table::put_aid;
@@ -27,7 +29,7 @@ fn put_lines(
     explain: bool,
     ticks: u32,
     names: Names,
-    minutes: &[u32; 65],
+    minutes: &[u32; MINUTES],
     out: &mut [u8],
     at: usize,
 ) -> usize
@@ -92,7 +94,7 @@ fn put_totals(explain: bool, tally: Tally, out: &mut [u8], at: usize) -> usize
 pub fn write_report(
     explain: bool,
     tally: Tally,
-    minutes: &[u32; 65],
+    minutes: &[u32; MINUTES],
     out: &mut [u8],
     at: usize,
 ) -> usize
@@ -101,6 +103,6 @@ pub fn write_report(
     let names = tally.names;
     let a = put_head(explain, out, at);
     let b = put_lines(explain, tally.ticks, names, minutes, out, a);
-    let c = put_rest(explain, tally.ticks, names.more, minutes[64], out, b);
+    let c = put_rest(explain, tally.ticks, names.more, minutes[LINES], out, b);
     put_totals(explain, tally, out, c)
 }

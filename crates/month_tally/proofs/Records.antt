@@ -1,4 +1,4 @@
--- What owning the names, or a tally, tells of their array: the prover knows it of the types. Assumes nothing.
+-- What owning the names tells of their array: the prover knows it of the types. Assumes nothing.
 use mathlib.Core.Path.{_≡_, sym, _∙_}
 use Prim.Native.Nat.{ℕ}
 use mathlib.Core.List.{List, map}
@@ -9,15 +9,10 @@ use denote.Struct.Declared.{row}
 use borrow.Author.Needs.{needs}
 use Rattle.month_tally.specs.Lines.{mostLines}
 use Rattle.month_tally.specs.declared.Names.{Names}
-use Rattle.month_tally.specs.declared.Tally.{Tally}
 use Rattle.month_tally.proofs.Names as N
-use Rattle.month_tally.proofs.Tally as T
 
 length-mapped : (X Y : Type 0) (f : X → Y) (l : List X) (n : ℕ) → length (map f l) ≡ n → length l ≡ n
 length-mapped X Y f l n e = sym (length-map l f) ∙ e
 
 pub full : (n : Names) (vs : List Val) → Is (row N.the-type) n vs → length (n .aids) ≡ mostLines
 full n vs g = search (needs, length-mapped)
-
-pub tally-full : (t : Tally) (vs : List Val) → Is (row T.the-type) t vs → length (t .names .aids) ≡ mostLines
-tally-full t vs g = search (needs, length-mapped)

@@ -48,9 +48,13 @@ noted n a =
     (record { aids = set (n .aids) (n .count) a; count = n .count + 1; more = n .more })
     (record { aids = n .aids; count = n .count; more = true }))
 
+-- how many minutes there are: a number for each line, and the last for the rest
+abbrev pub minutesLength : ℕ
+minutesLength = restLine + 1
+
 -- no minutes on any line, and one minute more on a line
 abbrev pub noMinutes : List ℕ
-noMinutes = replicate (mostLines + 1) 0
+noMinutes = replicate minutesLength 0
 
 abbrev pub minuteOn : ℕ → List ℕ → List ℕ
 minuteOn line minutes = set minutes line (getD minutes line 0 + 1)

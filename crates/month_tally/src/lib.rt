@@ -7,7 +7,11 @@ ghost use Prim.Native.Nat.{_≤_};
 ghost use lib.ListN.{length};
 ghost use Rattle.month_tally.specs.Lines.{mostLines, sameAid, aidsIn, lineOf, noNames, noted};
 
+// A line for each of the first AIDs ever enabled, up to so many.
 pub const LINES: usize = 64;
+
+// The minutes: a number for each line, and the last for the rest.
+pub const MINUTES: usize = LINES + 1;
 
 // The AIDs that have a line, `count` of them, in the order in which each was first enabled; no AIDs after them. Whether there is one
 // more, which shares the line of the rest.
@@ -17,7 +21,7 @@ pub struct Names {
     pub more: bool,
 }
 
-// What a report tells beside the minutes, which stand in lent memory: a number for each line, and the last for the rest (decision B51).
+// What a report tells beside the minutes, which stand in lent memory (decision B51).
 pub struct Tally {
     pub names: Names,
     pub ticks: u32,

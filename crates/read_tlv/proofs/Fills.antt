@@ -1,11 +1,10 @@
 -- A list is read well exactly where its elements fill it, at most four levels deep. Read well, then filled: by induction on the count,
 -- element by element. Filled, then read well: by induction on the elements, with the equation that has no count.
-use Prim.Native.Nat.{ℕ, zero, suc, _+_, _-_, _≤_}
+use Prim.Native.Nat.{ℕ, zero, suc, _+_, _-_}
 use mathlib.Core.Path.{_≡_, refl, sym}
 use mathlib.Core.List.{List}
 use mathlib.Core.Bool.{true, false, false≢true}
 use native.Mathlib.Omega.{arith}
-use lib.ListN.{length}
 use Rattle.read_tlv.specs.declared.HeadRead.{HeadRead}
 use Rattle.read_tlv.specs.declared.HeadRead.the-variants as head
 use Rattle.read_tlv.specs.declared.ElementRead.the-variants as read
@@ -54,11 +53,6 @@ within-fills (suc f) s at end level = list-of-fills s at end level _ (λ l. elem
 pub list-filled : ListFilled
 unfolding listAt
 list-filled s at end level = within-fills (end - at) s at end level
-
-filled-held : {s : List ℕ} {level at end : ℕ} → Filled s level at end → (at ≤ end) × (end ≤ length s)
-filled-held (ended l h) = (omega arith, h)
-filled-held {s} {level} {at} {end} (primitive {t} {start} {stop} l g r) = let i = head-inside s at end t false start stop g in (omega arith, omega arith)
-filled-held {s} {level} {at} {end} (constructed {t} {start} {stop} l g n r) = let i = head-inside s at end t true start stop g in (omega arith, omega arith)
 
 fills : {s : List ℕ} {level at end : ℕ} → Filled s level at end → list.Filled ≡ listAt s at end level
 unfolding listOf restOf elementAt elementOf closed pick

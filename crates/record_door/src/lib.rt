@@ -35,7 +35,7 @@ pub enum Call {
 }
 
 // A lent response buffer has at least so many bytes.
-const BUFFER: usize = 256;
+pub const LEAST_BUFFER: usize = 256;
 
 // What a request asks, done on a card known to be sound.
 fn serve(card: Card, verdict: u8, request: Request, bytes: &[u8], buf: &mut [u8]) -> Answer
@@ -72,7 +72,7 @@ fn serve(card: Card, verdict: u8, request: Request, bytes: &[u8], buf: &mut [u8]
 fn command(card: Card, verdict: u8, bytes: &[u8], buf: &mut [u8]) -> Answer
     ensures { λ r. ⌜ Served (now (buf .entry)) (onSound card (Command verdict (now (bytes .entry)) (length (now (buf .entry))))) r (now (buf .exit)) ⌝ }
 {
-    if buf.len() < BUFFER {
+    if buf.len() < LEAST_BUFFER {
         return card.refused(Status::BufferShort);
     }
     // the copy that `serve` takes is made here, and not where the door is entered (decision B42)
@@ -88,7 +88,7 @@ fn command(card: Card, verdict: u8, bytes: &[u8], buf: &mut [u8]) -> Answer
 fn policy(card: Card, speaker: &[u8], bytes: &[u8], buf: &mut [u8]) -> Answer
     ensures { λ r. ⌜ Served (now (buf .entry)) (onSound card (Policy (now (speaker .entry)) (now (bytes .entry)) (length (now (buf .entry))))) r (now (buf .exit)) ⌝ }
 {
-    if buf.len() < BUFFER {
+    if buf.len() < LEAST_BUFFER {
         return card.refused(Status::BufferShort);
     }
     let update = read_operator::read(bytes);

@@ -10,11 +10,12 @@ use Rattle.text_words.specs.Words.{before, leading, wordsOn, wordsOf, wordFrom,
 use Rattle.text_words.specs.Numbers.{digitsOn, decimalOf}
 use Rattle.text_words.specs.Hex.{nibbleOf, pairsOf, isHex}
 use Rattle.card_isdp.specs.Sizes.{mostPlaces}
-use Rattle.script_record.specs.Ascii.{ascii}
-use Rattle.script_record.proofs.Examples.{dashes}
-use Rattle.script_record.specs.Arguments.{bytesAt, valueAt}
-use Rattle.script_line.specs.Orders.{verbOf, counted, inner, valueOr, sentAt, freshWith, freshAt, commandAt, keyedAt, storedAt, finishedAt, policyAt, orderBy, orderOf}
-use Rattle.script_record.specs.declared.arguments.Reason.the-variants.{TooLong, UnknownWord, WordsMissing, TooManyWords, BadHex, BadNumber}
+use Rattle.script_words.specs.Ascii.{ascii}
+use Rattle.script_words.proofs.Dashes.{dashes}
+use Rattle.script_words.specs.Arguments.{bytesAt, valueAt}
+use Rattle.script_line.specs.Orders.{verbIn, verbOf, counted, inner, valueOr, sentAt, orderBy, orderOf}
+use Rattle.script_line.specs.Orders.{freshWith, freshAt, commandAt, keyedAt, storedAt, finishedAt, policyAt}
+use Rattle.script_words.specs.declared.Reason.the-variants.{TooLong, UnknownWord, WordsMissing, TooManyWords, BadHex, BadNumber}
 use Rattle.record_door.specs.declared.Call.the-variants.{Command, Keyed, Stored, Finished, Tick, Lost, Policy}
 use Rattle.script_line.specs.declared.Order.{Order}
 use Rattle.script_line.specs.declared.Order.the-variants.{Nothing, Fresh, Record, Wrong}
@@ -56,7 +57,7 @@ examples =
     ∷ []
 
 says-so : map (λ (e : Example). orderOf (ascii (e .line))) examples ≡ map (λ (e : Example). e .says) examples
-unfolding orderOf orderBy verbOf counted freshWith freshAt commandAt keyedAt storedAt finishedAt policyAt sentAt bytesAt valueAt valueOr pick atMost isBelow isSame before leading sameBytes wordsOn wordsOf wordFrom wordAt digitsOn decimalOf nibbleOf pairsOf isHex
+unfolding orderOf orderBy verbIn verbOf counted freshWith freshAt commandAt keyedAt storedAt finishedAt policyAt sentAt bytesAt valueAt valueOr pick atMost isBelow isSame before leading sameBytes wordsOn wordsOf wordFrom wordAt digitsOn decimalOf nibbleOf pairsOf isHex
 says-so = refl
 
 -- a `card` line with so many words for its places
@@ -64,7 +65,7 @@ abbrev card-line : ℕ → Order
 card-line n = orderOf (ascii "card 89 0 0 0 0 0 Q -" ++ dashes n)
 
 card-lines : (card-line (mostPlaces - 1) ∷ card-line mostPlaces ∷ card-line (mostPlaces + 1) ∷ []) ≡ Wrong WordsMissing ∷ Record 4 ∷ Wrong TooManyWords ∷ []
-unfolding orderOf orderBy verbOf counted pick atMost isBelow isSame before leading sameBytes wordsOn wordsOf wordFrom wordAt
+unfolding orderOf orderBy verbIn verbOf counted pick atMost isBelow isSame before leading sameBytes wordsOn wordsOf wordFrom wordAt
 card-lines = refl
 
 -- a line of 4,096 bytes at the most

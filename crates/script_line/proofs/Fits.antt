@@ -16,20 +16,21 @@ use Rattle.text_lines.specs.Lines.{longest}
 use Rattle.base_bytes.specs.Bytes.{between}
 use Rattle.base_bytes.specs.declared.Part.{Part}
 use Rattle.record_door.specs.declared.Call.the-variants as call
-use Rattle.script_record.specs.Arguments.{most32, most8, onBytes, onValue, bytesAt, valueAt}
-use Rattle.script_line.specs.Orders.{hash, verbOf, counted, inner, valueOr, onSent, sentAt, freshWith, freshAt, commandAt, keyedAt, storedAt, finishedAt, policyAt, recordWords, orderBy, orderOf}
+use Rattle.script_words.specs.Arguments.{most32, most8, onBytes, onValue, bytesAt, valueAt}
+use Rattle.script_line.specs.Orders.{hash, verbOf, mostRoom, counted, inner, valueOr, onSent, sentAt, recordWords, orderBy, orderOf}
+use Rattle.script_line.specs.Orders.{freshWith, freshAt, commandAt, keyedAt, storedAt, finishedAt, policyAt}
 use Rattle.script_line.specs.Fits.{Fits, OrderFits, OrdersFit}
-use Rattle.script_record.specs.declared.arguments.Reason.{Reason}
-use Rattle.script_record.specs.declared.arguments.Reason.the-variants.{WordsMissing, BadHex}
-use Rattle.script_record.specs.declared.arguments.Bytes.the-variants as bytes
-use Rattle.script_record.specs.declared.arguments.Value.{Value}
-use Rattle.script_record.specs.declared.arguments.Value.the-variants as value
+use Rattle.script_words.specs.declared.Reason.{Reason}
+use Rattle.script_words.specs.declared.Reason.the-variants.{WordsMissing, BadHex}
+use Rattle.script_words.specs.declared.Bytes.the-variants as bytes
+use Rattle.script_words.specs.declared.Value.{Value}
+use Rattle.script_words.specs.declared.Value.the-variants as value
 use Rattle.script_line.specs.declared.Verb.{Verb}
 use Rattle.script_line.specs.declared.Verb.the-variants as verb
 use Rattle.script_line.specs.declared.Sent.{Sent}
 use Rattle.script_line.specs.declared.Order.{Order}
 use Rattle.script_line.specs.declared.Order.the-variants as order
-use Rattle.script_record.proofs.Within.{value-within}
+use Rattle.script_words.proofs.Within.{value-within}
 
 module _ (s : List ℕ) where
   or-on : (missing most at n k : ℕ) (w : Word) → missing ≤ most → value.Is n k ≡ onWord w (value.Is missing at) (λ a e. valueAt most s at) → n ≤ most
@@ -73,7 +74,9 @@ module _ (s : List ℕ) (l : length s ≤ longest) where
   by-value : (v : Value) (f : ℕ → ℕ → Order) → ((n k : ℕ) → value.Is n k ≡ v → OrderFits s (f n k)) → OrderFits s (onValue v order.Wrong f)
   by-value = value-as (OrderFits s) (λ why. tt)
 
-  by-sent : (at : ℕ) (f : Part → ℕ → Order) → ((p : Part) (room : ℕ) → Fits s p → at ≤ p .start → room ≤ 1024 → OrderFits s (f p room)) → OrderFits s (onSent (sentAt s at) order.Wrong f)
+  by-sent : (at : ℕ) (f : Part → ℕ → Order)
+      → ((p : Part) (room : ℕ) → Fits s p → at ≤ p .start → room ≤ mostRoom → OrderFits s (f p room))
+      → OrderFits s (onSent (sentAt s at) order.Wrong f)
   unfolding sentAt
   by-sent at f g =
       let P : Sent → Type 0 = λ x. OrderFits s (onSent x order.Wrong f) in

@@ -11,7 +11,7 @@ use Rattle.base_bytes.specs.declared.Part.{Part}
 use Rattle.base_bytes.specs.Bytes.{partOf}
 use Rattle.record_door.specs.declared.Call.{Call}
 use Rattle.record_door.specs.declared.Call.the-variants as call
-use Rattle.script_line.specs.Orders.{orderOf}
+use Rattle.script_line.specs.Orders.{mostRoom, orderOf}
 use Rattle.script_line.specs.declared.Order.{Order}
 use Rattle.script_line.specs.declared.Order.the-variants as order
 
@@ -34,7 +34,7 @@ CallFits s (call.Policy speaker bytes) = (speaker .start + speaker .len ≤ byte
 abbrev pub OrderFits : List ℕ → Order → Type 0
 OrderFits s order.Nothing = Unit {0}
 OrderFits s (order.Fresh eid aid capacity quota used volatile) = Fits s eid × Fits s aid
-OrderFits s (order.Call x room) = CallFits s x × (room ≤ 1024)
+OrderFits s (order.Call x room) = CallFits s x × (room ≤ mostRoom)
 OrderFits s (order.Record at) = Unit {0}
 OrderFits s (order.Wrong why) = Unit {0}
 

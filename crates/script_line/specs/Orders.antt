@@ -1,7 +1,7 @@
 -- What a line of a script asks for: "words parted by spaces, .. `#` comments and empty lines passed over". The first word decides,
--- then the number of words, then the words from left to right: the first that is wrong gives the reason (those of a record: records/Records).
+-- then the number of words, then the words from left to right: the first that is wrong gives the reason (those of a record: Records of script_record).
 use Prim.Native.Nat.{ℕ, _+_}
-use mathlib.Core.List.{List}
+use mathlib.Core.List.{List, [], _∷_}
 use lib.ListN.{length, getD}
 use Rattle.base_choice.specs.Choice.{pick, isBelow, isSame}
 use Rattle.base_bytes.specs.Bytes.{sameBytes}
@@ -9,14 +9,15 @@ use Rattle.text_words.specs.Words.{part, wordsOf, wordAt, onWord}
 use Rattle.text_lines.specs.Lines.{longest}
 use Rattle.card_isdp.specs.Sizes.{mostPlaces}
 use Rattle.base_bytes.specs.declared.Part.{Part}
+use Rattle.rule_run.specs.Table.{leastBuffer}
 use Rattle.record_door.specs.declared.Call.{Call}
 use Rattle.record_door.specs.declared.Call.the-variants as call
-use Rattle.script_record.specs.Ascii.{ascii}
-use Rattle.script_record.specs.Arguments.{most32, most8, onBytes, onValue, bytesAt, valueAt}
-use Rattle.script_record.specs.declared.arguments.Reason.{Reason}
-use Rattle.script_record.specs.declared.arguments.Reason.the-variants.{TooLong, UnknownWord, WordsMissing, TooManyWords}
-use Rattle.script_record.specs.declared.arguments.Value.{Value}
-use Rattle.script_record.specs.declared.arguments.Value.the-variants as value
+use Rattle.script_words.specs.Ascii.{ascii}
+use Rattle.script_words.specs.Arguments.{most32, most8, onBytes, onValue, bytesAt, valueAt}
+use Rattle.script_words.specs.declared.Reason.{Reason}
+use Rattle.script_words.specs.declared.Reason.the-variants.{TooLong, UnknownWord, WordsMissing, TooManyWords}
+use Rattle.script_words.specs.declared.Value.{Value}
+use Rattle.script_words.specs.declared.Value.the-variants as value
 use Rattle.script_line.specs.declared.Verb.{Verb}
 use Rattle.script_line.specs.declared.Verb.the-variants as verb
 use Rattle.script_line.specs.declared.Sent.{Sent}
@@ -28,17 +29,31 @@ use Rattle.script_line.specs.declared.Order.the-variants as order
 abbrev pub hash : ℕ
 hash = 35
 
+-- a word that a line may begin with, and what it asks for
+pub record Named : Type 0 where
+  pub word : List ℕ
+  pub verb : Verb
+
+abbrev pub named : List Named
+named =
+    record { word = ascii "fresh"; verb = verb.Fresh }
+    ∷ record { word = ascii "command"; verb = verb.Command }
+    ∷ record { word = ascii "keyed"; verb = verb.Keyed }
+    ∷ record { word = ascii "stored"; verb = verb.Stored }
+    ∷ record { word = ascii "finished"; verb = verb.Finished }
+    ∷ record { word = ascii "tick"; verb = verb.Tick }
+    ∷ record { word = ascii "lost"; verb = verb.Lost }
+    ∷ record { word = ascii "policy"; verb = verb.Policy }
+    ∷ record { word = ascii "card"; verb = verb.Card }
+    ∷ []
+
+-- by the first of these words that is the line's
+unfoldable pub verbIn : List Named → List ℕ → Verb
+verbIn [] w = verb.Unknown
+verbIn (n ∷ ns) w = pick (sameBytes w (n .word)) (n .verb) (verbIn ns w)
+
 unfoldable pub verbOf : List ℕ → Verb
-verbOf w =
-    pick (sameBytes w (ascii "fresh")) verb.Fresh
-    (pick (sameBytes w (ascii "command")) verb.Command
-    (pick (sameBytes w (ascii "keyed")) verb.Keyed
-    (pick (sameBytes w (ascii "stored")) verb.Stored
-    (pick (sameBytes w (ascii "finished")) verb.Finished
-    (pick (sameBytes w (ascii "tick")) verb.Tick
-    (pick (sameBytes w (ascii "lost")) verb.Lost
-    (pick (sameBytes w (ascii "policy")) verb.Policy
-    (pick (sameBytes w (ascii "card")) verb.Card verb.Unknown))))))))
+verbOf w = verbIn named w
 
 -- the order of a line of n words, where it should have from `least` to `most`
 unfoldable pub counted : ℕ → ℕ → ℕ → Order → Order
@@ -66,11 +81,15 @@ abbrev pub onSent {ℓ} : {X : Type ℓ} → Sent → (Reason → X) → (Part �
 onSent (sent.Wrong why) g f = g why
 onSent (sent.Is bytes room) g f = f bytes room
 
+-- the largest response buffer that a line may ask for
+abbrev pub mostRoom : ℕ
+mostRoom = 1024
+
 -- HEX, or HEX LENGTH: a command, and "a response buffer of 256 bytes, or of LENGTH", 0 to 1,024 (decision B25)
 unfoldable pub sentAt : List ℕ → ℕ → Sent
 sentAt s at =
     onBytes (bytesAt s at) sent.Wrong λ bytes b.
-    onValue (valueOr 256 1024 s b) sent.Wrong λ room e. sent.Is bytes room
+    onValue (valueOr leastBuffer mostRoom s b) sent.Wrong λ room e. sent.Is bytes room
 
 -- VERDICT HEX, or VERDICT HEX LENGTH
 unfoldable pub commandAt : List ℕ → ℕ → Order

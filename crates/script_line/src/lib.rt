@@ -3,12 +3,13 @@ use base_bytes::Part;
 use base_bytes::same;
 use card_record::Card;
 use record_door::Call;
-use script_record::Bytes;
-use script_record::MOST;
-use script_record::Reason;
-use script_record::Value;
-use script_record::next_bytes;
-use script_record::next_value;
+use record_door::LEAST_BUFFER;
+use script_words::Bytes;
+use script_words::MOST_NUMBER;
+use script_words::Reason;
+use script_words::Value;
+use script_words::next_bytes;
+use script_words::next_value;
 use text_lines::LONGEST;
 use text_words::Word;
 use text_words::count_words;
@@ -36,6 +37,9 @@ pub enum Order {
     Record(usize),
     Wrong(Reason),
 }
+
+// The largest response buffer that a line may ask for.
+pub const MOST_ROOM: usize = 1024;
 
 // The words of a `card` line: nine, and one for each place.
 const RECORD: usize = 9 + Card::PLACES;
@@ -103,16 +107,16 @@ fn counted(least: usize, most: usize, n: usize, order: Order) -> Order
 fn fresh_with(s: &[u8], at: usize, eid: Part, aid: Part) -> Order
     ensures { λ r. ⌜ r ≡ freshWith (now (s .entry)) at eid aid ⌝ }
 {
-    match next_value(s, at, MOST) {
+    match next_value(s, at, MOST_NUMBER) {
         Value::Wrong(why) => Order::Wrong(why),
         Value::Is {
             n: capacity,
             next: b,
-        } => match next_value(s, b, MOST) {
+        } => match next_value(s, b, MOST_NUMBER) {
             Value::Wrong(why) => Order::Wrong(why),
-            Value::Is { n: quota, next: c } => match next_value(s, c, MOST) {
+            Value::Is { n: quota, next: c } => match next_value(s, c, MOST_NUMBER) {
                 Value::Wrong(why) => Order::Wrong(why),
-                Value::Is { n: used, next: d } => match next_value(s, d, MOST) {
+                Value::Is { n: used, next: d } => match next_value(s, d, MOST_NUMBER) {
                     Value::Wrong(why) => Order::Wrong(why),
                     Value::Is {
                         n: volatile,
@@ -170,7 +174,7 @@ fn next_sent(s: &[u8], at: usize) -> Sent
         Bytes::Is {
             part: bytes,
             next: b,
-        } => match next_or(256, 1024, s, b) {
+        } => match next_or(LEAST_BUFFER as u32, MOST_ROOM as u32, s, b) {
             Value::Wrong(why) => Sent::Wrong(why),
             Value::Is { n, next: _ } => {
                 let room = n as usize;
@@ -235,7 +239,7 @@ fn stored_order(s: &[u8], at: usize) -> Order
 {
     match next_bytes(s, at) {
         Bytes::Wrong(why) => Order::Wrong(why),
-        Bytes::Is { part: aid, next: b } => match next_value(s, b, MOST) {
+        Bytes::Is { part: aid, next: b } => match next_value(s, b, MOST_NUMBER) {
             Value::Wrong(why) => Order::Wrong(why),
             Value::Is { n, next: _ } => inner(Call::Stored { aid, n }),
         },

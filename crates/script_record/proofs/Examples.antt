@@ -1,5 +1,5 @@
 -- `card` lines, fine and with each fault, and the words of KEPT, by computing.
-use Prim.Native.Nat.{ℕ, zero, suc, _-_}
+use Prim.Native.Nat.{ℕ, _-_}
 use Prim.Native.String.{String}
 use mathlib.Core.Path.{_≡_, refl}
 use mathlib.Core.List.{List, [], _∷_, _++_, map}
@@ -17,18 +17,14 @@ use Rattle.card_isdp.specs.Profile.{profile}
 use Rattle.card_isdp.specs.Place.{vacant}
 use Rattle.card_record.specs.Cards.{cardWith, noPlace}
 use Rattle.card_record.specs.declared.Phase.the-variants.{Trial}
-use Rattle.script_record.specs.Ascii.{ascii}
-use Rattle.script_record.specs.Arguments.{bytesAt, valueAt}
+use Rattle.script_words.specs.Ascii.{ascii}
+use Rattle.script_words.proofs.Dashes.{dashes}
+use Rattle.script_words.specs.Arguments.{bytesAt, valueAt}
 use Rattle.script_record.specs.Colons.{numberField, openFields, trialFields, phaseWord, sizesFields, placeWith, placeWord}
 use Rattle.script_record.specs.Records.{phaseAt, keptIn, keptAt, pendingAt, memoryAt, headAt, placesOn, recordWith, recordAt}
-use Rattle.script_record.specs.declared.arguments.Reason.the-variants.{BadHex, BadNumber, BadPlace, BadPhase}
+use Rattle.script_words.specs.declared.Reason.the-variants.{BadHex, BadNumber, BadPlace, BadPhase}
 use Rattle.script_record.specs.declared.Reading.{Reading}
 use Rattle.script_record.specs.declared.Reading.the-variants as reading
-
--- the words of n places that are not held
-abbrev pub dashes : ℕ → List ℕ
-dashes zero = []
-dashes (suc n) = 32 ∷ 45 ∷ dashes n
 
 -- a line that gives its first places, and `-` for each of the others
 abbrev given : String → ℕ → List ℕ

@@ -15,7 +15,7 @@ use Rattle.card_isdp.specs.Sizes.{mostPlaces}
 use Rattle.card_isdp.specs.declared.Isdp.{Isdp}
 use Rattle.script_record.specs.Colons.{placeWord}
 use Rattle.script_record.specs.Records.{notHeld, placesOn}
-use Rattle.script_record.specs.declared.arguments.Reason.the-variants.{WordsMissing, BadPlace}
+use Rattle.script_words.specs.declared.Reason.the-variants.{WordsMissing, BadPlace}
 use Rattle.script_record.specs.declared.colons.Placed.{Placed}
 use Rattle.script_record.specs.declared.Reading.the-variants.{Fine}
 use Rattle.script_record.specs.declared.Held.{Held}

@@ -19,8 +19,8 @@ use Rattle.card_isdp.specs.Profile.{profile}
 use Rattle.card_isdp.specs.Place.{vacant}
 use Rattle.card_isdp.specs.declared.Aid.{Aid}
 use Rattle.card_record.specs.declared.Phase.the-variants.{Quiet, Trial, Back, Fallen}
-use Rattle.script_record.specs.Ascii.{ascii}
-use Rattle.script_record.specs.Arguments.{most32, most16, most8, onNumber}
+use Rattle.script_words.specs.Ascii.{ascii}
+use Rattle.script_words.specs.Arguments.{most32, most16, most8, onNumber}
 use Rattle.script_record.specs.declared.colons.Field.{Field}
 use Rattle.script_record.specs.declared.colons.Field.the-variants as field
 use Rattle.script_record.specs.declared.colons.Open.{Open}

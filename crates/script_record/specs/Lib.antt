@@ -1,5 +1,3 @@
--- The words of a line of a script that follow its first.
-pub mod Ascii
-pub mod Arguments
+-- The record that a `card` line of a script hands in.
 pub mod Colons
 pub mod Records

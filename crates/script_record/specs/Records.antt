@@ -16,13 +16,13 @@ use Rattle.card_isdp.specs.declared.Isdp.{Isdp}
 use Rattle.card_record.specs.Cards.{cardWith, noPlace}
 use Rattle.card_record.specs.Fresh.{zeroCard}
 use Rattle.card_record.specs.declared.Phase.{Phase}
-use Rattle.script_record.specs.Ascii.{ascii}
-use Rattle.script_record.specs.Arguments.{most32, most16, most8, onNumber, onValue, valueAt}
+use Rattle.script_words.specs.Ascii.{ascii}
+use Rattle.script_words.specs.Arguments.{most32, most16, most8, onNumber, onValue, valueAt}
 use Rattle.script_record.specs.Colons.{onRead, phaseWord, placeWord}
-use Rattle.script_record.specs.declared.arguments.Reason.{Reason}
-use Rattle.script_record.specs.declared.arguments.Reason.the-variants.{WordsMissing, BadHex, BadNumber, BadPlace, BadPhase}
-use Rattle.script_record.specs.declared.arguments.Value.{Value}
-use Rattle.script_record.specs.declared.arguments.Value.the-variants as value
+use Rattle.script_words.specs.declared.Reason.{Reason}
+use Rattle.script_words.specs.declared.Reason.the-variants.{WordsMissing, BadHex, BadNumber, BadPlace, BadPhase}
+use Rattle.script_words.specs.declared.Value.{Value}
+use Rattle.script_words.specs.declared.Value.the-variants as value
 use Rattle.script_record.specs.declared.colons.Phased.{Phased}
 use Rattle.script_record.specs.declared.colons.Phased.the-variants as phased
 use Rattle.script_record.specs.declared.PhaseRead.{PhaseRead}

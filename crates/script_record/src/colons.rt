@@ -1,9 +1,9 @@
 // The words of a `card` line that are parted by `:`, the phase and the places.
-use crate::arguments::MOST;
 use base_bytes::same;
 use card_isdp::Aid;
 use card_isdp::Isdp;
 use card_record::Phase;
+use script_words::MOST_NUMBER;
 use text_words::Byte;
 use text_words::HexRead;
 use text_words::Number;
@@ -117,10 +117,10 @@ pub enum Sizes {
 fn sizes_at(w: &[u8], at: usize) -> Sizes
     ensures { λ r. ⌜ r ≡ sizesFields (now (w .entry)) at ⌝ }
 {
-    let Field::Is { n: quota, next: b } = next_number(w, at, MOST) else {
+    let Field::Is { n: quota, next: b } = next_number(w, at, MOST_NUMBER) else {
         return Sizes::Wrong;
     };
-    let Field::Is { n: used, next: c } = next_number(w, b, MOST) else {
+    let Field::Is { n: used, next: c } = next_number(w, b, MOST_NUMBER) else {
         return Sizes::Wrong;
     };
     let Field::Is { n: policy, next: d } = next_number(w, c, 255) else {

@@ -1,13 +1,7 @@
-// The words after the first of a line: byte strings, numbers, and the record that a `card` line hands in, sound or not.
-mod arguments;
+// The record that a `card` line hands in, sound or not (docs/SCRIPT.md, 'The lines').
+// Every function answers for every line: the first word that is wrong gives the reason.
 mod colons;
 
-pub use arguments::Bytes;
-pub use arguments::MOST;
-pub use arguments::Reason;
-pub use arguments::Value;
-pub use arguments::next_bytes;
-pub use arguments::next_value;
 use base_bytes::same;
 use card_isdp::Isdp;
 use card_record::Card;
@@ -15,6 +9,10 @@ use card_record::Phase;
 use colons::Phased;
 use colons::read_phase;
 use colons::read_place;
+use script_words::MOST_NUMBER;
+use script_words::Reason;
+use script_words::Value;
+use script_words::next_value;
 use text_words::HexRead;
 use text_words::Number;
 use text_words::Word;
@@ -101,17 +99,17 @@ pub enum Memory {
 fn memory_at(s: &[u8], at: usize) -> Memory
     ensures { λ r. ⌜ r ≡ memoryAt (now (s .entry)) at ⌝ }
 {
-    match next_value(s, at, MOST) {
+    match next_value(s, at, MOST_NUMBER) {
         Value::Wrong(why) => Memory::Wrong(why),
         Value::Is {
             n: capacity,
             next: b,
-        } => match next_value(s, b, MOST) {
+        } => match next_value(s, b, MOST_NUMBER) {
             Value::Wrong(why) => Memory::Wrong(why),
             Value::Is {
                 n: volatile,
                 next: c,
-            } => match next_value(s, c, MOST) {
+            } => match next_value(s, c, MOST_NUMBER) {
                 Value::Wrong(why) => Memory::Wrong(why),
                 Value::Is { n: free, next } => Memory::Is {
                     capacity,

@@ -9,9 +9,9 @@ use Rattle.text_words.specs.Words.{before, leading, wordsOn, wordsOf, wordFrom,
 use Rattle.text_words.specs.Numbers.{digitsOn, decimalOf}
 use Rattle.text_words.specs.Hex.{nibbleOf, pairsOf, isHex, byteOf, spelled}
 use Rattle.rule_run.specs.Calls.{Call, Call.Command, Call.Keyed, Call.Stored, Call.Finished, Call.Tick, Call.Lost, Call.Policy}
-use Rattle.script_record.specs.Ascii.{ascii}
-use Rattle.script_record.specs.Arguments.{bytesAt, valueAt}
-use Rattle.script_line.specs.Orders.{verbOf, counted, valueOr, sentAt, commandAt, keyedAt, storedAt, finishedAt, policyAt, orderBy, orderOf}
+use Rattle.script_words.specs.Ascii.{ascii}
+use Rattle.script_words.specs.Arguments.{bytesAt, valueAt}
+use Rattle.script_line.specs.Orders.{verbIn, verbOf, counted, valueOr, sentAt, commandAt, keyedAt, storedAt, finishedAt, policyAt, orderBy, orderOf}
 use Rattle.script_line.specs.declared.Order.{Order}
 use Rattle.script_line.specs.declared.Order.the-variants as order
 use Rattle.script_reply.specs.Replies.{callIn}
@@ -41,5 +41,5 @@ examples =
     ∷ []
 
 asks-so : map (λ (e : Example). called (ascii (e .line)) (orderOf (ascii (e .line)))) examples ≡ map (λ (e : Example). e .asks ∷ []) examples
-unfolding orderOf orderBy verbOf counted commandAt keyedAt storedAt finishedAt policyAt sentAt bytesAt valueAt valueOr pick atMost isBelow isSame before leading sameBytes wordsOn wordsOf wordFrom wordAt digitsOn decimalOf nibbleOf pairsOf isHex byteOf spelled
+unfolding orderOf orderBy verbIn verbOf counted commandAt keyedAt storedAt finishedAt policyAt sentAt bytesAt valueAt valueOr pick atMost isBelow isSame before leading sameBytes wordsOn wordsOf wordFrom wordAt digitsOn decimalOf nibbleOf pairsOf isHex byteOf spelled
 asks-so = refl

@@ -5,8 +5,8 @@ use native.Mathlib.Omega.{arith}
 use lib.ListN.{length, length-append}
 use Rattle.base_choice.specs.Choice.{pick, isBelow}
 use Rattle.text_words.specs.Numbers.{digitsText}
-use Rattle.script_record.specs.declared.arguments.Reason.{Reason}
-use Rattle.script_record.specs.declared.arguments.Reason.the-variants.{TooLong, UnknownWord, WordsMissing, TooManyWords, BadHex, BadNumber, BadPlace, BadPhase}
+use Rattle.script_words.specs.declared.Reason.{Reason}
+use Rattle.script_words.specs.declared.Reason.the-variants.{TooLong, UnknownWord, WordsMissing, TooManyWords, BadHex, BadNumber, BadPlace, BadPhase}
 use Rattle.script_table.specs.Letters.{text}
 use Rattle.script_table.proofs.Lengths.{decimal-length}
 use Rattle.script_reply.specs.Reasons.{reasonText, reasonLine, mostFault}

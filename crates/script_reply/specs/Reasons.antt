@@ -2,8 +2,8 @@
 use Prim.Native.Nat.{ℕ}
 use mathlib.Core.List.{List, _++_}
 use Rattle.text_words.specs.Numbers.{decimalText}
-use Rattle.script_record.specs.declared.arguments.Reason.{Reason}
-use Rattle.script_record.specs.declared.arguments.Reason.the-variants.{TooLong, UnknownWord, WordsMissing, TooManyWords, BadHex, BadNumber, BadPlace, BadPhase}
+use Rattle.script_words.specs.declared.Reason.{Reason}
+use Rattle.script_words.specs.declared.Reason.the-variants.{TooLong, UnknownWord, WordsMissing, TooManyWords, BadHex, BadNumber, BadPlace, BadPhase}
 use Rattle.script_table.specs.Letters.{text}
 
 -- one reason is told, the first that is wrong (decision B23)

@@ -19,9 +19,9 @@ use Rattle.rule_run.specs.Calls.{Call, Call.Command, Call.Keyed, Call.Stored, C
 use Rattle.rule_run.specs.Step.{step, onSound}
 use Rattle.record_door.specs.declared.Call as declared
 use Rattle.record_door.specs.declared.Call.the-variants as code
-use Rattle.script_line.specs.Orders.{orderOf}
+use Rattle.script_line.specs.Orders.{mostRoom, orderOf}
 use Rattle.script_record.specs.Records.{onReading, recordAt}
-use Rattle.script_record.specs.declared.arguments.Reason.{Reason}
+use Rattle.script_words.specs.declared.Reason.{Reason}
 use Rattle.script_line.specs.declared.Order.{Order}
 use Rattle.script_line.specs.declared.Order.the-variants as order
 use Rattle.script_answer.specs.Lines.{answerLine}
@@ -31,10 +31,6 @@ use Rattle.script_reply.specs.Reasons.{reasonLine}
 -- the byte strings of a call have together at most so many bytes: two digits each, in a line of 4,096
 abbrev pub mostBytes : ℕ
 mostBytes = 2048
-
--- the largest response buffer that a line may ask for
-abbrev pub mostRoom : ℕ
-mostRoom = 1024
 
 -- the bytes that a part of the line spells, once the line's order was read: its words are hex then
 abbrev pub bytesOf : List ℕ → Part → List ℕ

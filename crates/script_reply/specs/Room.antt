@@ -4,10 +4,10 @@ use Prim.Native.Nat.{ℕ, _≤_}
 use mathlib.Core.Path.{_≡_}
 use mathlib.Core.List.{List}
 use lib.ListN.{length}
-use Rattle.script_line.specs.Orders.{orderOf}
+use Rattle.script_line.specs.Orders.{mostRoom, orderOf}
 use Rattle.script_line.specs.declared.Order.{Order}
 use Rattle.script_line.specs.declared.Order.the-variants as order
-use Rattle.script_reply.specs.Replies.{mostBytes, mostRoom, bytesOf, bytesIn}
+use Rattle.script_reply.specs.Replies.{mostBytes, bytesOf, bytesIn}
 
 -- the two byte strings of a fresh card have a buffer each, those of a call one together (decision B85)
 abbrev pub HasRoom : List ℕ → Order → Type 0

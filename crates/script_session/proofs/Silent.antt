@@ -21,7 +21,7 @@ use Rattle.card_record.specs.declared.Step.{Step}
 use Rattle.card_record.specs.declared.Answer.{Answer}
 use Rattle.script_line.specs.Orders.{orderOf}
 use Rattle.script_record.specs.Records.{onReading}
-use Rattle.script_record.specs.declared.arguments.Reason.{Reason}
+use Rattle.script_words.specs.declared.Reason.{Reason}
 use Rattle.script_record.specs.declared.Reading.{Reading}
 use Rattle.script_record.specs.declared.Reading.the-variants as reading
 use Rattle.script_line.specs.declared.Order.{Order}

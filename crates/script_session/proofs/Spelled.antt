@@ -20,7 +20,8 @@ use Rattle.record_door.specs.Door.{Served}
 use Rattle.record_door.specs.declared.Call as declared
 use Rattle.record_door.specs.declared.Call.the-variants as code
 use Rattle.script_answer.specs.Explained.{mostExplained}
-use Rattle.script_reply.specs.Replies.{mostRoom, bytesOf, bytesIn, callIn, answerText, replyOf, answerTo, mostText}
+use Rattle.script_line.specs.Orders.{mostRoom}
+use Rattle.script_reply.specs.Replies.{bytesOf, bytesIn, callIn, answerText, replyOf, answerTo, mostText}
 use Rattle.script_session.specs.Session.{Laid, Replied}
 use Rattle.script_session.specs.declared.Turn.{Turn}
 

@@ -12,11 +12,12 @@ use reasons::write_reason;
 use record_door::Call;
 use script_answer::write_answer;
 use script_answer::write_explained;
+use script_line::MOST_ROOM;
 use script_line::Order;
 use script_line::read_line;
 use script_record::Reading;
-use script_record::Reason;
 use script_record::record_at;
+use script_words::Reason;
 use text_words::spell_hex;
 ghost use mathlib.Core.Path.{_≡_};
 ghost use mathlib.Core.Bool.{true, false};
@@ -31,8 +32,9 @@ ghost use Rattle.record_door.specs.Door.{callOf};
 ghost use Rattle.record_door.specs.Door.{Served};
 ghost use Rattle.record_door.specs.declared.Call.the-variants.{Policy};
 ghost use Rattle.script_record.specs.Records.{onReading, recordAt};
+ghost use Rattle.script_line.specs.Orders.{mostRoom};
 ghost use Rattle.script_answer.specs.Explained.{mostExplained};
-ghost use Rattle.script_reply.specs.Replies.{mostBytes, mostRoom, bytesOf, bytesIn, callIn, recordOutcome, answerText, replyOf, firstReply, silentReply, faultReply, answerTo, lineOf, mostText};
+ghost use Rattle.script_reply.specs.Replies.{mostBytes, bytesOf, bytesIn, callIn, recordOutcome, answerText, replyOf, firstReply, silentReply, faultReply, answerTo, lineOf, mostText};
 ghost use Rattle.script_session.specs.Session.{firstTurn, Laid, Replied, Used};
 
 // Where a session stands: its card, whether that card is known to be sound, up to where the lent buffer is filled, and whether the run
@@ -61,10 +63,7 @@ impl Turn {
 }
 
 // The byte strings of a line's call have together at most so many bytes.
-pub const MOST: usize = 2048;
-
-// The largest response buffer that a line may ask for.
-pub const ROOM: usize = 1024;
+pub const MOST_BYTES: usize = 2048;
 
 // The bytes that a part of the line spells, written to the front of a lent buffer: the part of the buffer that they are then.
 fn spell(s: &[u8], part: Part, out: &mut [u8]) -> Part
@@ -128,9 +127,9 @@ fn fresh(
     requires { ⌜ (length (bytesOf (now s) eid) ≤ mostBytes) × (length (bytesOf (now s) aid) ≤ mostBytes) ⌝ }
     ensures { λ r. ⌜ r ≡ handed (freshOutcome (bytesOf (now (s .entry)) eid) (bytesOf (now (s .entry)) aid) capacity quota used volatile) ⌝ }
 {
-    let mut first = [0u8; MOST];
+    let mut first = [0u8; MOST_BYTES];
     let m = spell(s, eid, &mut first);
-    let mut second = [0u8; MOST];
+    let mut second = [0u8; MOST_BYTES];
     let n = spell(s, aid, &mut second);
     record_door::fresh(
         part_of(&first, m),
@@ -259,8 +258,8 @@ pub fn take_line(
     explain: bool,
     number: u64,
     s: &[u8],
-    bytes: &mut [u8; MOST],
-    response: &mut [u8; ROOM],
+    bytes: &mut [u8; MOST_BYTES],
+    response: &mut [u8; MOST_ROOM],
     out: &mut [u8],
 ) -> Turn
     ensures { λ r. ⌜ Replied (now (out .entry)) (turn .filled) (lineOf (turn .card) (turn .sound) explain number (now (s .entry))) r (now (out .exit)) × Used (now (bytes .entry)) (now (response .entry)) (lineOf (turn .card) (turn .sound) explain number (now (s .entry))) (now (bytes .exit)) (now (response .exit)) ⌝ }

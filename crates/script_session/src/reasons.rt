@@ -1,7 +1,7 @@
 // A line of the script that cannot be read: `line N: ..`, and what is wrong with it.
 use base_bytes::put_byte;
 use base_bytes::put_bytes;
-use script_record::Reason;
+use script_words::Reason;
 use text_words::put_decimal;
 ghost use Prim.Native.Nat.{_≤_};
 ghost use lib.ListN.{length};

@@ -5,8 +5,8 @@
 use base_bytes::same;
 use libc::STDIN_FILENO;
 use libc::STDOUT_FILENO;
-use script_session::MOST;
-use script_session::ROOM;
+use script_line::MOST_ROOM;
+use script_session::MOST_BYTES;
 use script_session::Turn;
 use script_session::take_line;
 use text_input::Arrival;
@@ -153,8 +153,8 @@ struct Options {
 fn run(fd: i32, options: Options) {
     let mut buf = [0u8; 16384];
     let mut out = [0u8; OUT];
-    let mut bytes = [0u8; MOST];
-    let mut response = [0u8; ROOM];
+    let mut bytes = [0u8; MOST_BYTES];
+    let mut response = [0u8; MOST_ROOM];
     let mut turn = Turn::first();
     let mut state = State {
         window: Window::fresh(),

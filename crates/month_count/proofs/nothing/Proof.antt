@@ -1,4 +1,4 @@
--- `month::nothing`: no names, and zeros.
+-- `month_count::nothing`: no names, and zeros.
 use borrow.Author.Needs.{needs}
 use Rattle.month_count.proofs.nothing.Statement.{statement}
 use Rattle.month_count.proofs.nothing.Tie as tie

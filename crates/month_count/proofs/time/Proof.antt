@@ -1,4 +1,4 @@
--- `month::time`: a call that is no tick leaves the minutes as they are; a tick is one more on the line.
+-- `month_count::time`: a call that is no tick leaves the minutes as they are; a tick is one more on the line.
 use mathlib.Core.Path.{sym, _∙_}
 use borrow.Author.Needs.{needs}
 use borrow.Author.Tests.{not-true, not-false}

@@ -1,4 +1,4 @@
--- `script::counted` meets its contract: each exit names its tests.
+-- `script_line::counted` meets its contract: each exit names its tests.
 use mathlib.Core.Path.{refl}
 use native.Mathlib.Omega.{arith}
 use Rattle.base_choice.proofs.Branches.{lt!, nlt! }

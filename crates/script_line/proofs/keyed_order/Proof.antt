@@ -1,4 +1,4 @@
--- `script::keyed_order` meets its contract, by what `next_bytes` ensures.
+-- `script_line::keyed_order` meets its contract, by what `next_bytes` ensures.
 use mathlib.Core.Path.{refl, sym, _∙_}
 use Rattle.script_line.specs.Orders.{keyedAt}
 use borrow.Author.Needs.{needs}

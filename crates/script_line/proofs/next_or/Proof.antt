@@ -1,4 +1,4 @@
--- `script::next_or` meets its contract: where there is a word, it is `next_value` of it.
+-- `script_line::next_or` meets its contract: where there is a word, it is `next_value` of it.
 use mathlib.Core.Path.{refl, sym, _∙_}
 use Rattle.script_line.specs.Orders.{valueOr}
 use borrow.Author.Needs.{needs}

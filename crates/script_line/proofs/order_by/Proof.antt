@@ -1,4 +1,4 @@
--- `script::order_by` meets its contract: each arm is `counted` of what its own function ensures.
+-- `script_line::order_by` meets its contract: each arm is `counted` of what its own function ensures.
 use mathlib.Core.Path.{refl}
 use Rattle.script_line.specs.Orders.{orderBy}
 use borrow.Author.Needs.{needs}

@@ -1,9 +1,17 @@
--- `script::policy_order` meets its contract: the speaker, then the command.
-use mathlib.Core.Path.{refl, sym, _∙_}
+-- `script_line::policy_order` meets its contract: the speaker, then the command. The first is named once.
+use mathlib.Core.Path.{_≡_, refl, sym, _∙_}
+use Rattle.script_words.specs.Arguments.{bytesAt}
+use Rattle.script_words.specs.declared.Bytes.the-variants.{Is}
 use Rattle.script_line.specs.Orders.{policyAt}
 use borrow.Author.Needs.{needs}
 use Rattle.script_line.proofs.policy_order.Statement.{statement}
 use Rattle.script_line.proofs.policy_order.Tie as tie
+
+abbrev start : tie.After-speaker → tie.Start
+start c = c .before .before .before .before
+
+speaker : (c : tie.After-speaker) → Is (c .speaker .given .0 .0) (c .speaker .given .0 .1 .0) ≡ bytesAt (start c .args .s .now) (start c .args .at)
+speaker c = sym (c .speaker .given .1) ∙ c .before .before .next-bytes .ensures
 
 returns : tie.Need-returns
 unfolding policyAt
@@ -12,14 +20,14 @@ returns c = rw (← (sym (c .before .why .given .1) ∙ c .before .before .befor
 returns-2 : tie.Need-returns-2
 unfolding policyAt
 returns-2 c =
-    let k = c .before .before .before .before in
-    rw (← (sym (k .before .speaker .given .1) ∙ k .before .before .before .next-bytes .ensures)) (rw (← (sym (c .before .why2 .given .1) ∙ c .before .before .before .next-sent .ensures)) refl)
+    let v = c .before .before .before in
+    rw (← (speaker (v .before .before)), ← (sym (c .before .why2 .given .1) ∙ v .next-sent .ensures)) refl
 
 returns-3 : tie.Need-returns-3
 unfolding policyAt
 returns-3 c =
-    let k = c .before .before .before .before in
-    rw (← (sym (k .before .speaker .given .1) ∙ k .before .before .before .next-bytes .ensures)) (rw (← (sym (c .before .bytes .given .1) ∙ c .before .before .before .next-sent .ensures)) refl)
+    let v = c .before .before .before in
+    rw (← (speaker (v .before .before)), ← (sym (c .before .bytes .given .1) ∙ v .next-sent .ensures)) refl
 
 pub policy-order-spec : {M : Type 1} → statement M
 policy-order-spec =

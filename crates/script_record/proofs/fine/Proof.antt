@@ -1,4 +1,4 @@
--- `records::fine` meets its contract, by what `Card::with` ensures.
+-- `script_record::fine` meets its contract, by what `Card::with` ensures.
 use mathlib.Core.Path.{refl}
 use borrow.Author.Needs.{needs}
 use Rattle.script_record.proofs.fine.Statement.{statement}

@@ -1,23 +1,54 @@
--- `records::head_at` meets its contract: the figures of the memory, two numbers, then what is open. The casts fit, by `value-within`.
-use mathlib.Core.Path.{refl, sym, _∙_}
-use Rattle.script_record.proofs.Within.{value-within}
-use Rattle.script_record.specs.Records.{headAt}
+-- `script_record::head_at` meets its contract: the figures of the memory, two numbers, then what is open. What was read is named once, with
+-- the place after it; the casts fit, by `value-within`.
+use Prim.Native.Nat.{ℕ}
+use mathlib.Core.Path.{_≡_, refl, sym, _∙_}
+use mathlib.Core.List.{List}
+use Rattle.script_words.specs.Arguments.{most16, most8, valueAt}
+use Rattle.script_words.specs.declared.Value.the-variants.{Is}
+use Rattle.script_words.proofs.Within.{value-within}
+use Rattle.script_record.specs.Records.{memoryAt, headAt}
+use Rattle.script_record.specs.declared.Memory.the-variants as memory
 use borrow.Author.Needs.{needs}
 use Rattle.script_record.proofs.head_at.Statement.{statement}
 use Rattle.script_record.proofs.head_at.Tie as tie
 
+abbrev start : tie.After-capacity → tie.Start
+start c = c .before .before .before .before
+
+abbrev line : tie.After-capacity → List ℕ
+line c = start c .args .s .now
+
+abbrev next : tie.After-capacity → ℕ
+next c = c .capacity .given .0 .1 .1 .1 .0
+
+figures : (c : tie.After-capacity)
+    → let g = c .capacity .given .0 in memory.Is (g .0) (g .1 .0) (g .1 .1 .0) (next c) ≡ memoryAt (line c) (start c .args .at)
+figures c = sym (c .capacity .given .1) ∙ c .before .before .memory-at .ensures
+
+abbrev first : tie.After-last → tie.After-capacity
+first c = c .before .before .before .before
+
+abbrev next2 : tie.After-last → ℕ
+next2 c = c .last .given .0 .1 .0
+
+last : (c : tie.After-last) → Is (c .last .given .0 .0) (next2 c) ≡ valueAt most16 (line (first c)) (next (first c))
+last c = sym (c .last .given .1) ∙ c .before .before .next-value .ensures
+
+abbrev second : tie.After-fallback → tie.After-last
+second c = c .before .before .before .before
+
+fallback : (c : tie.After-fallback)
+    → Is (c .fallback .given .0 .0) (c .fallback .given .0 .1 .0) ≡ valueAt most8 (line (first (second c))) (next2 (second c))
+fallback c = sym (c .fallback .given .1) ∙ c .before .before .next-value2 .ensures
+
+abbrev third : tie.After-pending-at → tie.After-fallback
+third c = c .before .before
+
 cast-t26 : tie.Need-cast-t26
-cast-t26 c =
-    let f = c .before .before .before .before .before in
-    let l = f .before .before .before .before in
-    let h = value-within _ _ _ _ _ (sym (l .last .given .1) ∙ l .before .before .next-value .ensures) in
-    search needs
+cast-t26 c = let h = value-within _ _ _ _ _ (last (second (third (c .before .before .before)))) in search needs
 
 cast-t27 : tie.Need-cast-t27
-cast-t27 c =
-    let f = c .before .before .before .before .before in
-    let h = value-within _ _ _ _ _ (sym (f .fallback .given .1) ∙ f .before .before .next-value2 .ensures) in
-    search needs
+cast-t27 c = let h = value-within _ _ _ _ _ (fallback (third (c .before .before .before))) in search needs
 
 returns : tie.Need-returns
 unfolding headAt
@@ -28,35 +59,31 @@ returns c =
 returns-2 : tie.Need-returns-2
 unfolding headAt
 returns-2 c =
-    let w = c .before in
-    let m = w .before .before .before .before in
-    rw (← (sym (m .capacity .given .1) ∙ m .before .before .memory-at .ensures)) (rw (← (sym (w .why2 .given .1) ∙ w .before .before .next-value .ensures)) refl)
+    let n = c .before .before .before in
+    rw (← (figures (n .before .before)), ← (sym (c .before .why2 .given .1) ∙ n .next-value .ensures)) refl
 
 returns-3 : tie.Need-returns-3
 unfolding headAt
 returns-3 c =
-    let w = c .before in
-    let l = w .before .before .before .before in
-    let m = l .before .before .before .before in
-    rw (← (sym (m .capacity .given .1) ∙ m .before .before .memory-at .ensures)) (rw (← (sym (l .last .given .1) ∙ l .before .before .next-value .ensures)) (rw (← (sym (w .why3 .given .1) ∙ w .before .before .next-value2 .ensures)) refl))
+    let n = c .before .before .before in
+    let l = n .before .before in
+    rw (← (figures (first l)), ← (last l), ← (sym (c .before .why3 .given .1) ∙ n .next-value2 .ensures)) refl
 
 returns-4 : tie.Need-returns-4
 unfolding headAt
 returns-4 c =
-    let w = c .before in
-    let f = w .before .before .before .before in
-    let l = f .before .before .before .before in
-    let m = l .before .before .before .before in
-    rw (← (sym (m .capacity .given .1) ∙ m .before .before .memory-at .ensures)) (rw (← (sym (l .last .given .1) ∙ l .before .before .next-value .ensures)) (rw (← (sym (f .fallback .given .1) ∙ f .before .before .next-value2 .ensures)) (rw (← (sym (w .why4 .given .1) ∙ w .before .before .pending-at .ensures)) refl)))
+    let n = c .before .before .before in
+    let l = second (third n) in
+    let e = sym (c .before .why4 .given .1) ∙ n .pending-at .ensures in
+    rw (← (figures (first l)), ← (last l), ← (fallback (third n)), ← e) refl
 
 returns-5 : tie.Need-returns-5
 unfolding headAt
 returns-5 c =
-    let p = c .before in
-    let f = p .before .before .before .before in
-    let l = f .before .before .before .before in
-    let m = l .before .before .before .before in
-    rw (← (sym (m .capacity .given .1) ∙ m .before .before .memory-at .ensures)) (rw (← (sym (l .last .given .1) ∙ l .before .before .next-value .ensures)) (rw (← (sym (f .fallback .given .1) ∙ f .before .before .next-value2 .ensures)) (rw (← (sym (p .phase .given .1) ∙ p .before .before .pending-at .ensures)) refl)))
+    let n = c .before .before .before in
+    let l = second (third n) in
+    let e = sym (c .before .phase .given .1) ∙ n .pending-at .ensures in
+    rw (← (figures (first l)), ← (last l), ← (fallback (third n)), ← e) refl
 
 pub head-at-spec : {M : Type 1} → statement M
 head-at-spec =

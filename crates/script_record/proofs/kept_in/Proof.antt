@@ -1,4 +1,4 @@
--- `records::kept_in` meets its contract: `-`, or what the digits spell.
+-- `script_record::kept_in` meets its contract: `-`, or what the digits spell.
 use mathlib.Core.Path.{refl, sym, _∙_}
 use Rattle.base_choice.proofs.Branches.{yes!, no! }
 use Rattle.script_record.specs.Records.{keptIn}

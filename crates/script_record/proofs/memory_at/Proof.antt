@@ -1,9 +1,26 @@
--- `records::memory_at` meets its contract: the three numbers in turn.
-use mathlib.Core.Path.{refl, sym, _∙_}
+-- `script_record::memory_at` meets its contract: the three numbers in turn. Each that was read is named once, with the place after it.
+use mathlib.Core.Path.{_≡_, refl, sym, _∙_}
+use Rattle.script_words.specs.Arguments.{most32, valueAt}
+use Rattle.script_words.specs.declared.Value.the-variants.{Is}
 use Rattle.script_record.specs.Records.{memoryAt}
 use borrow.Author.Needs.{needs}
 use Rattle.script_record.proofs.memory_at.Statement.{statement}
 use Rattle.script_record.proofs.memory_at.Tie as tie
+
+abbrev start : tie.After-capacity → tie.Start
+start c = c .before .before .before .before
+
+capacity : (c : tie.After-capacity)
+    → Is (c .capacity .given .0 .0) (c .capacity .given .0 .1 .0) ≡ valueAt most32 (start c .args .s .now) (start c .args .at)
+capacity c = sym (c .capacity .given .1) ∙ c .before .before .next-value .ensures
+
+abbrev first : tie.After-volatile → tie.After-capacity
+first c = c .before .before .before .before
+
+volatile : (c : tie.After-volatile)
+    → let k = first c in
+    Is (c .volatile .given .0 .0) (c .volatile .given .0 .1 .0) ≡ valueAt most32 (start k .args .s .now) (k .capacity .given .0 .1 .0)
+volatile c = sym (c .volatile .given .1) ∙ c .before .before .next-value2 .ensures
 
 returns : tie.Need-returns
 unfolding memoryAt
@@ -14,25 +31,22 @@ returns c =
 returns-2 : tie.Need-returns-2
 unfolding memoryAt
 returns-2 c =
-    let w = c .before in
-    let k = w .before .before .before .before in
-    rw (← (sym (k .capacity .given .1) ∙ k .before .before .next-value .ensures)) (rw (← (sym (w .why2 .given .1) ∙ w .before .before .next-value2 .ensures)) refl)
+    let n = c .before .before .before in
+    rw (← (capacity (n .before .before)), ← (sym (c .before .why2 .given .1) ∙ n .next-value2 .ensures)) refl
 
 returns-3 : tie.Need-returns-3
 unfolding memoryAt
 returns-3 c =
-    let w = c .before in
-    let v = w .before .before .before .before in
-    let k = v .before .before .before .before in
-    rw (← (sym (k .capacity .given .1) ∙ k .before .before .next-value .ensures)) (rw (← (sym (v .volatile .given .1) ∙ v .before .before .next-value2 .ensures)) (rw (← (sym (w .why3 .given .1) ∙ w .before .before .next-value3 .ensures)) refl))
+    let n = c .before .before .before in
+    let v = n .before .before in
+    rw (← (capacity (first v)), ← (volatile v), ← (sym (c .before .why3 .given .1) ∙ n .next-value3 .ensures)) refl
 
 returns-4 : tie.Need-returns-4
 unfolding memoryAt
 returns-4 c =
-    let f = c .before in
-    let v = f .before .before .before .before in
-    let k = v .before .before .before .before in
-    rw (← (sym (k .capacity .given .1) ∙ k .before .before .next-value .ensures)) (rw (← (sym (v .volatile .given .1) ∙ v .before .before .next-value2 .ensures)) (rw (← (sym (f .free .given .1) ∙ f .before .before .next-value3 .ensures)) refl))
+    let n = c .before .before .before in
+    let v = n .before .before in
+    rw (← (capacity (first v)), ← (volatile v), ← (sym (c .before .free .given .1) ∙ n .next-value3 .ensures)) refl
 
 pub memory-at-spec : {M : Type 1} → statement M
 memory-at-spec =

@@ -1,34 +1,34 @@
--- `records::next_phase` meets its contract: each exit names the word and the phase that it spells.
-use mathlib.Core.Path.{refl, sym, _∙_}
+-- `script_record::next_phase` meets its contract: each exit names the word and the phase that it spells; the word lies inside the line.
+use mathlib.Core.Path.{_≡_, refl, sym, _∙_}
+use Rattle.text_words.specs.Words.{wordAt}
+use Rattle.text_words.specs.declared.words.Word.the-variants.{Span}
 use Rattle.text_words.proofs.WordLists.{word-inside}
 use Rattle.script_record.specs.Records.{phaseAt}
 use borrow.Author.Needs.{needs}
 use Rattle.script_record.proofs.next_phase.Statement.{statement}
 use Rattle.script_record.proofs.next_phase.Tie as tie
 
-enum-told : tie.Need-enum-told
-enum-told c = search needs
+abbrev start : tie.After-from → tie.Start
+start c = c .before .before .before .before
+
+word : (c : tie.After-from) → Span (c .from .given .0 .0) (c .from .given .0 .1 .0) ≡ wordAt (start c .args .s .now) (start c .args .at)
+word c = sym (c .from .given .1) ∙ c .before .before .next-word .ensures
 
 returns : tie.Need-returns
 unfolding phaseAt
 returns c = rw (← (sym (c .enum-told .given .1) ∙ c .before .before .next-word .ensures)) refl
 
-sub-read-phase : tie.Need-sub-read-phase
-sub-read-phase c = let i = word-inside _ _ _ _ (sym (c .before .from .given .1) ∙ c .before .before .before .next-word .ensures) in search needs
-
-part-read-phase-start : tie.Need-part-read-phase-start
-part-read-phase-start c = let i = word-inside _ _ _ _ (sym (c .before .from .given .1) ∙ c .before .before .before .next-word .ensures) in search needs
-
-part-read-phase-end : tie.Need-part-read-phase-end
-part-read-phase-end c = let i = word-inside _ _ _ _ (sym (c .before .from .given .1) ∙ c .before .before .before .next-word .ensures) in search needs
-
 returns-2 : tie.Need-returns-2
 unfolding phaseAt
-returns-2 c = rw (← (sym (c .before .before .before .before .before .from .given .1) ∙ c .before .before .before .before .before .before .before .next-word .ensures)) (rw (← (sym (c .enum-told2 .given .1) ∙ c .before .before .read-phase .ensures)) refl)
+returns-2 c =
+    let p = c .before .before in
+    rw (← (word (p .before .before .before)), ← (sym (c .enum-told2 .given .1) ∙ p .read-phase .ensures)) refl
 
 returns-3 : tie.Need-returns-3
 unfolding phaseAt
-returns-3 c = rw (← (sym (c .before .before .before .before .before .before .from .given .1) ∙ c .before .before .before .before .before .before .before .before .next-word .ensures)) (rw (← (sym (c .before .phase .given .1) ∙ c .before .before .before .read-phase .ensures)) refl)
+returns-3 c =
+    let p = c .before .before .before in
+    rw (← (word (p .before .before .before)), ← (sym (c .before .phase .given .1) ∙ p .read-phase .ensures)) refl
 
 pub next-phase-spec : {M : Type 1} → statement M
 next-phase-spec =
@@ -36,11 +36,11 @@ next-phase-spec =
     (tie.spec
     (λ c κs. search needs)
     (λ c. search needs)
-    enum-told
+    (λ c. search needs)
     returns
-    sub-read-phase
-    part-read-phase-start
-    part-read-phase-end
+    (λ c. let i = word-inside _ _ _ _ (word (c .before)) in search needs)
+    (λ c. let i = word-inside _ _ _ _ (word (c .before)) in search needs)
+    (λ c. let i = word-inside _ _ _ _ (word (c .before)) in search needs)
     (λ c κs. search needs)
     (λ c. search needs)
     (λ c. search needs)

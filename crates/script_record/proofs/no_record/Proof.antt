@@ -1,4 +1,4 @@
--- `records::no_record` meets its contract, by what `Card::zero` ensures.
+-- `script_record::no_record` meets its contract, by what `Card::zero` ensures.
 use mathlib.Core.Path.{refl}
 use borrow.Author.Needs.{needs}
 use Rattle.script_record.proofs.no_record.Statement.{statement}

@@ -1,4 +1,4 @@
--- `records::not_held` meets its contract, by what `Isdp::none` ensures.
+-- `script_record::not_held` meets its contract, by what `Isdp::none` ensures.
 use mathlib.Core.Path.{refl}
 use borrow.Author.Needs.{needs}
 use Rattle.script_record.proofs.not_held.Statement.{statement}

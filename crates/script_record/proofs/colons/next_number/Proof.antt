@@ -1,37 +1,35 @@
--- `colons::next_number` meets its contract: each exit names the field and what its digits spell; the field lies inside the word, so the place after it fits.
-use mathlib.Core.Path.{refl, sym, _∙_}
+-- `colons::next_number` meets its contract: each exit names the field and what its digits spell; the field lies inside the word, so the
+-- place after it fits.
+use mathlib.Core.Path.{_≡_, refl, sym, _∙_}
+use Rattle.text_words.specs.Words.{fieldAt}
+use Rattle.text_words.specs.declared.words.Word.the-variants.{Span}
 use Rattle.text_words.proofs.WordLists.{field-inside}
-use Rattle.script_record.specs.Colons.{numberField}
+use Rattle.script_record.specs.Colons.{colon, numberField}
 use borrow.Author.Needs.{needs}
 use Rattle.script_record.proofs.colons.next_number.Statement.{statement}
 use Rattle.script_record.proofs.colons.next_number.Tie as tie
 
-enum-told : tie.Need-enum-told
-enum-told c = search needs
+abbrev start : tie.After-from → tie.Start
+start c = c .before .before .before .before
+
+field : (c : tie.After-from) → Span (c .from .given .0 .0) (c .from .given .0 .1 .0) ≡ fieldAt colon (start c .args .w .now) (start c .args .at)
+field c = sym (c .from .given .1) ∙ c .before .before .next-field .ensures
 
 returns : tie.Need-returns
 unfolding numberField
 returns c = rw (← (sym (c .enum-told .given .1) ∙ c .before .before .next-field .ensures)) refl
 
-sub-decimal : tie.Need-sub-decimal
-sub-decimal c = let i = field-inside _ _ _ _ _ (sym (c .before .from .given .1) ∙ c .before .before .before .next-field .ensures) in search needs
-
-part-decimal-start : tie.Need-part-decimal-start
-part-decimal-start c = let i = field-inside _ _ _ _ _ (sym (c .before .from .given .1) ∙ c .before .before .before .next-field .ensures) in search needs
-
-part-decimal-end : tie.Need-part-decimal-end
-part-decimal-end c = let i = field-inside _ _ _ _ _ (sym (c .before .from .given .1) ∙ c .before .before .before .next-field .ensures) in search needs
-
 returns-2 : tie.Need-returns-2
 unfolding numberField
-returns-2 c = rw (← (sym (c .before .before .before .before .before .from .given .1) ∙ c .before .before .before .before .before .before .before .next-field .ensures)) (rw (← (sym (c .enum-told2 .given .1) ∙ c .before .before .decimal .ensures)) refl)
-
-add-t10 : tie.Need-add-t10
-add-t10 c = let i = field-inside _ _ _ _ _ (sym (c .before .before .before .before .before .before .from .given .1) ∙ c .before .before .before .before .before .before .before .before .next-field .ensures) in search needs
+returns-2 c =
+    let d = c .before .before in
+    rw (← (field (d .before .before .before)), ← (sym (c .enum-told2 .given .1) ∙ d .decimal .ensures)) refl
 
 returns-3 : tie.Need-returns-3
 unfolding numberField
-returns-3 c = rw (← (sym (c .before .before .before .before .before .before .from .given .1) ∙ c .before .before .before .before .before .before .before .before .next-field .ensures)) (rw (← (sym (c .before .n .given .1) ∙ c .before .before .before .decimal .ensures)) refl)
+returns-3 c =
+    let d = c .before .before .before in
+    rw (← (field (d .before .before .before)), ← (sym (c .before .n .given .1) ∙ d .decimal .ensures)) refl
 
 pub next-number-spec : {M : Type 1} → statement M
 next-number-spec =
@@ -39,14 +37,14 @@ next-number-spec =
     (tie.spec
     (λ c κs. search needs)
     (λ c. search needs)
-    enum-told
+    (λ c. search needs)
     returns
-    sub-decimal
-    part-decimal-start
-    part-decimal-end
+    (λ c. let i = field-inside _ _ _ _ _ (field (c .before)) in search needs)
+    (λ c. let i = field-inside _ _ _ _ _ (field (c .before)) in search needs)
+    (λ c. let i = field-inside _ _ _ _ _ (field (c .before)) in search needs)
     (λ c κs. search needs)
     (λ c. search needs)
     (λ c. search needs)
     returns-2
-    add-t10
+    (λ c. let i = field-inside _ _ _ _ _ (field (c .before .before .before .before .before .before)) in search needs)
     returns-3)

@@ -1,41 +1,54 @@
--- `colons::place_with` meets its contract: the state, then `sizes_at` after it.
-use mathlib.Core.Path.{refl, sym, _∙_}
+-- `colons::place_with` meets its contract: the state, then `sizes_at` after it. The field of the state and its byte are named once.
+use mathlib.Core.Path.{_≡_, refl, sym, _∙_}
+use Rattle.text_words.specs.Words.{part, fieldAt}
+use Rattle.text_words.specs.Hex.{hexByteOf}
+use Rattle.text_words.specs.declared.words.Word.the-variants.{Span}
+use Rattle.text_words.specs.declared.hex.Byte.the-variants.{Value}
 use Rattle.text_words.proofs.WordLists.{field-inside}
-use Rattle.script_record.specs.Colons.{placeWith}
+use Rattle.script_record.specs.Colons.{colon, placeWith}
 use borrow.Author.Needs.{needs}
 use Rattle.script_record.proofs.colons.place_with.Statement.{statement}
 use Rattle.script_record.proofs.colons.place_with.Tie as tie
 
-enum-told : tie.Need-enum-told
-enum-told c = search needs
+abbrev start : tie.After-from → tie.Start
+start c = c .before .before .before .before
+
+field : (c : tie.After-from) → Span (c .from .given .0 .0) (c .from .given .0 .1 .0) ≡ fieldAt colon (start c .args .w .now) (start c .args .at)
+field c = sym (c .from .given .1) ∙ c .before .before .next-field .ensures
+
+abbrev stated : tie.After-hex-byte → tie.After-from
+stated c = c .before .before .before
+
+life : (c : tie.After-life)
+    → let f = stated (c .before .before) in
+    Value (c .life .given .0 .0) ≡ hexByteOf (part (start f .args .w .now) (f .from .given .0 .0) (f .from .given .0 .1 .0))
+life c = sym (c .life .given .1) ∙ c .before .before .hex-byte .ensures
 
 returns : tie.Need-returns
 unfolding placeWith
-returns c = rw (← (sym (c .before .enum-told .given .1) ∙ c .before .before .before .next-field .ensures)) (c .no-place .ensures)
-
-sub-hex-byte : tie.Need-sub-hex-byte
-sub-hex-byte c = let i = field-inside _ _ _ _ _ (sym (c .before .from .given .1) ∙ c .before .before .before .next-field .ensures) in search needs
-
-part-hex-byte-start : tie.Need-part-hex-byte-start
-part-hex-byte-start c = let i = field-inside _ _ _ _ _ (sym (c .before .from .given .1) ∙ c .before .before .before .next-field .ensures) in search needs
-
-part-hex-byte-end : tie.Need-part-hex-byte-end
-part-hex-byte-end c = let i = field-inside _ _ _ _ _ (sym (c .before .from .given .1) ∙ c .before .before .before .next-field .ensures) in search needs
+returns c =
+    let e = c .before in
+    rw (← (sym (e .enum-told .given .1) ∙ e .before .before .next-field .ensures)) (c .no-place .ensures)
 
 returns-2 : tie.Need-returns-2
 unfolding placeWith
-returns-2 c = rw (← (sym (c .before .before .before .before .before .before .from .given .1) ∙ c .before .before .before .before .before .before .before .before .next-field .ensures)) (rw (← (sym (c .before .enum-told2 .given .1) ∙ c .before .before .before .hex-byte .ensures)) (c .no-place2 .ensures))
-
-add-sizes-at : tie.Need-add-sizes-at
-add-sizes-at c = let i = field-inside _ _ _ _ _ (sym (c .before .before .before .before .before .before .from .given .1) ∙ c .before .before .before .before .before .before .before .before .next-field .ensures) in search needs
+returns-2 c =
+    let b = c .before .before .before in
+    rw (← (field (stated b)), ← (sym (c .before .enum-told2 .given .1) ∙ b .hex-byte .ensures)) (c .no-place2 .ensures)
 
 returns-3 : tie.Need-returns-3
 unfolding placeWith
-returns-3 c = rw (← (sym (c .before .before .before .before .before .before .before .before .before .before .from .given .1) ∙ c .before .before .before .before .before .before .before .before .before .before .before .before .next-field .ensures)) (rw (← (sym (c .before .before .before .before .before .life .given .1) ∙ c .before .before .before .before .before .before .before .hex-byte .ensures)) (rw (← (sym (c .before .enum-told3 .given .1) ∙ c .before .before .before .sizes-at .ensures)) (c .no-place3 .ensures)))
+returns-3 c =
+    let z = c .before .before .before in
+    let l = z .before .before in
+    rw (← (field (stated (l .before .before))), ← (life l), ← (sym (c .before .enum-told3 .given .1) ∙ z .sizes-at .ensures)) (c .no-place3 .ensures)
 
 returns-4 : tie.Need-returns-4
 unfolding placeWith
-returns-4 c = rw (← (sym (c .before .before .before .before .before .before .before .before .before .before .from .given .1) ∙ c .before .before .before .before .before .before .before .before .before .before .before .before .next-field .ensures)) (rw (← (sym (c .before .before .before .before .before .life .given .1) ∙ c .before .before .before .before .before .before .before .hex-byte .ensures)) (rw (← (sym (c .before .quota .given .1) ∙ c .before .before .before .sizes-at .ensures)) refl))
+returns-4 c =
+    let z = c .before .before .before in
+    let l = z .before .before in
+    rw (← (field (stated (l .before .before))), ← (life l), ← (sym (c .before .quota .given .1) ∙ z .sizes-at .ensures)) refl
 
 pub place-with-spec : {M : Type 1} → statement M
 place-with-spec =
@@ -43,18 +56,18 @@ place-with-spec =
     (tie.spec
     (λ c κs. search needs)
     (λ c. search needs)
-    enum-told
+    (λ c. search needs)
     (λ c κs. search needs)
     returns
-    sub-hex-byte
-    part-hex-byte-start
-    part-hex-byte-end
+    (λ c. let i = field-inside _ _ _ _ _ (field (c .before)) in search needs)
+    (λ c. let i = field-inside _ _ _ _ _ (field (c .before)) in search needs)
+    (λ c. let i = field-inside _ _ _ _ _ (field (c .before)) in search needs)
     (λ c κs. search needs)
     (λ c. search needs)
     (λ c. search needs)
     (λ c κs. search needs)
     returns-2
-    add-sizes-at
+    (λ c. let i = field-inside _ _ _ _ _ (field (stated (c .before .before .before))) in search needs)
     (λ c κs. search needs)
     (λ c. search needs)
     (λ c. search needs)

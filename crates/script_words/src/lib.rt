@@ -1,4 +1,5 @@
-// The next word of a line, as a byte string or as a number.
+// The words of a line after its first: the next one as a byte string or as a number, and what is wrong with a line.
+// Every function answers for every line and every place in it.
 use base_bytes::Part;
 use text_words::Number;
 use text_words::Word;
@@ -6,7 +7,7 @@ use text_words::decimal;
 use text_words::is_hex;
 use text_words::next_word;
 ghost use mathlib.Core.Path.{_≡_};
-ghost use Rattle.script_record.specs.Arguments.{bytesAt, valueAt};
+ghost use Rattle.script_words.specs.Arguments.{bytesAt, valueAt};
 
 // What is wrong with a line.
 pub enum Reason {
@@ -20,8 +21,8 @@ pub enum Reason {
     BadPhase,
 }
 
-// The most that a number of 32 bits can be.
-pub const MOST: u32 = 4294967295;
+// The most that a number of a line can be.
+pub const MOST_NUMBER: u32 = 4294967295;
 
 // The part of the line that spells a byte string; `next` is the place after it.
 pub enum Bytes {

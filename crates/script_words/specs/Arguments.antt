@@ -10,12 +10,12 @@ use Rattle.base_bytes.specs.Bytes.{between}
 use Rattle.base_bytes.specs.declared.Part.{Part}
 use Rattle.text_words.specs.declared.numbers.Number.{Number}
 use Rattle.text_words.specs.declared.numbers.Number.the-variants as number
-use Rattle.script_record.specs.declared.arguments.Reason.{Reason}
-use Rattle.script_record.specs.declared.arguments.Reason.the-variants.{WordsMissing, BadHex, BadNumber}
-use Rattle.script_record.specs.declared.arguments.Bytes.{Bytes}
-use Rattle.script_record.specs.declared.arguments.Bytes.the-variants as bytes
-use Rattle.script_record.specs.declared.arguments.Value.{Value}
-use Rattle.script_record.specs.declared.arguments.Value.the-variants as value
+use Rattle.script_words.specs.declared.Reason.{Reason}
+use Rattle.script_words.specs.declared.Reason.the-variants.{WordsMissing, BadHex, BadNumber}
+use Rattle.script_words.specs.declared.Bytes.{Bytes}
+use Rattle.script_words.specs.declared.Bytes.the-variants as bytes
+use Rattle.script_words.specs.declared.Value.{Value}
+use Rattle.script_words.specs.declared.Value.the-variants as value
 
 -- the most that a number of 32, 16 and 8 bits can be (decision B25)
 abbrev pub most32 : ℕ
