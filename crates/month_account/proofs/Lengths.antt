@@ -9,7 +9,6 @@ use Rattle.month_file.specs.declared.Refusal.the-variants.{ContentsWrong, Secti
 use Rattle.month_account.specs.Refusals.{nameText, meaningText, lineText, refusalText, mostRefusal}
 
 name-length : (r : Refusal) → length (nameText r) ≤ 21
-unfolding nameText
 name-length ContentsWrong = omega arith
 name-length SectionMissing = omega arith
 name-length FreshBad = omega arith
@@ -18,7 +17,6 @@ name-length UnknownKind = omega arith
 name-length WrongLength = omega arith
 
 meaning-length : (r : Refusal) → length (meaningText r) ≤ 77
-unfolding meaningText
 meaning-length ContentsWrong = omega arith
 meaning-length SectionMissing = omega arith
 meaning-length FreshBad = omega arith

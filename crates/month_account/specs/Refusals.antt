@@ -3,11 +3,11 @@ use Prim.Native.Nat.{ℕ}
 use mathlib.Core.List.{List, _++_}
 use mathlib.Core.Bool.{Bool}
 use Rattle.base_choice.specs.Choice.{pick}
-use Rattle.script_table.specs.Letters.{text}
+use Rattle.text_words.specs.Letters.{text}
 use Rattle.month_file.specs.declared.Refusal.{Refusal}
 use Rattle.month_file.specs.declared.Refusal.the-variants.{ContentsWrong, SectionMissing, FreshBad, CutShort, UnknownKind, WrongLength}
 
-unfoldable pub nameText : Refusal → List ℕ
+abbrev pub nameText : Refusal → List ℕ
 nameText ContentsWrong = text "contents wrong"
 nameText SectionMissing = text "section missing"
 nameText FreshBad = text "fresh inputs bad"
@@ -15,13 +15,33 @@ nameText CutShort = text "event cut short"
 nameText UnknownKind = text "event of unknown kind"
 nameText WrongLength = text "event of wrong length"
 
-unfoldable pub meaningText : Refusal → List ℕ
+-- the names one after the other, as the code keeps them: each is a piece of this text
+abbrev pub names : List ℕ
+names =
+    nameText ContentsWrong
+    ++ nameText SectionMissing
+    ++ nameText FreshBad
+    ++ nameText CutShort
+    ++ nameText UnknownKind
+    ++ nameText WrongLength
+
+abbrev pub meaningText : Refusal → List ℕ
 meaningText ContentsWrong = text "the file is too long, or its sections are not known ones that lie end to end\n"
 meaningText SectionMissing = text "the fresh card's inputs or the events are not listed\n"
 meaningText FreshBad = text "the fresh card's inputs are under 32 bytes, or no card is made of them\n"
 meaningText CutShort = text "the events end within an event\n"
 meaningText UnknownKind = text "an event is of no kind that there is\n"
 meaningText WrongLength = text "an event has too few or too many bytes for its kind\n"
+
+-- the meanings one after the other, as the code keeps them: each is a piece of this text
+abbrev pub meanings : List ℕ
+meanings =
+    meaningText ContentsWrong
+    ++ meaningText SectionMissing
+    ++ meaningText FreshBad
+    ++ meaningText CutShort
+    ++ meaningText UnknownKind
+    ++ meaningText WrongLength
 
 -- "A refused file has one line and nothing else"; for a person "three lines: the refusal, what it means, and that nothing was counted"
 unfoldable pub lineText : Refusal → List ℕ

@@ -2,51 +2,65 @@
 use base_bytes::put_byte;
 use base_bytes::put_bytes;
 use month_file::Refusal;
+use text_words::Piece;
+use text_words::put_piece;
+ghost use mathlib.Core.Path.{_≡_};
 ghost use Prim.Native.Nat.{_≤_};
 ghost use lib.ListN.{length};
 ghost use Rattle.base_bytes.specs.Put.{Wrote};
-ghost use Rattle.month_account.specs.Refusals.{nameText, meaningText, lineText, refusalText, mostRefusal};
+ghost use Rattle.text_words.specs.Letters.{pieceOf};
+ghost use Rattle.month_account.specs.Refusals.{nameText, names, meaningText, meanings, lineText, refusalText, mostRefusal};
+
+// Where the name of a refusal stands in the text of all names.
+fn name_piece(refusal: Refusal) -> Piece
+    ensures { λ r. ⌜ pieceOf names r ≡ nameText refusal ⌝ }
+{
+    match refusal {
+        Refusal::ContentsWrong => Piece(0, 14),
+        Refusal::SectionMissing => Piece(14, 15),
+        Refusal::FreshBad => Piece(29, 16),
+        Refusal::CutShort => Piece(45, 15),
+        Refusal::UnknownKind => Piece(60, 21),
+        Refusal::WrongLength => Piece(81, 21),
+    }
+}
 
 fn put_name(refusal: Refusal, out: &mut [u8], at: usize) -> usize
     ensures { λ r. ⌜ Wrote (now (out .entry)) at (nameText refusal) r (now (out .exit)) ⌝ }
 {
+    let all = b"contents wrong\
+          section missing\
+          fresh inputs bad\
+          event cut short\
+          event of unknown kind\
+          event of wrong length";
+    put_piece(out, at, all, name_piece(refusal))
+}
+
+// Where the meaning of a refusal stands in the text of all meanings.
+fn meaning_piece(refusal: Refusal) -> Piece
+    ensures { λ r. ⌜ pieceOf meanings r ≡ meaningText refusal ⌝ }
+{
     match refusal {
-        Refusal::ContentsWrong => put_bytes(out, at, b"contents wrong"),
-        Refusal::SectionMissing => put_bytes(out, at, b"section missing"),
-        Refusal::FreshBad => put_bytes(out, at, b"fresh inputs bad"),
-        Refusal::CutShort => put_bytes(out, at, b"event cut short"),
-        Refusal::UnknownKind => put_bytes(out, at, b"event of unknown kind"),
-        Refusal::WrongLength => put_bytes(out, at, b"event of wrong length"),
+        Refusal::ContentsWrong => Piece(0, 77),
+        Refusal::SectionMissing => Piece(77, 53),
+        Refusal::FreshBad => Piece(130, 71),
+        Refusal::CutShort => Piece(201, 31),
+        Refusal::UnknownKind => Piece(232, 37),
+        Refusal::WrongLength => Piece(269, 52),
     }
 }
 
 fn put_meaning(refusal: Refusal, out: &mut [u8], at: usize) -> usize
     ensures { λ r. ⌜ Wrote (now (out .entry)) at (meaningText refusal) r (now (out .exit)) ⌝ }
 {
-    match refusal {
-        Refusal::ContentsWrong => put_bytes(
-            out,
-            at,
-            b"the file is too long, or its sections are not known ones that lie end to end\n",
-        ),
-        Refusal::SectionMissing => put_bytes(
-            out,
-            at,
-            b"the fresh card's inputs or the events are not listed\n",
-        ),
-        Refusal::FreshBad => put_bytes(
-            out,
-            at,
-            b"the fresh card's inputs are under 32 bytes, or no card is made of them\n",
-        ),
-        Refusal::CutShort => put_bytes(out, at, b"the events end within an event\n"),
-        Refusal::UnknownKind => put_bytes(out, at, b"an event is of no kind that there is\n"),
-        Refusal::WrongLength => put_bytes(
-            out,
-            at,
-            b"an event has too few or too many bytes for its kind\n",
-        ),
-    }
+    let all = b"the file is too long, or its sections are not known ones that lie end to end\n\
+          the fresh card's inputs or the events are not listed\n\
+          the fresh card's inputs are under 32 bytes, or no card is made of them\n\
+          the events end within an event\n\
+          an event is of no kind that there is\n\
+          an event has too few or too many bytes for its kind\n";
+    put_piece(out, at, all, meaning_piece(refusal))
 }
 
 fn put_line(refusal: Refusal, out: &mut [u8], at: usize) -> usize

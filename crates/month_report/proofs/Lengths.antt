@@ -11,8 +11,9 @@ use lib.Seq.{drop-cons}
 use Rattle.base_choice.proofs.Branches.{each, by-lt, by-eq}
 use Rattle.text_words.proofs.NumberLaws.{text-small}
 use Rattle.card_isdp.specs.declared.Aid.{Aid}
-use Rattle.script_table.specs.Profiles.{aidText}
-use Rattle.script_table.proofs.Lengths.{aid-length, column-length, decimal-length, spaces-length}
+use Rattle.text_aid.specs.AidText.{aidText}
+use Rattle.text_words.proofs.ColumnLaws.{column-length, decimal-length, spaces-length}
+use Rattle.text_aid.proofs.Lengths.{aid-length}
 use Rattle.month_tally.specs.Lines.{mostLines, restLine, aidsIn}
 use Rattle.month_tally.specs.declared.Tally.{Tally}
 use Rattle.month_tally.proofs.Seeking.{unread}

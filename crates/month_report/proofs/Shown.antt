@@ -7,7 +7,7 @@ use Rattle.base_choice.specs.Choice.{pick, isBelow, isSame}
 use Rattle.text_words.specs.Hex.{glyphOf, hexText}
 use Rattle.text_words.specs.Numbers.{digitsText}
 use Rattle.card_isdp.specs.Aids.{padded}
-use Rattle.script_table.specs.Profiles.{spaces, leadOf, columnText}
+use Rattle.text_words.specs.Columns.{spaces, leadOf, columnText}
 use Rattle.month_report.specs.Report.{figureText, shareLead, percentText, shareText, plainText, minutesText, totalText, aidLine, linesText, restText, headText, refusedText, totalsText, reportText}
 use Rattle.month_report.specs.Statements.{Rounded, Shown}
 

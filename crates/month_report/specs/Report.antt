@@ -7,8 +7,9 @@ use lib.ListN.{length, getD}
 use Rattle.base_choice.specs.Choice.{pick, isBelow, isSame}
 use Rattle.text_words.specs.Numbers.{decimalText}
 use Rattle.card_isdp.specs.declared.Aid.{Aid}
-use Rattle.script_table.specs.Letters.{text}
-use Rattle.script_table.specs.Profiles.{aidText, spaces, columnText}
+use Rattle.text_words.specs.Letters.{text}
+use Rattle.text_words.specs.Columns.{spaces, columnText}
+use Rattle.text_aid.specs.AidText.{aidText}
 use Rattle.month_tally.specs.Lines.{mostLines, restLine, aidsIn}
 use Rattle.month_tally.specs.declared.Tally.{Tally}
 

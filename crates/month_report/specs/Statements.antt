@@ -5,7 +5,7 @@ use mathlib.Core.List.{List, [], _∷_, _++_}
 use mathlib.Core.Bool.{Bool, true, false}
 use lib.ListN.{replicate}
 use Rattle.card_isdp.specs.Aids.{noAid}
-use Rattle.script_table.specs.Letters.{text}
+use Rattle.text_words.specs.Letters.{text}
 use Rattle.month_tally.specs.Statements.{aidEnding}
 use Rattle.month_tally.specs.declared.Tally.{Tally}
 use Rattle.month_report.specs.Report.{tenthsOf, shareText, reportText}

@@ -1,13 +1,13 @@
 // What follows a name on its line: a number, and for a person the columns and the share of all ticks.
 use base_bytes::put_byte;
 use base_bytes::put_bytes;
-use script_table::put_column;
-use script_table::put_spaces;
+use text_words::put_column;
 use text_words::put_decimal;
+use text_words::put_spaces;
 ghost use mathlib.Core.Path.{_≡_};
 ghost use Prim.Native.Nat.{_-_};
 ghost use Rattle.base_bytes.specs.Put.{Wrote};
-ghost use Rattle.script_table.specs.Profiles.{spaces};
+ghost use Rattle.text_words.specs.Columns.{spaces};
 ghost use Rattle.month_report.specs.Report.{nameColumn, figureText, shareLead, percentText, shareText, plainText, minutesText, totalText};
 
 // The spaces after a name of `size` letters in its column.

@@ -10,7 +10,7 @@ use month_tally::LINES;
 use month_tally::MINUTES;
 use month_tally::Names;
 use month_tally::Tally;
-use script_table::put_aid;
+use text_aid::put_aid;
 ghost use Prim.Native.Nat.{_*_, _≤_};
 ghost use lib.ListN.{length};
 ghost use Rattle.base_bytes.specs.Put.{Wrote};

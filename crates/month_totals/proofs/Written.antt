@@ -13,8 +13,8 @@ use Rattle.card_isdp.specs.declared.Aid.{Aid}
 use Rattle.card_record.specs.declared.Card.{Card}
 use Rattle.rule_run.specs.Calls.{Call}
 use Rattle.rule_run.specs.Runs.{ticksAmong}
-use Rattle.script_table.specs.Letters.{text}
-use Rattle.script_table.specs.Profiles.{spaces, leadOf, columnText}
+use Rattle.text_words.specs.Letters.{text}
+use Rattle.text_words.specs.Columns.{spaces, leadOf, columnText}
 use Rattle.month_tally.specs.Lines.{sameAid}
 use Rattle.month_report.specs.Report.{figureText, shareLead, percentText, shareText, plainText, minutesText, totalText, aidLine, linesText, restText, headText, refusedText, totalsText, reportText}
 use Rattle.month_file.specs.File.{fileCalls}

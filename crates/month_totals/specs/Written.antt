@@ -10,7 +10,7 @@ use Rattle.card_record.specs.declared.Card.{Card}
 use Rattle.rule_run.specs.Calls.{Call}
 use Rattle.rule_run.specs.Step.{answers}
 use Rattle.rule_run.specs.Runs.{ticksAmong}
-use Rattle.script_table.specs.Letters.{text}
+use Rattle.text_words.specs.Letters.{text}
 use Rattle.month_tally.specs.Lines.{sameAid}
 use Rattle.month_tally.specs.Statements.{firsts}
 use Rattle.month_report.specs.Report.{aidLine, restText, headText, totalText, refusedText, reportText}

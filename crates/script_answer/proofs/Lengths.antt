@@ -1,4 +1,4 @@
--- How long the texts are, so that a caller's buffer is known to be enough; the pieces and the table: profiles/Lengths. Assumes nothing.
+-- How long the texts are, so that a caller's buffer is known to be enough; the table: script_table/Lengths. Assumes nothing.
 use Prim.Native.Nat.{ℕ, _+_, _*_, _/_, _%_, _≤_}
 use native.Mathlib.Omega.{arith}
 use mathlib.Core.List.{List, [], _∷_}
@@ -16,9 +16,11 @@ use Rattle.card_record.specs.declared.Phase.{Phase}
 use Rattle.card_record.specs.declared.Phase.the-variants.{Quiet, Trial, Back, Fallen}
 use Rattle.script_table.specs.Profiles.{tableText, mostTable}
 use Rattle.text_words.proofs.HexLaws.{hex-length}
-use Rattle.script_table.proofs.Lengths.{decimal-length, aid-length}
+use Rattle.text_words.proofs.ColumnLaws.{decimal-length}
+use Rattle.text_aid.proofs.Lengths.{aid-length}
 use Rattle.script_answer.specs.Lines.{issuedWord, noticeBy, noticeWord, answerLine, mostLine}
-use Rattle.script_answer.specs.Explained.{meaningOf, wordText, responseText, kindText, issuedText, noticeIn, noticeText, openText, trialText, phaseText, listingText, explainedText, mostExplained}
+use Rattle.script_answer.specs.Explained.{meaningOf, wordText, responseText, kindText, issuedText, noticeIn, noticeText}
+use Rattle.script_answer.specs.Explained.{openText, trialText, phaseText, listingText, explainedText, mostExplained}
 
 -- the answer line
 word-length : (s : List ℕ) → length (hexWord s) ≤ length s * 2 + 1
@@ -50,7 +52,6 @@ line-length a response h =
 
 -- the answer for a person: what stands above the table
 meaning-length : (s : Status) → length (meaningOf s) ≤ 66
-unfolding meaningOf
 meaning-length Unsound = omega arith
 meaning-length BufferShort = omega arith
 meaning-length LengthWrong = omega arith
@@ -76,7 +77,6 @@ response-length [] = omega arith
 response-length (b ∷ bs) = simp (length-append, hex-length) (omega arith)
 
 kind-length : (k : Kind) → length (kindText k) ≤ 11
-unfolding kindText
 kind-length Silent = omega arith
 kind-length Changed = omega arith
 kind-length RolledBack = omega arith

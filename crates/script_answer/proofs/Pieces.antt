@@ -7,7 +7,7 @@ use lib.ListN.{length}
 use Rattle.text_words.specs.Hex.{hexText}
 use Rattle.card_record.specs.declared.Kind.{Kind}
 use Rattle.card_record.specs.declared.Notification.{Notification}
-use Rattle.script_table.specs.Letters.{text}
+use Rattle.text_words.specs.Letters.{text}
 use Rattle.script_answer.specs.Lines.{noticeBy, noticeWord}
 use Rattle.script_answer.specs.Explained.{responseText, noticeIn, noticeText}
 

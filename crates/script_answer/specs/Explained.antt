@@ -3,7 +3,7 @@
 use Prim.Native.Nat.{ℕ, _+_, _/_, _%_}
 use mathlib.Core.List.{List, [], _∷_, _++_}
 use Rattle.base_choice.specs.Choice.{pick, isSame}
-use Rattle.text_words.specs.Hex.{hexText}
+use Rattle.text_words.specs.Hex.{hexText, hex8}
 use Rattle.text_words.specs.Numbers.{decimalText}
 use Rattle.base_status.specs.StatusWords.{numberOf}
 use Rattle.base_status.specs.declared.Status.{Status}
@@ -15,11 +15,12 @@ use Rattle.card_record.specs.declared.Kind.the-variants.{Silent, Changed, Rolle
 use Rattle.card_record.specs.declared.Notification.{Notification}
 use Rattle.card_record.specs.declared.Phase.{Phase}
 use Rattle.card_record.specs.declared.Phase.the-variants.{Quiet, Trial, Back, Fallen}
-use Rattle.script_table.specs.Letters.{text}
-use Rattle.script_table.specs.Profiles.{hex8, aidText, tableText, mostTable}
+use Rattle.text_words.specs.Letters.{text}
+use Rattle.text_aid.specs.AidText.{aidText}
+use Rattle.script_table.specs.Profiles.{tableText, mostTable}
 
 -- the word, and what it means (decisions B59, B76)
-unfoldable pub meaningOf : Status → List ℕ
+abbrev pub meaningOf : Status → List ℕ
 meaningOf Unsound = text "the card is not sound"
 meaningOf BufferShort = text "response buffer under 256 bytes"
 meaningOf LengthWrong = text "command length or length shape wrong"
@@ -35,6 +36,24 @@ meaningOf NoRoom = text "no free place, or no room in the memory or the quota"
 meaningOf More = text "done, more rows to come"
 meaningOf Done = text "done"
 
+-- the meanings one after the other, as the code keeps them: each is a piece of this text
+abbrev pub meanings : List ℕ
+meanings =
+    meaningOf Unsound
+    ++ meaningOf BufferShort
+    ++ meaningOf LengthWrong
+    ++ meaningOf ClassWrong
+    ++ meaningOf InstructionWrong
+    ++ meaningOf ParametersWrong
+    ++ meaningOf DataWrong
+    ++ meaningOf StateWrong
+    ++ meaningOf NotHeld
+    ++ meaningOf PolicyForbids
+    ++ meaningOf VerdictWrong
+    ++ meaningOf NoRoom
+    ++ meaningOf More
+    ++ meaningOf Done
+
 unfoldable pub wordText : Status → List ℕ
 wordText s = hex8 (numberOf s / 256) ++ text " " ++ hex8 (numberOf s % 256) ++ text " " ++ meaningOf s ++ text "\n"
 
@@ -42,11 +61,15 @@ unfoldable pub responseText : List ℕ → List ℕ
 responseText [] = []
 responseText (b ∷ bs) = text "response " ++ hexText (b ∷ bs) ++ text "\n"
 
-unfoldable pub kindText : Kind → List ℕ
+abbrev pub kindText : Kind → List ℕ
 kindText Silent = text "none"
 kindText Changed = text "changed"
 kindText RolledBack = text "rolled back"
 kindText FallenBack = text "fallen back"
+
+-- the kinds one after the other, as the code keeps them: each is a piece of this text
+abbrev pub kinds : List ℕ
+kinds = kindText Silent ++ kindText Changed ++ kindText RolledBack ++ kindText FallenBack
 
 -- "notification 2: rolled back, A000000001 enabled"
 unfoldable pub issuedText : Notification → List ℕ

@@ -2,7 +2,7 @@
 -- a success without response that changed the profile and has 20 ticks still to come.
 use Prim.Native.Nat.{ℕ, _/_, _%_}
 use mathlib.Core.List.{List, [], _∷_, _++_}
-use Rattle.text_words.specs.Hex.{hexText, hexWord}
+use Rattle.text_words.specs.Hex.{hexText, hexWord, hex8}
 use Rattle.text_words.specs.Numbers.{decimalText}
 use Rattle.base_status.specs.StatusWords.{numberOf}
 use Rattle.card_record.specs.Notifications.{codeOf}
@@ -10,8 +10,8 @@ use Rattle.card_record.specs.declared.Answer.{Answer}
 use Rattle.card_record.specs.declared.Kind.{Kind}
 use Rattle.card_record.specs.declared.Kind.the-variants.{Silent, Changed, RolledBack, FallenBack}
 use Rattle.card_record.specs.declared.Notification.{Notification}
-use Rattle.script_table.specs.Letters.{text}
-use Rattle.script_table.specs.Profiles.{hex8, aidText}
+use Rattle.text_words.specs.Letters.{text}
+use Rattle.text_aid.specs.AidText.{aidText}
 
 -- a number of two bytes as four hex digits
 abbrev pub hex16 : ℕ → List ℕ

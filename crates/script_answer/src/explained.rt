@@ -7,53 +7,61 @@ use card_record::Card;
 use card_record::Kind;
 use card_record::Notification;
 use card_record::Phase;
-use script_table::put_aid;
 use script_table::put_table;
+use text_aid::put_aid;
+use text_words::Piece;
 use text_words::put_decimal;
 use text_words::put_hex;
 use text_words::put_hex_8;
+use text_words::put_piece;
+ghost use mathlib.Core.Path.{_≡_};
 ghost use Prim.Native.Nat.{_+_, _*_, _≤_};
 ghost use lib.ListN.{length};
 ghost use Rattle.base_bytes.specs.Put.{Wrote};
-ghost use Rattle.script_answer.specs.Explained.{meaningOf, wordText, responseText, kindText, issuedText, noticeText, openText, trialText, phaseText, listingText, explainedText, mostExplained};
+ghost use Rattle.text_words.specs.Letters.{pieceOf};
+ghost use Rattle.script_answer.specs.Explained.{meaningOf, meanings, wordText, responseText, kindText, kinds, issuedText, noticeText};
+ghost use Rattle.script_answer.specs.Explained.{openText, trialText, phaseText, listingText, explainedText, mostExplained};
+
+// Where the meaning of a status word stands in the text of all meanings.
+fn meaning_piece(status: Status) -> Piece
+    ensures { λ r. ⌜ pieceOf meanings r ≡ meaningOf status ⌝ }
+{
+    match status {
+        Status::Unsound => Piece(0, 21),
+        Status::BufferShort => Piece(21, 31),
+        Status::LengthWrong => Piece(52, 36),
+        Status::ClassWrong => Piece(88, 15),
+        Status::InstructionWrong => Piece(103, 21),
+        Status::ParametersWrong => Piece(124, 14),
+        Status::DataWrong => Piece(138, 47),
+        Status::StateWrong => Piece(185, 60),
+        Status::NotHeld => Piece(245, 66),
+        Status::PolicyForbids => Piece(311, 21),
+        Status::VerdictWrong => Piece(332, 19),
+        Status::NoRoom => Piece(351, 52),
+        Status::More => Piece(403, 23),
+        Status::Done => Piece(426, 4),
+    }
+}
 
 fn put_meaning(status: Status, buf: &mut [u8], at: usize) -> usize
     ensures { λ r. ⌜ Wrote (now (buf .entry)) at (meaningOf status) r (now (buf .exit)) ⌝ }
 {
-    match status {
-        Status::Unsound => put_bytes(buf, at, b"the card is not sound"),
-        Status::BufferShort => put_bytes(buf, at, b"response buffer under 256 bytes"),
-        Status::LengthWrong => put_bytes(buf, at, b"command length or length shape wrong"),
-        Status::ClassWrong => put_bytes(buf, at, b"class not known"),
-        Status::InstructionWrong => put_bytes(buf, at, b"instruction not known"),
-        Status::ParametersWrong => put_bytes(buf, at, b"P1 or P2 wrong"),
-        Status::DataWrong => {
-            put_bytes(buf, at, b"data field or values wrong, or AID already held")
-        }
-        Status::StateWrong => {
-            put_bytes(
-                buf,
-                at,
-                b"a change is open, or none is, or the target's state is wrong",
-            )
-        }
-        Status::NotHeld => put_bytes(
-            buf,
-            at,
-            b"target not held, or not the outstanding number, or no listing open",
-        ),
-        Status::PolicyForbids => put_bytes(buf, at, b"the policy forbids it"),
-        Status::VerdictWrong => put_bytes(buf, at, b"token verdict not 1"),
-        Status::NoRoom => {
-            put_bytes(
-                buf,
-                at,
-                b"no free place, or no room in the memory or the quota",
-            )
-        }
-        Status::More => put_bytes(buf, at, b"done, more rows to come"),
-        Status::Done => put_bytes(buf, at, b"done"),
-    }
+    let all = b"the card is not sound\
+          response buffer under 256 bytes\
+          command length or length shape wrong\
+          class not known\
+          instruction not known\
+          P1 or P2 wrong\
+          data field or values wrong, or AID already held\
+          a change is open, or none is, or the target's state is wrong\
+          target not held, or not the outstanding number, or no listing open\
+          the policy forbids it\
+          token verdict not 1\
+          no free place, or no room in the memory or the quota\
+          done, more rows to come\
+          done";
+    put_piece(buf, at, all, meaning_piece(status))
 }
 
 fn put_word(status: Status, buf: &mut [u8], at: usize) -> usize
@@ -81,15 +89,26 @@ fn put_response(response: &[u8], buf: &mut [u8], at: usize) -> usize
     put_byte(buf, b, b'\n')
 }
 
+// Where the word of a kind stands in the text of all.
+fn kind_piece(kind: Kind) -> Piece
+    ensures { λ r. ⌜ pieceOf kinds r ≡ kindText kind ⌝ }
+{
+    match kind {
+        Kind::Silent => Piece(0, 4),
+        Kind::Changed => Piece(4, 7),
+        Kind::RolledBack => Piece(11, 11),
+        Kind::FallenBack => Piece(22, 11),
+    }
+}
+
 fn put_kind(kind: Kind, buf: &mut [u8], at: usize) -> usize
     ensures { λ r. ⌜ Wrote (now (buf .entry)) at (kindText kind) r (now (buf .exit)) ⌝ }
 {
-    match kind {
-        Kind::Silent => put_bytes(buf, at, b"none"),
-        Kind::Changed => put_bytes(buf, at, b"changed"),
-        Kind::RolledBack => put_bytes(buf, at, b"rolled back"),
-        Kind::FallenBack => put_bytes(buf, at, b"fallen back"),
-    }
+    let all = b"none\
+          changed\
+          rolled back\
+          fallen back";
+    put_piece(buf, at, all, kind_piece(kind))
 }
 
 fn put_issued(notification: Notification, buf: &mut [u8], at: usize) -> usize

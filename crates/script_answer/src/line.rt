@@ -4,7 +4,7 @@ use base_bytes::put_bytes;
 use card_record::Answer;
 use card_record::Kind;
 use card_record::Notification;
-use script_table::put_aid;
+use text_aid::put_aid;
 use text_words::put_decimal;
 use text_words::put_hex;
 use text_words::put_hex_8;

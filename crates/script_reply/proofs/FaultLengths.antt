@@ -7,12 +7,11 @@ use Rattle.base_choice.specs.Choice.{pick, isBelow}
 use Rattle.text_words.specs.Numbers.{digitsText}
 use Rattle.script_words.specs.declared.Reason.{Reason}
 use Rattle.script_words.specs.declared.Reason.the-variants.{TooLong, UnknownWord, WordsMissing, TooManyWords, BadHex, BadNumber, BadPlace, BadPhase}
-use Rattle.script_table.specs.Letters.{text}
-use Rattle.script_table.proofs.Lengths.{decimal-length}
+use Rattle.text_words.specs.Letters.{text}
+use Rattle.text_words.proofs.ColumnLaws.{decimal-length}
 use Rattle.script_reply.specs.Reasons.{reasonText, reasonLine, mostFault}
 
 reason-length : (r : Reason) → length (reasonText r) ≤ 14
-unfolding reasonText
 reason-length TooLong = omega arith
 reason-length UnknownWord = omega arith
 reason-length WordsMissing = omega arith
@@ -27,5 +26,5 @@ unfolding reasonLine
 fault-length n r = simp length-append (omega (arith, decimal-length n, reason-length r))
 
 pub fault-line : reasonLine 12 BadHex ≡ text "line 12: bad hex\n"
-unfolding reasonLine reasonText digitsText pick isBelow
+unfolding reasonLine digitsText pick isBelow
 fault-line = refl

@@ -4,10 +4,10 @@ use mathlib.Core.List.{List, _++_}
 use Rattle.text_words.specs.Numbers.{decimalText}
 use Rattle.script_words.specs.declared.Reason.{Reason}
 use Rattle.script_words.specs.declared.Reason.the-variants.{TooLong, UnknownWord, WordsMissing, TooManyWords, BadHex, BadNumber, BadPlace, BadPhase}
-use Rattle.script_table.specs.Letters.{text}
+use Rattle.text_words.specs.Letters.{text}
 
 -- one reason is told, the first that is wrong (decision B23)
-unfoldable pub reasonText : Reason → List ℕ
+abbrev pub reasonText : Reason → List ℕ
 reasonText TooLong = text "too long"
 reasonText UnknownWord = text "unknown word"
 reasonText WordsMissing = text "words missing"
@@ -16,6 +16,18 @@ reasonText BadHex = text "bad hex"
 reasonText BadNumber = text "bad number"
 reasonText BadPlace = text "bad place"
 reasonText BadPhase = text "bad phase"
+
+-- the reasons one after the other, as the code keeps them: each is a piece of this text
+abbrev pub reasons : List ℕ
+reasons =
+    reasonText TooLong
+    ++ reasonText UnknownWord
+    ++ reasonText WordsMissing
+    ++ reasonText TooManyWords
+    ++ reasonText BadHex
+    ++ reasonText BadNumber
+    ++ reasonText BadPlace
+    ++ reasonText BadPhase
 
 unfoldable pub reasonLine : ℕ → Reason → List ℕ
 reasonLine n reason = text "line " ++ decimalText n ++ text ": " ++ reasonText reason ++ text "\n"

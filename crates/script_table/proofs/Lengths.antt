@@ -1,70 +1,37 @@
 -- How long the table is, so that a caller's buffer is known to be enough. A number counts as one of 20 digits, as 64 bits have,
 -- and an AID as one of 16 bytes, as every record of the code has. Assumes nothing.
 use mathlib.Core.Path.{_≡_}
-use Prim.Native.Nat.{ℕ, zero, suc, _+_, _*_, _/_, _≤_}
+use Prim.Native.Nat.{ℕ, suc, _+_, _*_, _≤_}
 use native.Mathlib.Omega.{arith}
 use mathlib.Core.List.{List, [], _∷_}
 use mathlib.Core.Bool.{Bool}
-use lib.ListN.{length, length-append, length-take, length-replicate}
+use lib.ListN.{length, length-append}
 use lib.Dec.{eqb}
-use Rattle.text_words.specs.Numbers.{digitsText, decimalText}
 use Rattle.base_choice.proofs.Branches.{each, by-lt, by-eq}
 use Rattle.card_isdp.specs.Aids.{aidOf}
 use Rattle.card_isdp.specs.LifeCycle.{selectable, personalized, disabled, enabled}
 use Rattle.text_words.proofs.HexLaws.{hex-length}
-use Rattle.card_isdp.specs.declared.Aid.{Aid}
+use Rattle.text_words.proofs.ColumnLaws.{spaces-length, column-length}
 use Rattle.card_isdp.specs.declared.Isdp.{Isdp}
 use Rattle.card_record.specs.declared.Card.{Card}
-use Rattle.script_table.specs.Profiles.{aidText, spaces, leadOf, columnText, stateText, yesText, provisioningText, policyText, nameCells, figureCells, roleCells, rowText, placeText, rowsText, widestOf, headText, tableText, mostRow}
+use Rattle.script_table.specs.Profiles.{stateText, yesText, provisioningText, policyText, nameCells, figureCells, roleCells, rowText}
+use Rattle.script_table.specs.Profiles.{placeText, rowsText, widestOf, headText, tableText, mostRow}
 
--- the pieces
-digits-length : (k n : ℕ) → length (digitsText k n) ≤ k + 1
-unfolding digitsText
-digits-length zero n = omega arith
-digits-length (suc k) n =
-    by-lt (λ (l : List ℕ). length l ≤ suc k + 1) n 10 (λ h. omega arith)
-    (λ h. simp length-append (omega (arith, digits-length k (n / 10))))
-
-pub decimal-length : (n : ℕ) → length (decimalText n) ≤ 20
-decimal-length n = digits-length 19 n
-
-pub aid-length : (a : Aid) → length (a .bytes) ≤ 16 → length (aidText a) ≤ 32
-aid-length a h = simp (hex-length, length-take) (omega arith)
-
-pub spaces-length : (n : ℕ) → length (spaces n) ≡ n
-unfolding spaces
-spaces-length n = length-replicate n 32
-
--- the table
-lead-small : (n : ℕ) → leadOf n ≤ 6
-unfolding leadOf
-lead-small n =
-    by-lt (λ (k : ℕ). k ≤ 6) n 10 (λ h. omega arith)
-    (λ h. by-lt (λ (k : ℕ). k ≤ 6) n 100 (λ i. omega arith)
-    (λ i. by-lt (λ (k : ℕ). k ≤ 6) n 1000 (λ j. omega arith)
-    (λ j. by-lt (λ (k : ℕ). k ≤ 6) n 10000 (λ l. omega arith)
-    (λ l. by-lt (λ (k : ℕ). k ≤ 6) n 100000 (λ m. omega arith)
-    (λ m. by-lt (λ (k : ℕ). k ≤ 6) n 1000000 (λ o. omega arith) (λ o. omega arith))))))
-
-pub column-length : (n : ℕ) → length (columnText n) ≤ 26
-unfolding columnText
-column-length n = simp (length-append, spaces-length) (omega (arith, lead-small n, decimal-length n))
-
-state-length : (life : ℕ) → length (stateText life) ≤ 12
+pub state-wide : (life : ℕ) → length (stateText life) ≡ 12
 unfolding stateText
-state-length life =
-    by-eq (λ (l : List ℕ). length l ≤ 12) life selectable (λ h. omega arith)
-    (λ h. by-eq (λ (l : List ℕ). length l ≤ 12) life personalized (λ i. omega arith)
-    (λ i. by-eq (λ (l : List ℕ). length l ≤ 12) life disabled (λ j. omega arith)
-    (λ j. by-eq (λ (l : List ℕ). length l ≤ 12) life enabled (λ k. omega arith)
+state-wide life =
+    by-eq (λ (l : List ℕ). length l ≡ 12) life selectable (λ h. omega arith)
+    (λ h. by-eq (λ (l : List ℕ). length l ≡ 12) life personalized (λ i. omega arith)
+    (λ i. by-eq (λ (l : List ℕ). length l ≡ 12) life disabled (λ j. omega arith)
+    (λ j. by-eq (λ (l : List ℕ). length l ≡ 12) life enabled (λ k. omega arith)
     (λ k. simp (length-append, hex-length) (omega arith)))))
 
 pub yes-wide : (told : Bool) (rest : ℕ) → length (yesText told rest) ≡ 3 + rest
 unfolding yesText
 yes-wide told rest =
     each (λ (l : List ℕ). length l ≡ 3 + rest) told
-    (λ h. simp (length-append, spaces-length) (omega arith))
-    (λ h. simp (length-append, spaces-length) (omega arith))
+    (λ h. simp spaces-length (omega arith))
+    (λ h. simp spaces-length (omega arith))
 
 pub provisioning-wide : (mark : ℕ) → length (provisioningText mark) ≡ 12
 unfolding provisioningText
@@ -92,7 +59,7 @@ figure-length : (p : Isdp) → length (figureCells p) ≤ 70
 unfolding figureCells
 figure-length p =
     simp length-append
-    (omega (arith, state-length (p .life), column-length (p .quota), column-length (p .used)))
+    (omega (arith, state-wide (p .life), column-length (p .quota), column-length (p .used)))
 
 role-length : (p : Isdp) (place holder : ℕ) → length (roleCells p place holder) ≤ 60
 unfolding roleCells
@@ -106,7 +73,8 @@ place-length p place holder widest h k =
     by-eq (λ (l : List ℕ). length l ≤ mostRow) (p .aid .len) 0 (λ e. omega arith)
     (λ e. simp length-append (omega (arith, name-length p place widest h k, figure-length p, role-length p place holder)))
 
-rows-length : (holder widest place : ℕ) (l : List Isdp) → widestOf l ≤ widest → widest ≤ 16 → length (rowsText holder widest place l) ≤ length l * mostRow
+rows-length : (holder widest place : ℕ) (l : List Isdp) → widestOf l ≤ widest → widest ≤ 16
+    → length (rowsText holder widest place l) ≤ length l * mostRow
 unfolding rowsText widestOf
 rows-length holder widest place [] h k = omega arith
 rows-length holder widest place (p ∷ ps) h k =

@@ -1,3 +1,2 @@
 -- The profiles of a card as a table.
-pub mod Letters
 pub mod Profiles

@@ -4,42 +4,17 @@ use mathlib.Core.Path.{_≡_}
 use Prim.Native.Nat.{ℕ, suc, _+_, _-_, _*_, _≤_, _<_, max}
 use mathlib.Core.List.{List, [], _∷_, _++_}
 use mathlib.Core.Bool.{Bool}
-use lib.ListN.{length, replicate}
+use lib.ListN.{length}
 use lib.Dec.{eqb}
 use Rattle.base_choice.specs.Choice.{pick, isBelow, isSame}
-use Rattle.text_words.specs.Hex.{hexText}
-use Rattle.text_words.specs.Numbers.{decimalText}
+use Rattle.text_words.specs.Letters.{text}
+use Rattle.text_words.specs.Hex.{hexText, hex8}
+use Rattle.text_words.specs.Columns.{spaces, columnText}
 use Rattle.card_isdp.specs.Sizes.{mostPlaces}
-use Rattle.card_isdp.specs.Aids.{aidOf, bytesOf}
+use Rattle.card_isdp.specs.Aids.{aidOf}
 use Rattle.card_isdp.specs.LifeCycle.{selectable, personalized, disabled, enabled}
-use Rattle.card_isdp.specs.declared.Aid.{Aid}
 use Rattle.card_isdp.specs.declared.Isdp.{Isdp}
 use Rattle.card_record.specs.declared.Card.{Card}
-use Rattle.script_table.specs.Letters.{text}
-
--- one byte as two hex digits
-abbrev pub hex8 : ℕ → List ℕ
-hex8 n = hexText (n ∷ [])
-
--- an AID, with its true length
-abbrev pub aidText : Aid → List ℕ
-aidText a = hexText (bytesOf a)
-
--- the columns of the table: spaces, a number at the right of a column of seven, as wide as the largest capacity
-unfoldable pub spaces : ℕ → List ℕ
-spaces n = replicate n 32
-
-unfoldable pub leadOf : ℕ → ℕ
-leadOf n =
-    pick (isBelow n 10) 6
-    (pick (isBelow n 100) 5
-    (pick (isBelow n 1000) 4
-    (pick (isBelow n 10000) 3
-    (pick (isBelow n 100000) 2
-    (pick (isBelow n 1000000) 1 0)))))
-
-unfoldable pub columnText : ℕ → List ℕ
-columnText n = spaces (leadOf n) ++ decimalText n
 
 -- the state in a column of twelve; one that no profile of a sound card has in hex
 unfoldable pub stateText : ℕ → List ℕ

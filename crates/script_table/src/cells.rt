@@ -1,73 +1,14 @@
 // The cells of the table: each as wide as its column, so that the rows stand under each other.
-use base_bytes::put_byte;
 use base_bytes::put_bytes;
-use card_isdp::Aid;
 use card_isdp::Isdp;
-use text_words::put_decimal;
-use text_words::put_hex;
 use text_words::put_hex_8;
+use text_words::put_spaces;
 ghost use mathlib.Core.Path.{_≡_};
 ghost use Prim.Native.Nat.{_≤_};
 ghost use lib.ListN.{length};
 ghost use Rattle.base_bytes.specs.Put.{Wrote};
 ghost use Rattle.card_isdp.specs.Aids.{aidOf};
-ghost use Rattle.script_table.specs.Profiles.{aidText, spaces, leadOf, columnText, stateText, yesText, provisioningText, policyText};
-
-// An AID in hex, with its true length; a length over sixteen takes the whole array.
-pub fn put_aid(aid: Aid, buf: &mut [u8], at: usize) -> usize
-    ensures { λ r. ⌜ Wrote (now (buf .entry)) at (aidText aid) r (now (buf .exit)) ⌝ }
-{
-    let bytes = aid.bytes;
-    let n = aid.len as usize;
-    if n > 16 {
-        return put_hex(buf, at, &bytes);
-    }
-    put_hex(buf, at, &bytes[..n])
-}
-
-pub fn put_spaces(count: usize, buf: &mut [u8], at: usize) -> usize
-    ensures { λ r. ⌜ Wrote (now (buf .entry)) at (spaces count) r (now (buf .exit)) ⌝ }
-{
-    let mut i = 0;
-    let mut k = at;
-    while i < count {
-        k = put_byte(buf, k, b' ');
-        i += 1;
-    }
-    k
-}
-
-// The spaces before a number in a column of seven.
-fn lead(n: u64) -> usize
-    ensures { λ r. ⌜ r ≡ leadOf n ⌝ }
-{
-    if n < 10 {
-        return 6;
-    }
-    if n < 100 {
-        return 5;
-    }
-    if n < 1000 {
-        return 4;
-    }
-    if n < 10000 {
-        return 3;
-    }
-    if n < 100000 {
-        return 2;
-    }
-    if n < 1000000 {
-        return 1;
-    }
-    0
-}
-
-pub fn put_column(n: u64, buf: &mut [u8], at: usize) -> usize
-    ensures { λ r. ⌜ Wrote (now (buf .entry)) at (columnText n) r (now (buf .exit)) ⌝ }
-{
-    let a = put_spaces(lead(n), buf, at);
-    put_decimal(buf, a, n)
-}
+ghost use Rattle.script_table.specs.Profiles.{stateText, yesText, provisioningText, policyText};
 
 pub fn put_state(life: u8, buf: &mut [u8], at: usize) -> usize
     ensures { λ r. ⌜ Wrote (now (buf .entry)) at (stateText life) r (now (buf .exit)) ⌝ }

@@ -8,18 +8,19 @@ use card_isdp::Isdp;
 use card_places::PLACES;
 use card_record::Card;
 use cells::aid_size;
-pub use cells::put_aid;
-pub use cells::put_column;
 use cells::put_policy;
 use cells::put_provisioning;
-pub use cells::put_spaces;
 use cells::put_state;
 use cells::put_yes;
+use text_aid::put_aid;
+use text_words::put_column;
+use text_words::put_spaces;
 ghost use mathlib.Core.Path.{_≡_};
 ghost use Prim.Native.Nat.{_-_, _*_, _≤_};
 ghost use lib.ListN.{length};
 ghost use Rattle.base_bytes.specs.Put.{Wrote};
-ghost use Rattle.script_table.specs.Profiles.{spaces, nameCells, figureCells, roleCells, rowText, placeText, rowsText, widestOf, headText, tableText, mostTable};
+ghost use Rattle.text_words.specs.Columns.{spaces};
+ghost use Rattle.script_table.specs.Profiles.{nameCells, figureCells, roleCells, rowText, placeText, rowsText, widestOf, headText, tableText, mostTable};
 
 // The spaces after an AID of n bytes in a column for the widest.
 fn put_gap(widest: u8, n: u8, buf: &mut [u8], at: usize) -> usize

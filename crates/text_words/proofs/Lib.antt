@@ -3,4 +3,5 @@ pub mod WordLaws
 pub mod WordLists
 pub mod NumberLaws
 pub mod HexLaws
+pub mod ColumnLaws
 pub mod RoundTrips

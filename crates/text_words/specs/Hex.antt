@@ -72,3 +72,7 @@ hexText (b ∷ bs) = glyphOf (b / 16) ∷ glyphOf b ∷ hexText bs
 unfoldable pub hexWord : List ℕ → List ℕ
 hexWord [] = 45 ∷ []
 hexWord (b ∷ bs) = hexText (b ∷ bs)
+
+-- one byte as two hex digits
+abbrev pub hex8 : ℕ → List ℕ
+hex8 n = hexText (n ∷ [])

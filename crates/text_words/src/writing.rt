@@ -1,13 +1,29 @@
-// Text written into a lent buffer from a place on, as `byte_string` writes bytes: what does not fit is dropped, and the answer is
+// Text written into a lent buffer from a place on, as `base_bytes` writes bytes: what does not fit is dropped, and the answer is
 // the place after what was written.
+use base_bytes::Part;
+use base_bytes::part_of;
 use base_bytes::put_byte;
+use base_bytes::put_bytes;
 ghost use mathlib.Core.Path.{_≡_};
 ghost use mathlib.Core.List.{_∷_, []};
 ghost use Prim.Native.Nat.{_+_, _*_, _/_, _%_, _≤_};
 ghost use lib.ListN.{length};
 ghost use Rattle.base_bytes.specs.Put.{put, Wrote};
+ghost use Rattle.text_words.specs.Letters.{pieceOf};
 ghost use Rattle.text_words.specs.Numbers.{digitsText, decimalText};
 ghost use Rattle.text_words.specs.Hex.{glyphOf, hexText, hexWord};
+
+// A word of a text that holds several one after the other: where it starts, and how many bytes it has. A value that has a word is told
+// by its piece, so that one writer serves all values of its type.
+pub struct Piece(pub usize, pub usize);
+
+pub fn put_piece(buf: &mut [u8], at: usize, text: &[u8], piece: Piece) -> usize
+    ensures { λ r. ⌜ Wrote (now (buf .entry)) at (pieceOf (now (text .entry)) piece) r (now (buf .exit)) ⌝ }
+{
+    let start = piece.0;
+    let len = piece.1;
+    put_bytes(buf, at, part_of(text, Part { start, len }))
+}
 
 // The hex digit of the low four bits.
 fn glyph(n: u8) -> u8

@@ -5,14 +5,23 @@ use borrow.Author.Needs.{needs}
 use Rattle.month_account.proofs.write_month.Statement.{statement}
 use Rattle.month_account.proofs.write_month.Tie as tie
 
-enum-told : tie.Need-enum-told
-enum-told c = search needs
-
 returns : tie.Need-returns
-returns c = let a = c .before .before .before .before .before .before .before .before .before .before .before .args in refused-written (a .explain) (now (a .s)) (c .before .before .before .before .before .before .before .count-month .ensures) (c .before .before .before .before .before .verdict .given .1) (c .before .before .write-refusal .ensures)
+returns c =
+    let refusal = c .before .before in
+    let verdict = refusal .before .before .before in
+    let count-month = verdict .before .before in
+    let a = count-month .before .before .before .before .args in
+    refused-written (a .explain) (now (a .s)) (count-month .count-month .ensures) (verdict .verdict .given .1)
+    (refusal .write-refusal .ensures)
 
 returns-2 : tie.Need-returns-2
-returns-2 c = let a = c .before .before .before .before .before .before .before .before .before .before .before .before .args in accepted-written (a .explain) (now (a .s)) (c .before .before .before .before .before .before .before .before .count-month .ensures) (c .before .before .before .before .before .before .enum-told .given .1) (c .before .before .write-report .ensures)
+returns-2 c =
+    let report = c .before .before in
+    let told = report .before .before .before .before in
+    let count-month = told .before .before in
+    let a = count-month .before .before .before .before .args in
+    accepted-written (a .explain) (now (a .s)) (count-month .count-month .ensures) (told .enum-told .given .1)
+    (report .write-report .ensures)
 
 pub write-month-spec : {M : Type 1} → statement M
 write-month-spec =
@@ -21,7 +30,7 @@ write-month-spec =
     (λ c κs. search needs)
     (λ c. search needs)
     (λ c κs. search needs)
-    enum-told
+    (λ c. search needs)
     (λ c κs. search needs)
     (λ c. search needs)
     returns

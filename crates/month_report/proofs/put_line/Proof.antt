@@ -14,11 +14,18 @@ use Rattle.month_report.proofs.put_line.Tie as tie
 
 returns : tie.Need-returns
 unfolding aidLine
-returns c = let s = c .before .before .before .before .before .before .before .before .before .before in
+returns c =
+    let s = c .before .before .before .before .before .before .before .before .before .before in
     let a = s .args .aid in
     let w : length (a .bytes) ≡ 16 = search needs in
-    let e = ap (λ (k : ℕ). k * 2) (c .before .before .before .before .size .ensures .0) ∙ sym (hex-length (bytesOf a)) in
-    (wrote-then (c .before .before .before .before .before .before .before .put-aid .ensures) (wrote-as _ (ap (λ (k : ℕ). minutesText (s .args .explain) (s .args .ticks) k (s .args .minutes)) e) (c .before .before .put-minutes .ensures)), aid-line-length (s .args .explain) (s .args .ticks) a (s .args .minutes) (omega arith))
+    let minutes = c .before .before in
+    let size = minutes .before .before in
+    let aid = size .before .before .before in
+    let e = ap (λ (k : ℕ). k * 2) (size .size .ensures .0) ∙ sym (hex-length (bytesOf a)) in
+    let rest = ap (λ (k : ℕ). minutesText (s .args .explain) (s .args .ticks) k (s .args .minutes)) e in (
+      wrote-then (aid .put-aid .ensures) (wrote-as _ rest (minutes .put-minutes .ensures)),
+      aid-line-length (s .args .explain) (s .args .ticks) a (s .args .minutes) (omega arith),
+    )
 
 pub put-line-spec : {M : Type 1} → statement M
 put-line-spec =

@@ -9,7 +9,11 @@ use Rattle.month_report.proofs.put_refused.Tie as tie
 
 returns : tie.Need-returns
 unfolding refusedText
-returns c = wrote-as _ (yes! _ (c .before .before .before .before .before .before .before .before .before .if1 .taken) refl) (wrote-then (c .before .before .before .before .before .before .put-bytes .ensures) (c .before .before .put-total .ensures))
+returns c =
+    let total = c .before .before in
+    let bytes = total .before .before .before .before in
+    let test1 = bytes .before .before .before in
+    wrote-as _ (yes! _ (test1 .if1 .taken) refl) (wrote-then (bytes .put-bytes .ensures) (total .put-total .ensures))
 
 returns-2 : tie.Need-returns-2
 unfolding refusedText

@@ -9,7 +9,11 @@ use Rattle.month_report.proofs.put_rest.Tie as tie
 
 returns : tie.Need-returns
 unfolding restText
-returns c = wrote-as _ (yes! _ (c .before .before .before .before .before .before .before .before .before .if1 .taken) refl) (wrote-then (c .before .before .before .before .before .before .put-bytes .ensures) (c .before .before .put-minutes .ensures))
+returns c =
+    let minutes = c .before .before in
+    let bytes = minutes .before .before .before .before in
+    let test1 = bytes .before .before .before in
+    wrote-as _ (yes! _ (test1 .if1 .taken) refl) (wrote-then (bytes .put-bytes .ensures) (minutes .put-minutes .ensures))
 
 returns-2 : tie.Need-returns-2
 unfolding restText

@@ -7,7 +7,14 @@ use Rattle.month_report.proofs.put_totals.Tie as tie
 
 returns : tie.Need-returns
 unfolding totalsText
-returns c = wrote-then (wrote-then (wrote-then (wrote-then (c .before .before .before .before .before .before .before .before .before .before .before .before .before .before .before .before .before .before .before .put-bytes .ensures) (c .before .before .before .before .before .before .before .before .before .before .before .before .before .before .before .put-total .ensures)) (c .before .before .before .before .before .before .before .before .before .before .put-bytes2 .ensures)) (c .before .before .before .before .before .before .put-total2 .ensures)) (c .before .before .put-refused .ensures)
+returns c =
+    let refused = c .before .before in
+    let total2 = refused .before .before .before .before in
+    let bytes2 = total2 .before .before .before .before in
+    let total = bytes2 .before .before .before .before .before in
+    let bytes = total .before .before .before .before in
+    wrote-then (wrote-then (wrote-then (wrote-then (bytes .put-bytes .ensures) (total .put-total .ensures)) (bytes2 .put-bytes2 .ensures))
+    (total2 .put-total2 .ensures)) (refused .put-refused .ensures)
 
 pub put-totals-spec : {M : Type 1} → statement M
 put-totals-spec =

@@ -8,9 +8,17 @@ use Rattle.month_report.proofs.write_report.Tie as tie
 
 returns : tie.Need-returns
 unfolding reportText
-returns c = let s = c .before .before .before .before .before .before .before .before .before .before .before .before .before .before .before .before .before .before .before in
-    let l = c .before .before .before .before .before .before .before .before .before .before .before .put-lines .ensures in
-    (wrote-then (wrote-then (wrote-then (c .before .before .before .before .before .before .before .before .before .before .before .before .before .before .before .put-head .ensures) (l .0)) (c .before .before .before .before .before .before .put-rest .ensures)) (c .before .before .put-totals .ensures), report-length (s .args .explain) (s .args .tally) (s .args .minutes .now) (l .1))
+returns c =
+    let totals = c .before .before in
+    let rest = totals .before .before .before .before in
+    let lines = rest .before .before .before .before .before in
+    let head = lines .before .before .before .before in
+    let s = head .before .before .before .before in
+    let l = lines .put-lines .ensures in (
+      wrote-then (wrote-then (wrote-then (head .put-head .ensures) (l .0)) (rest .put-rest .ensures))
+          (totals .put-totals .ensures),
+      report-length (s .args .explain) (s .args .tally) (s .args .minutes .now) (l .1),
+    )
 
 pub write-report-spec : {M : Type 1} → statement M
 write-report-spec =

@@ -1,4 +1,4 @@
--- `profiles::put_figure_cells`: the cells one after the other.
+-- `script_table::put_figure_cells`: the cells one after the other.
 use Rattle.script_table.proofs.Pieces.{wrote-size}
 use Rattle.script_table.specs.Profiles.{figureCells}
 use Rattle.base_bytes.proofs.PutLaws.{wrote-then}
@@ -15,7 +15,8 @@ returns c =
     let second = quota .before .before .before .before .before in
     let state = second .before .before .before .before .before in
     let first = state .before .before .before .before in
-    wrote-then (wrote-then (wrote-then (wrote-then (wrote-then (first .put-bytes .ensures) (state .put-state .ensures)) (second .put-bytes2 .ensures)) (quota .put-column .ensures)) (third .put-bytes3 .ensures)) (used .put-column2 .ensures)
+    wrote-then (wrote-then (wrote-then (wrote-then (wrote-then (first .put-bytes .ensures) (state .put-state .ensures))
+    (second .put-bytes2 .ensures)) (quota .put-column .ensures)) (third .put-bytes3 .ensures)) (used .put-column2 .ensures)
 
 same-length : tie.Need-same-length
 same-length c = wrote-size (returns c)

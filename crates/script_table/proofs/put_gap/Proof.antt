@@ -1,8 +1,8 @@
--- `profiles::put_gap`: where the column is no wider there is nothing to write.
+-- `script_table::put_gap`: where the column is no wider there is nothing to write.
 use mathlib.Core.Path.{sym}
 use native.Mathlib.Omega.{arith}
 use Rattle.base_bytes.proofs.PutLaws.{wrote-as, wrote-none}
-use Rattle.script_table.proofs.Pieces.{spaces-end}
+use Rattle.text_words.proofs.ColumnLaws.{spaces-end}
 use borrow.Author.Needs.{needs}
 use Rattle.script_table.proofs.put_gap.Statement.{statement}
 use Rattle.script_table.proofs.put_gap.Tie as tie

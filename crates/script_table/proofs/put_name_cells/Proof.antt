@@ -1,8 +1,9 @@
--- `profiles::put_name_cells`: the cells one after the other.
+-- `script_table::put_name_cells`: the cells one after the other.
 use Rattle.base_bytes.proofs.PutLaws.{wrote-then, wrote-as}
 use mathlib.Core.Path.{ap}
 use Prim.Native.Nat.{ℕ, _-_, _*_}
-use Rattle.script_table.specs.Profiles.{spaces, nameCells}
+use Rattle.text_words.specs.Columns.{spaces}
+use Rattle.script_table.specs.Profiles.{nameCells}
 use borrow.Author.Needs.{needs}
 use Rattle.script_table.proofs.put_name_cells.Statement.{statement}
 use Rattle.script_table.proofs.put_name_cells.Tie as tie
@@ -10,8 +11,14 @@ use Rattle.script_table.proofs.put_name_cells.Tie as tie
 returns : tie.Need-returns
 unfolding nameCells
 returns c =
-    wrote-then (wrote-then (wrote-then (c .before .before .before .before .before .before .before .before .before .before .before .before .before .before .before .put-column .ensures) (c .before .before .before .before .before .before .before .before .before .before .put-bytes .ensures)) (c .before .before .before .before .before .before .put-aid .ensures))
-    (wrote-as _ (ap (λ (n : ℕ). spaces ((c .before .before .before .before .before .before .before .before .before .before .before .before .before .before .before .before .before .before .before .before .args .widest - n) * 2)) (c .before .before .before .before .before .before .before .before .before .before .before .before .before .before .before .before .before .before .aid-size .ensures .0)) (c .before .before .put-gap .ensures))
+    let gap = c .before .before in
+    let aid = gap .before .before .before .before in
+    let space = aid .before .before .before .before in
+    let number = space .before .before .before .before .before in
+    let s = number .before .before .before in
+    let e = ap (λ (n : ℕ). spaces ((s .before .before .args .widest - n) * 2)) (s .aid-size .ensures .0) in
+    wrote-then (wrote-then (wrote-then (number .put-column .ensures) (space .put-bytes .ensures)) (aid .put-aid .ensures))
+    (wrote-as _ e (gap .put-gap .ensures))
 
 pub put-name-cells-spec : {M : Type 1} → statement M
 put-name-cells-spec =

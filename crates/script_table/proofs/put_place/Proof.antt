@@ -1,4 +1,4 @@
--- `profiles::put_place`: a place that is not held has nothing to write.
+-- `script_table::put_place`: a place that is not held has nothing to write.
 use mathlib.Core.Path.{refl}
 use Rattle.base_bytes.proofs.PutLaws.{wrote-as, wrote-none, wrote-then}
 use Rattle.base_choice.proofs.Branches.{eq!, ne! }
@@ -17,7 +17,8 @@ returns-2 c =
     let roles = c .before .before in
     let figures = roles .before .before .before .before in
     let names = figures .before .before .before .before in
-    wrote-as _ (ne! _ (names .before .before .if1 .left) refl) (wrote-then (wrote-then (names .put-name-cells .ensures) (figures .put-figure-cells .ensures)) (roles .put-role-cells .ensures))
+    wrote-as _ (ne! _ (names .before .before .if1 .left) refl) (wrote-then (wrote-then (names .put-name-cells .ensures)
+    (figures .put-figure-cells .ensures)) (roles .put-role-cells .ensures))
 
 pub put-place-spec : {M : Type 1} → statement M
 put-place-spec =

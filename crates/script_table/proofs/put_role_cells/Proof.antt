@@ -1,4 +1,4 @@
--- `profiles::put_role_cells`: the cells one after the other.
+-- `script_table::put_role_cells`: the cells one after the other.
 use Rattle.script_table.proofs.Pieces.{wrote-size}
 use Rattle.script_table.specs.Profiles.{roleCells}
 use Rattle.base_bytes.proofs.PutLaws.{wrote-then}
@@ -16,7 +16,9 @@ returns c =
     let second = mark .before .before .before .before in
     let holder = second .before .before .before .before .before in
     let first = holder .before .before .before .before in
-    wrote-then (wrote-then (wrote-then (wrote-then (wrote-then (wrote-then (first .put-bytes .ensures) (holder .put-yes .ensures)) (second .put-bytes2 .ensures)) (mark .put-provisioning .ensures)) (third .put-bytes3 .ensures)) (policy .put-policy .ensures)) (ended .put-byte .ensures)
+    wrote-then (wrote-then (wrote-then (wrote-then (wrote-then (wrote-then (first .put-bytes .ensures) (holder .put-yes .ensures))
+    (second .put-bytes2 .ensures)) (mark .put-provisioning .ensures)) (third .put-bytes3 .ensures)) (policy .put-policy .ensures))
+    (ended .put-byte .ensures)
 
 same-length : tie.Need-same-length
 same-length c = wrote-size (returns c)

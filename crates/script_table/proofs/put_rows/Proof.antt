@@ -1,4 +1,4 @@
--- `profiles::put_rows`: the rows from place i on are still to write, which leaves what writing all of them leaves.
+-- `script_table::put_rows`: the rows from place i on are still to write, which leaves what writing all of them leaves.
 use borrow.Author.Needs.{needs}
 use mathlib.Core.Path.{_≡_}
 use Prim.Native.Nat.{_-_, _≤_}
@@ -12,7 +12,8 @@ use Rattle.script_table.proofs.put_rows.Statement.{statement}
 use Rattle.script_table.proofs.put_rows.Tie as tie
 
 abbrev Inv-loop : tie.InvT-loop
-Inv-loop holder wide buf₀ at places i₀ k₀ buf i k = (i ≤ mostPlaces) × Writing buf₀ at (rowsText holder wide 0 places) buf k (rowsText holder wide i (drop i places))
+Inv-loop holder wide buf₀ at places i₀ k₀ buf i k =
+    (i ≤ mostPlaces) × Writing buf₀ at (rowsText holder wide 0 places) buf k (rowsText holder wide i (drop i places))
 
 abbrev μ-loop : tie.MeasureT-loop
 μ-loop holder wide buf₀ at places i₀ k₀ buf i k = mostPlaces - i
@@ -20,27 +21,16 @@ abbrev μ-loop : tie.MeasureT-loop
 loop-holds : tie.Need-loop-holds Inv-loop μ-loop
 loop-holds c = (omega arith, writing-starts _ _ _)
 
-mul-p : tie.Need-mul-p Inv-loop μ-loop
-mul-p c = search needs
-
-array-copy-out-p : tie.Need-array-copy-out-p Inv-loop μ-loop
-array-copy-out-p c = search needs
-
-put-place-requires : tie.Need-put-place-requires Inv-loop μ-loop
-put-place-requires c κs = search needs
-
-add-i : tie.Need-add-i Inv-loop μ-loop
-add-i c = search needs
-
-loop-less : tie.Need-loop-less Inv-loop μ-loop
-loop-less c = search needs
-
 loop-again : tie.Need-loop-again Inv-loop μ-loop
-loop-again c = let s = c .before .before .before .before .before .before .before .before in
+loop-again c =
+    let place = c .before .before in
+    let loop = place .before .before .before .before in
+    let before = loop .before in
+    let s = before .before in
     let n : length (s .args .t1) ≡ mostPlaces = search needs in
-    let o = c .before .before .before .before .before .before .loop in
+    let o = loop .loop in
     let e = rows-step (s .args .t1) (o .i) (s .args .holder) (s .args .wide) (omega arith) in
-    (omega arith, writing-goes _ (writing-as _ e (o .inv .1)) (c .before .before .put-place .ensures))
+    (omega arith, writing-goes _ (writing-as _ e (o .inv .1)) (place .put-place .ensures))
 
 same-length : tie.Need-same-length Inv-loop μ-loop
 same-length c = c .before .loop .inv .1 .size
@@ -58,11 +48,11 @@ put-rows-spec =
     Inv-loop
     μ-loop
     loop-holds
-    mul-p
-    array-copy-out-p
-    put-place-requires
-    add-i
-    loop-less
+    (λ c. search needs)
+    (λ c. search needs)
+    (λ c κs. search needs)
+    (λ c. search needs)
+    (λ c. search needs)
     loop-again
     same-length
     returns)

@@ -1,4 +1,4 @@
--- `profiles::put_table`: the head, then the rows; a card of the code has a row for each of its places.
+-- `script_table::put_table`: the head, then the rows; a card of the code has a row for each of its places.
 use Rattle.base_bytes.proofs.PutLaws.{wrote-then, wrote-as}
 use mathlib.Core.Path.{_≡_, ap}
 use Prim.Native.Nat.{ℕ, _≤_}
@@ -14,11 +14,17 @@ use Rattle.script_table.proofs.put_table.Tie as tie
 
 returns : tie.Need-returns
 unfolding tableText
-returns c = let s = c .before .before .before .before .before .before .before .before .before .before .before .before in
-    let n : length (s .args .card .places) ≡ mostPlaces = full (s .args .card) _ (s .good .0) in
-    let wide = c .before .before .before .before .before .before .before .before .before .widest .ensures in
-    let h : widestOf (s .args .card .places) ≤ 16 = omega (arith, wide) in
-    (wrote-then (wrote-as _ (ap headText (wide .0)) (c .before .before .before .before .before .before .before .put-head .ensures)) (wrote-as _ (ap (λ (w : ℕ). rowsText (s .args .card .fallback) w 0 (s .args .card .places)) (wide .0)) (c .before .before .put-rows .ensures)), omega (arith, table-length (s .args .card) h))
+returns c =
+    let rows = c .before .before in
+    let head = rows .before .before .before .before .before in
+    let s = head .before .before .before .before .before in
+    let card = s .args .card in
+    let n : length (card .places) ≡ mostPlaces = full card _ (s .good .0) in
+    let wide = head .before .before .widest .ensures in
+    let h : widestOf (card .places) ≤ 16 = omega (arith, wide) in
+    let e = ap (λ (w : ℕ). rowsText (card .fallback) w 0 (card .places)) (wide .0) in
+    let written = wrote-then (wrote-as _ (ap headText (wide .0)) (head .put-head .ensures)) (wrote-as _ e (rows .put-rows .ensures)) in
+    (written, omega (arith, table-length card h))
 
 pub put-table-spec : {M : Type 1} → statement M
 put-table-spec =

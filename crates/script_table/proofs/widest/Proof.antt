@@ -1,4 +1,4 @@
--- `profiles::widest`: m is the longest of the places before i.
+-- `script_table::widest`: m is the longest of the places before i.
 use borrow.Author.Needs.{needs}
 use mathlib.Core.Path.{_≡_}
 use Prim.Native.Nat.{_-_, _≤_, max}
@@ -20,26 +20,13 @@ abbrev μ-loop : tie.MeasureT-loop
 loop-holds : tie.Need-loop-holds Inv-loop μ-loop
 loop-holds c = (omega arith, (omega arith, omega arith))
 
-mul-aid-size : tie.Need-mul-aid-size Inv-loop μ-loop
-mul-aid-size c = search needs
-
-array-copy-out-aid-size : tie.Need-array-copy-out-aid-size Inv-loop μ-loop
-array-copy-out-aid-size c = search needs
-
-aid-size-requires : tie.Need-aid-size-requires Inv-loop μ-loop
-aid-size-requires c κs = search needs
-
-add-i : tie.Need-add-i Inv-loop μ-loop
-add-i c = search needs
-
-loop-less : tie.Need-loop-less Inv-loop μ-loop
-loop-less c = search needs
-
 loop-again : tie.Need-loop-again Inv-loop μ-loop
-loop-again c = let s = c .before .before .before .before .before in
+loop-again c =
+    let s = c .before .before .before .before .before in
     let n : length (s .args .t1) ≡ mostPlaces = search needs in
     let e = widest-step (s .args .t1) (c .before .before .before .before .loop .i) (omega arith) in
-    ⊎-elim (λ w. let h = w .0 .taken in (omega arith, (omega arith, omega arith))) (λ w. let h = w .0 .left in (omega arith, (omega arith, omega arith))) (c .if1 .came)
+    ⊎-elim (λ w. let h = w .0 .taken in (omega arith, (omega arith, omega arith)))
+    (λ w. let h = w .0 .left in (omega arith, (omega arith, omega arith))) (c .if1 .came)
 
 returns : tie.Need-returns Inv-loop μ-loop
 returns c = let s = c .before .before in
@@ -54,10 +41,10 @@ widest-spec =
     Inv-loop
     μ-loop
     loop-holds
-    mul-aid-size
-    array-copy-out-aid-size
-    aid-size-requires
-    add-i
-    loop-less
+    (λ c. search needs)
+    (λ c. search needs)
+    (λ c κs. search needs)
+    (λ c. search needs)
+    (λ c. search needs)
     loop-again
     returns)

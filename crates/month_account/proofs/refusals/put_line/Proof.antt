@@ -7,7 +7,11 @@ use Rattle.month_account.proofs.refusals.put_line.Tie as tie
 
 returns : tie.Need-returns
 unfolding lineText
-returns c = wrote-then (wrote-then (c .before .before .before .before .before .before .before .before .before .before .put-bytes .ensures) (c .before .before .before .before .before .before .put-name .ensures)) (c .before .before .put-byte .ensures)
+returns c =
+    let byte = c .before .before in
+    let name = byte .before .before .before .before in
+    let bytes = name .before .before .before .before in
+    wrote-then (wrote-then (bytes .put-bytes .ensures) (name .put-name .ensures)) (byte .put-byte .ensures)
 
 pub put-line-spec : {M : Type 1} → statement M
 put-line-spec =

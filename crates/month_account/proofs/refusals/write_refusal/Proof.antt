@@ -17,10 +17,13 @@ returns c =
 returns-2 : tie.Need-returns-2
 unfolding refusalText pick
 returns-2 c =
-    let a = c .before .before .before .before .before .before .before .before .before .before .before .before .before .before .before .args in (
-      rw (not-false (a .explain) (c .before .before .before .before .before .before .before .before .before .if1 .left)) (wrote-then (wrote-then (c .before .before .before .before .before .before .before .before .before .before .before .before .put-line .ensures) (c .before .before .before .before .before .before .before .put-meaning .ensures)) (c .before .before .put-bytes .ensures)),
-      refusal-length (a .explain) (a .refusal),
-    )
+    let bytes = c .before .before in
+    let meaning = bytes .before .before .before .before .before in
+    let test1 = meaning .before .before in
+    let line = test1 .before .before .before in
+    let a = line .before .before .before .args in
+    let written = wrote-then (wrote-then (line .put-line .ensures) (meaning .put-meaning .ensures)) (bytes .put-bytes .ensures) in
+    (rw (not-false (a .explain) (test1 .if1 .left)) written, refusal-length (a .explain) (a .refusal))
 
 pub write-refusal-spec : {M : Type 1} → statement M
 write-refusal-spec =

@@ -7,7 +7,11 @@ use Rattle.month_report.proofs.cells.put_figure.Tie as tie
 
 returns : tie.Need-returns
 unfolding figureText
-returns c = wrote-then (wrote-then (c .before .before .before .before .before .before .before .before .before .before .before .put-gap .ensures) (c .before .before .before .before .before .before .put-bytes .ensures)) (c .before .before .put-column .ensures)
+returns c =
+    let column = c .before .before in
+    let bytes = column .before .before .before .before in
+    let gap = bytes .before .before .before .before .before in
+    wrote-then (wrote-then (gap .put-gap .ensures) (bytes .put-bytes .ensures)) (column .put-column .ensures)
 
 pub put-figure-spec : {M : Type 1} → statement M
 put-figure-spec =

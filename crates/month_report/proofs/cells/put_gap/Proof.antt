@@ -2,7 +2,7 @@
 use mathlib.Core.Path.{sym}
 use native.Mathlib.Omega.{arith}
 use Rattle.base_bytes.proofs.PutLaws.{wrote-as, wrote-none}
-use Rattle.script_table.proofs.Pieces.{spaces-end}
+use Rattle.text_words.proofs.ColumnLaws.{spaces-end}
 use borrow.Author.Needs.{needs}
 use Rattle.month_report.proofs.cells.put_gap.Statement.{statement}
 use Rattle.month_report.proofs.cells.put_gap.Tie as tie

@@ -9,7 +9,13 @@ use Rattle.month_report.proofs.cells.put_minutes.Tie as tie
 
 returns : tie.Need-returns
 unfolding minutesText
-returns c = wrote-as _ (yes! _ (c .before .before .before .before .before .before .before .before .before .before .before .before .if1 .taken) refl) (wrote-then (wrote-then (c .before .before .before .before .before .before .before .before .before .before .put-figure .ensures) (c .before .before .before .before .before .before .put-share .ensures)) (c .before .before .put-byte .ensures))
+returns c =
+    let byte = c .before .before in
+    let share = byte .before .before .before .before in
+    let figure = share .before .before .before .before in
+    let test1 = figure .before .before in
+    wrote-as _ (yes! _ (test1 .if1 .taken) refl) (wrote-then (wrote-then (figure .put-figure .ensures) (share .put-share .ensures))
+    (byte .put-byte .ensures))
 
 returns-2 : tie.Need-returns-2
 unfolding minutesText

@@ -7,7 +7,11 @@ use Rattle.month_report.proofs.cells.put_plain.Tie as tie
 
 returns : tie.Need-returns
 unfolding plainText
-returns c = wrote-then (wrote-then (c .before .before .before .before .before .before .before .before .before .before .put-byte .ensures) (c .before .before .before .before .before .before .put-decimal .ensures)) (c .before .before .put-byte2 .ensures)
+returns c =
+    let byte2 = c .before .before in
+    let decimal = byte2 .before .before .before .before in
+    let byte = decimal .before .before .before .before in
+    wrote-then (wrote-then (byte .put-byte .ensures) (decimal .put-decimal .ensures)) (byte2 .put-byte2 .ensures)
 
 pub put-plain-spec : {M : Type 1} → statement M
 put-plain-spec =

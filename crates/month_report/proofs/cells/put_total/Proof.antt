@@ -9,7 +9,11 @@ use Rattle.month_report.proofs.cells.put_total.Tie as tie
 
 returns : tie.Need-returns
 unfolding totalText
-returns c = wrote-as _ (yes! _ (c .before .before .before .before .before .before .before .before .if1 .taken) refl) (wrote-then (c .before .before .before .before .before .before .put-figure .ensures) (c .before .before .put-byte .ensures))
+returns c =
+    let byte = c .before .before in
+    let figure = byte .before .before .before .before in
+    let test1 = figure .before .before in
+    wrote-as _ (yes! _ (test1 .if1 .taken) refl) (wrote-then (figure .put-figure .ensures) (byte .put-byte .ensures))
 
 returns-2 : tie.Need-returns-2
 unfolding totalText

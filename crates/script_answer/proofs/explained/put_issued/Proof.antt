@@ -7,7 +7,16 @@ use Rattle.script_answer.proofs.explained.put_issued.Tie as tie
 
 returns : tie.Need-returns
 unfolding issuedText
-returns c = wrote-then (wrote-then (wrote-then (wrote-then (wrote-then (wrote-then (c .before .before .before .before .before .before .before .before .before .before .before .before .before .before .before .before .before .before .before .before .before .before .before .before .before .before .before .before .before .before .put-bytes .ensures) (c .before .before .before .before .before .before .before .before .before .before .before .before .before .before .before .before .before .before .before .before .before .before .before .before .before .put-decimal .ensures)) (c .before .before .before .before .before .before .before .before .before .before .before .before .before .before .before .before .before .before .before .before .put-bytes2 .ensures)) (c .before .before .before .before .before .before .before .before .before .before .before .before .before .before .before .before .put-kind .ensures)) (c .before .before .before .before .before .before .before .before .before .before .before .put-bytes3 .ensures)) (c .before .before .before .before .before .before .before .put-aid .ensures)) (c .before .before .put-bytes4 .ensures)
+returns c =
+    let bytes4 = c .before .before in
+    let aid = bytes4 .before .before .before .before .before in
+    let bytes3 = aid .before .before .before .before in
+    let kind = bytes3 .before .before .before .before .before in
+    let bytes2 = kind .before .before .before .before in
+    let decimal = bytes2 .before .before .before .before .before in
+    let bytes = decimal .before .before .before .before .before in
+    wrote-then (wrote-then (wrote-then (wrote-then (wrote-then (wrote-then (bytes .put-bytes .ensures) (decimal .put-decimal .ensures))
+    (bytes2 .put-bytes2 .ensures)) (kind .put-kind .ensures)) (bytes3 .put-bytes3 .ensures)) (aid .put-aid .ensures)) (bytes4 .put-bytes4 .ensures)
 
 pub put-issued-spec : {M : Type 1} → statement M
 put-issued-spec =

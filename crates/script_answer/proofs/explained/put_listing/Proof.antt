@@ -17,7 +17,8 @@ returns-2 c =
     let b = c .before .before in
     let d = b .before .before .before .before in
     let t = d .before .before .before .before in
-    wrote-as _ (ne! _ (t .before .before .before .if1 .left) refl) (wrote-then (wrote-then (t .put-bytes .ensures) (d .put-decimal .ensures)) (b .put-byte .ensures))
+    wrote-as _ (ne! _ (t .before .before .before .if1 .left) refl) (wrote-then (wrote-then (t .put-bytes .ensures) (d .put-decimal .ensures))
+    (b .put-byte .ensures))
 
 pub put-listing-spec : {M : Type 1} → statement M
 put-listing-spec =

@@ -1,139 +1,14 @@
--- `explained::put_meaning`: the word tells which text it is.
-use Rattle.script_answer.specs.Explained.{meaningOf}
+-- `explained::put_meaning`: the piece that `meaning_piece` tells of the text of all is the meaning.
+use Rattle.base_bytes.proofs.PutLaws.{wrote-as}
 use borrow.Author.Needs.{needs}
 use Rattle.script_answer.proofs.explained.put_meaning.Statement.{statement}
 use Rattle.script_answer.proofs.explained.put_meaning.Tie as tie
 
-enum-told : tie.Need-enum-told
-enum-told c = search needs
-
 returns : tie.Need-returns
-unfolding meaningOf
-returns c = rw (c .before .before .before .before .before .enum-told .given .1) (c .before .before .put-bytes .ensures)
-
-returns-2 : tie.Need-returns-2
-unfolding meaningOf
-returns-2 c = rw (c .before .before .before .before .before .enum-told2 .given .1) (c .before .before .put-bytes2 .ensures)
-
-returns-3 : tie.Need-returns-3
-unfolding meaningOf
-returns-3 c = rw (c .before .before .before .before .before .enum-told3 .given .1) (c .before .before .put-bytes3 .ensures)
-
-returns-4 : tie.Need-returns-4
-unfolding meaningOf
-returns-4 c = rw (c .before .before .before .before .before .enum-told4 .given .1) (c .before .before .put-bytes4 .ensures)
-
-returns-5 : tie.Need-returns-5
-unfolding meaningOf
-returns-5 c = rw (c .before .before .before .before .before .enum-told5 .given .1) (c .before .before .put-bytes5 .ensures)
-
-returns-6 : tie.Need-returns-6
-unfolding meaningOf
-returns-6 c = rw (c .before .before .before .before .before .enum-told6 .given .1) (c .before .before .put-bytes6 .ensures)
-
-returns-7 : tie.Need-returns-7
-unfolding meaningOf
-returns-7 c = rw (c .before .before .before .before .before .enum-told7 .given .1) (c .before .before .put-bytes7 .ensures)
-
-returns-8 : tie.Need-returns-8
-unfolding meaningOf
-returns-8 c = rw (c .before .before .before .before .before .enum-told8 .given .1) (c .before .before .put-bytes8 .ensures)
-
-returns-9 : tie.Need-returns-9
-unfolding meaningOf
-returns-9 c = rw (c .before .before .before .before .before .enum-told9 .given .1) (c .before .before .put-bytes9 .ensures)
-
-returns-10 : tie.Need-returns-10
-unfolding meaningOf
-returns-10 c = rw (c .before .before .before .before .before .enum-told10 .given .1) (c .before .before .put-bytes10 .ensures)
-
-returns-11 : tie.Need-returns-11
-unfolding meaningOf
-returns-11 c = rw (c .before .before .before .before .before .enum-told11 .given .1) (c .before .before .put-bytes11 .ensures)
-
-returns-12 : tie.Need-returns-12
-unfolding meaningOf
-returns-12 c = rw (c .before .before .before .before .before .enum-told12 .given .1) (c .before .before .put-bytes12 .ensures)
-
-returns-13 : tie.Need-returns-13
-unfolding meaningOf
-returns-13 c = rw (c .before .before .before .before .before .enum-told13 .given .1) (c .before .before .put-bytes13 .ensures)
-
-returns-14 : tie.Need-returns-14
-unfolding meaningOf
-returns-14 c = rw (c .before .before .before .before .before .enum-told14 .given .1) (c .before .before .put-bytes14 .ensures)
+returns c =
+    let written = c .before .before in
+    wrote-as _ (written .before .meaning-piece .ensures) (written .put-piece .ensures)
 
 pub put-meaning-spec : {M : Type 1} → statement M
 put-meaning-spec =
-    tie.close
-    (tie.spec
-    enum-told
-    (λ c. search needs)
-    (λ c κs. search needs)
-    (λ c. search needs)
-    (λ c. search needs)
-    (λ c κs. search needs)
-    (λ c. search needs)
-    (λ c. search needs)
-    (λ c κs. search needs)
-    (λ c. search needs)
-    (λ c. search needs)
-    (λ c κs. search needs)
-    (λ c. search needs)
-    (λ c. search needs)
-    (λ c κs. search needs)
-    (λ c. search needs)
-    (λ c. search needs)
-    (λ c κs. search needs)
-    (λ c. search needs)
-    (λ c. search needs)
-    (λ c κs. search needs)
-    (λ c. search needs)
-    (λ c. search needs)
-    (λ c κs. search needs)
-    (λ c. search needs)
-    (λ c. search needs)
-    (λ c κs. search needs)
-    (λ c. search needs)
-    (λ c. search needs)
-    (λ c κs. search needs)
-    (λ c. search needs)
-    (λ c. search needs)
-    (λ c κs. search needs)
-    (λ c. search needs)
-    (λ c. search needs)
-    (λ c κs. search needs)
-    (λ c. search needs)
-    (λ c. search needs)
-    (λ c κs. search needs)
-    (λ c. search needs)
-    (λ c. search needs)
-    (λ c κs. search needs)
-    (λ c. search needs)
-    returns
-    (λ c. search needs)
-    returns-2
-    (λ c. search needs)
-    returns-3
-    (λ c. search needs)
-    returns-4
-    (λ c. search needs)
-    returns-5
-    (λ c. search needs)
-    returns-6
-    (λ c. search needs)
-    returns-7
-    (λ c. search needs)
-    returns-8
-    (λ c. search needs)
-    returns-9
-    (λ c. search needs)
-    returns-10
-    (λ c. search needs)
-    returns-11
-    (λ c. search needs)
-    returns-12
-    (λ c. search needs)
-    returns-13
-    (λ c. search needs)
-    returns-14)
+    tie.close (tie.spec (λ c κs. search needs) (λ c κs. search needs) (λ c. search needs) returns)

@@ -7,7 +7,14 @@ use Rattle.script_answer.proofs.explained.put_open.Tie as tie
 
 returns : tie.Need-returns
 unfolding openText
-returns c = wrote-then (wrote-then (wrote-then (wrote-then (c .before .before .before .before .before .before .before .before .before .before .before .before .before .before .before .before .before .before .before .put-bytes .ensures) (c .before .before .before .before .before .before .before .before .before .before .before .before .before .before .before .put-decimal .ensures)) (c .before .before .before .before .before .before .before .before .before .before .put-bytes2 .ensures)) (c .before .before .before .before .before .before .put-decimal2 .ensures)) (c .before .before .put-byte .ensures)
+returns c =
+    let byte = c .before .before in
+    let decimal2 = byte .before .before .before .before in
+    let bytes2 = decimal2 .before .before .before .before in
+    let decimal = bytes2 .before .before .before .before .before in
+    let bytes = decimal .before .before .before .before in
+    wrote-then (wrote-then (wrote-then (wrote-then (bytes .put-bytes .ensures) (decimal .put-decimal .ensures)) (bytes2 .put-bytes2 .ensures))
+    (decimal2 .put-decimal2 .ensures)) (byte .put-byte .ensures)
 
 pub put-open-spec : {M : Type 1} → statement M
 put-open-spec =

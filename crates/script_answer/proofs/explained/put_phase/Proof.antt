@@ -5,9 +5,6 @@ use borrow.Author.Needs.{needs}
 use Rattle.script_answer.proofs.explained.put_phase.Statement.{statement}
 use Rattle.script_answer.proofs.explained.put_phase.Tie as tie
 
-enum-told : tie.Need-enum-told
-enum-told c = search needs
-
 returns : tie.Need-returns
 unfolding phaseText
 returns c = rw (c .before .before .before .before .before .enum-told .given .1) (c .before .before .put-bytes .ensures)
@@ -18,17 +15,25 @@ returns-2 c = rw (c .before .before .before .before .before .phase .given .1) (c
 
 returns-3 : tie.Need-returns-3
 unfolding phaseText
-returns-3 c = rw (c .before .before .before .before .before .before .before .before .before .before .phase2 .given .1) (wrote-then (c .before .before .before .before .before .before .put-bytes2 .ensures) (c .before .before .put-open .ensures))
+returns-3 c =
+    let opened = c .before .before in
+    let bytes2 = opened .before .before .before .before in
+    let phase2 = bytes2 .before .before .before .before in
+    rw (phase2 .phase2 .given .1) (wrote-then (bytes2 .put-bytes2 .ensures) (opened .put-open .ensures))
 
 returns-4 : tie.Need-returns-4
 unfolding phaseText
-returns-4 c = rw (c .before .before .before .before .before .before .before .before .before .before .phase3 .given .1) (wrote-then (c .before .before .before .before .before .before .put-bytes3 .ensures) (c .before .before .put-open2 .ensures))
+returns-4 c =
+    let opened2 = c .before .before in
+    let bytes3 = opened2 .before .before .before .before in
+    let phase3 = bytes3 .before .before .before .before in
+    rw (phase3 .phase3 .given .1) (wrote-then (bytes3 .put-bytes3 .ensures) (opened2 .put-open2 .ensures))
 
 pub put-phase-spec : {M : Type 1} → statement M
 put-phase-spec =
     tie.close
     (tie.spec
-    enum-told
+    (λ c. search needs)
     (λ c. search needs)
     (λ c κs. search needs)
     (λ c. search needs)

@@ -9,7 +9,13 @@ returns : tie.Need-returns
 returns c = wrote-as _ (response-none _ (c .if1 .taken)) (wrote-none _ _)
 
 returns-2 : tie.Need-returns-2
-returns-2 c = wrote-as _ (response-some _ (c .before .before .before .before .before .before .before .before .before .before .before .before .before .if1 .left)) (wrote-then (wrote-then (c .before .before .before .before .before .before .before .before .before .before .put-bytes .ensures) (c .before .before .before .before .before .before .put-hex .ensures)) (c .before .before .put-byte .ensures))
+returns-2 c =
+    let byte = c .before .before in
+    let hex = byte .before .before .before .before in
+    let bytes = hex .before .before .before .before in
+    let test1 = bytes .before .before .before in
+    wrote-as _ (response-some _ (test1 .if1 .left)) (wrote-then (wrote-then (bytes .put-bytes .ensures) (hex .put-hex .ensures))
+    (byte .put-byte .ensures))
 
 pub put-response-spec : {M : Type 1} → statement M
 put-response-spec =

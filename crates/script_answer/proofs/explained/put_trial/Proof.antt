@@ -7,7 +7,13 @@ use Rattle.script_answer.proofs.explained.put_trial.Tie as tie
 
 returns : tie.Need-returns
 unfolding trialText
-returns c = wrote-then (wrote-then (wrote-then (c .before .before .before .before .before .before .before .before .before .before .before .before .before .before .before .put-bytes .ensures) (c .before .before .before .before .before .before .before .before .before .before .before .put-decimal .ensures)) (c .before .before .before .before .before .before .put-bytes2 .ensures)) (c .before .before .put-open .ensures)
+returns c =
+    let opened = c .before .before in
+    let bytes2 = opened .before .before .before .before in
+    let decimal = bytes2 .before .before .before .before .before in
+    let bytes = decimal .before .before .before .before in
+    wrote-then (wrote-then (wrote-then (bytes .put-bytes .ensures) (decimal .put-decimal .ensures)) (bytes2 .put-bytes2 .ensures))
+    (opened .put-open .ensures)
 
 pub put-trial-spec : {M : Type 1} → statement M
 put-trial-spec =

@@ -1,6 +1,6 @@
 -- `line::put_issued`: the parts one after the other are KIND:NUMBER:AID.
 use mathlib.Core.Path.{ap}
-use Rattle.script_table.specs.Profiles.{hex8}
+use Rattle.text_words.specs.Hex.{hex8}
 use Rattle.script_answer.specs.Lines.{issuedWord}
 use Rattle.base_bytes.proofs.PutLaws.{wrote-then, wrote-as}
 use borrow.Author.Needs.{needs}
@@ -9,7 +9,15 @@ use Rattle.script_answer.proofs.line.put_issued.Tie as tie
 
 returns : tie.Need-returns
 unfolding issuedWord
-returns c = wrote-then (wrote-then (wrote-then (wrote-then (wrote-as _ (ap hex8 (c .before .before .before .before .before .before .before .before .before .before .before .before .before .before .before .before .before .before .before .code .ensures)) (c .before .before .before .before .before .before .before .before .before .before .before .before .before .before .before .before .before .before .put-hex-8 .ensures)) (c .before .before .before .before .before .before .before .before .before .before .before .before .before .before .put-byte .ensures)) (c .before .before .before .before .before .before .before .before .before .before .put-hex-16 .ensures)) (c .before .before .before .before .before .before .put-byte2 .ensures)) (c .before .before .put-aid .ensures)
+returns c =
+    let aid = c .before .before in
+    let byte2 = aid .before .before .before .before in
+    let hex-16 = byte2 .before .before .before .before in
+    let byte = hex-16 .before .before .before .before in
+    let hex-8 = byte .before .before .before .before in
+    let code = hex-8 .before in
+    wrote-then (wrote-then (wrote-then (wrote-then (wrote-as _ (ap hex8 (code .code .ensures)) (hex-8 .put-hex-8 .ensures))
+    (byte .put-byte .ensures)) (hex-16 .put-hex-16 .ensures)) (byte2 .put-byte2 .ensures)) (aid .put-aid .ensures)
 
 pub put-issued-spec : {M : Type 1} → statement M
 put-issued-spec =

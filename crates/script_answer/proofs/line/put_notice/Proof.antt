@@ -5,9 +5,6 @@ use borrow.Author.Needs.{needs}
 use Rattle.script_answer.proofs.line.put_notice.Statement.{statement}
 use Rattle.script_answer.proofs.line.put_notice.Tie as tie
 
-enum-told : tie.Need-enum-told
-enum-told c = search needs
-
 returns : tie.Need-returns
 returns c = wrote-as _ (notice-is _ (c .before .before .before .before .enum-told .given .1)) (c .before .before .put-byte .ensures)
 
@@ -24,7 +21,7 @@ pub put-notice-spec : {M : Type 1} → statement M
 put-notice-spec =
     tie.close
     (tie.spec
-    enum-told
+    (λ c. search needs)
     (λ c κs. search needs)
     (λ c. search needs)
     (λ c κs. search needs)

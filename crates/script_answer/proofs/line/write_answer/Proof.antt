@@ -11,14 +11,29 @@ use borrow.Author.Needs.{needs}
 use Rattle.script_answer.proofs.line.write_answer.Statement.{statement}
 use Rattle.script_answer.proofs.line.write_answer.Tie as tie
 
-same-length : tie.Need-same-length
-same-length c = wrote-size (wrote-then (wrote-then (wrote-then (wrote-then (wrote-then (wrote-then (wrote-then (c .before .before .before .before .before .before .before .before .before .before .before .before .before .before .before .before .before .before .before .before .before .before .before .before .before .before .before .before .before .before .before .put-hex-16 .ensures) (c .before .before .before .before .before .before .before .before .before .before .before .before .before .before .before .before .before .before .before .before .before .before .before .before .before .before .before .put-byte .ensures)) (c .before .before .before .before .before .before .before .before .before .before .before .before .before .before .before .before .before .before .before .before .before .before .before .put-hex-word .ensures)) (c .before .before .before .before .before .before .before .before .before .before .before .before .before .before .before .before .before .before .before .put-byte2 .ensures)) (c .before .before .before .before .before .before .before .before .before .before .before .before .before .before .before .put-notice .ensures)) (c .before .before .before .before .before .before .before .before .before .before .before .put-byte3 .ensures)) (c .before .before .before .before .before .before .put-decimal .ensures)) (c .before .before .put-byte4 .ensures))
-
 returns : tie.Need-returns
 unfolding answerLine
-returns c = let s = c .before .before .before .before .before .before .before .before .before .before .before .before .before .before .before .before .before .before .before .before .before .before .before .before .before .before .before .before .before .before .before .before .before .before .before .before .before in
-    let n : length (s .args .answer .notification .aid .bytes) ≡ 16 = wide (s .args .answer) _ (s .good .0) in
-    (wrote-then (wrote-then (wrote-then (wrote-then (wrote-then (wrote-then (wrote-then (wrote-as _ (ap hex16 (c .before .before .before .before .before .before .before .before .before .before .before .before .before .before .before .before .before .before .before .before .before .before .before .before .before .before .before .before .before .before .before .before .number .ensures)) (c .before .before .before .before .before .before .before .before .before .before .before .before .before .before .before .before .before .before .before .before .before .before .before .before .before .before .before .before .before .before .before .put-hex-16 .ensures)) (c .before .before .before .before .before .before .before .before .before .before .before .before .before .before .before .before .before .before .before .before .before .before .before .before .before .before .before .put-byte .ensures)) (c .before .before .before .before .before .before .before .before .before .before .before .before .before .before .before .before .before .before .before .before .before .before .before .put-hex-word .ensures)) (c .before .before .before .before .before .before .before .before .before .before .before .before .before .before .before .before .before .before .before .put-byte2 .ensures)) (c .before .before .before .before .before .before .before .before .before .before .before .before .before .before .before .put-notice .ensures)) (c .before .before .before .before .before .before .before .before .before .before .before .put-byte3 .ensures)) (c .before .before .before .before .before .before .put-decimal .ensures)) (c .before .before .put-byte4 .ensures), line-length (s .args .answer) _ (omega arith))
+returns c =
+    let byte4 = c .before .before in
+    let decimal = byte4 .before .before .before .before in
+    let byte3 = decimal .before .before .before .before .before in
+    let notice = byte3 .before .before .before .before in
+    let byte2 = notice .before .before .before .before in
+    let hex-word = byte2 .before .before .before .before in
+    let byte = hex-word .before .before .before .before in
+    let hex-16 = byte .before .before .before .before in
+    let number = hex-16 .before in
+    let s = number .before .before .before .before .before in
+    let n : length (s .args .answer .notification .aid .bytes) ≡ 16 = wide (s .args .answer) _ (s .good .0) in (
+      wrote-then (wrote-then (wrote-then (wrote-then (wrote-then (wrote-then (wrote-then (wrote-as _ (ap hex16 (number .number .ensures))
+          (hex-16 .put-hex-16 .ensures)) (byte .put-byte .ensures)) (hex-word .put-hex-word .ensures)) (byte2 .put-byte2 .ensures))
+          (notice .put-notice .ensures)) (byte3 .put-byte3 .ensures)) (decimal .put-decimal .ensures))
+          (byte4 .put-byte4 .ensures),
+      line-length (s .args .answer) _ (omega arith),
+    )
+
+same-length : tie.Need-same-length
+same-length c = wrote-size (returns c .0)
 
 pub write-answer-spec : {M : Type 1} → statement M
 write-answer-spec =

@@ -8,7 +8,17 @@ use Rattle.script_session.proofs.reasons.write_reason.Tie as tie
 
 returns : tie.Need-returns
 unfolding reasonLine
-returns c = (wrote-then (wrote-then (wrote-then (wrote-then (c .before .before .before .before .before .before .before .before .before .before .before .before .before .before .before .before .before .before .before .put-bytes .ensures) (c .before .before .before .before .before .before .before .before .before .before .before .before .before .before .before .put-decimal .ensures)) (c .before .before .before .before .before .before .before .before .before .before .put-bytes2 .ensures)) (c .before .before .before .before .before .before .put-reason .ensures)) (c .before .before .put-byte .ensures), fault-length _ _)
+returns c =
+    let byte = c .before .before in
+    let reason = byte .before .before .before .before in
+    let bytes2 = reason .before .before .before .before in
+    let decimal = bytes2 .before .before .before .before .before in
+    let bytes = decimal .before .before .before .before in
+    let s = bytes .before .before .before .before in (
+      wrote-then (wrote-then (wrote-then (wrote-then (bytes .put-bytes .ensures) (decimal .put-decimal .ensures)) (bytes2 .put-bytes2 .ensures))
+          (reason .put-reason .ensures)) (byte .put-byte .ensures),
+      fault-length (s .args .number) (s .args .reason),
+    )
 
 pub write-reason-spec : {M : Type 1} → statement M
 write-reason-spec =

@@ -1,13 +1,13 @@
--- `cells::put_spaces`: the spaces from i on are still to write, which leaves what writing all of them leaves.
+-- `columns::put_spaces` meets its contract: the spaces from i on are still to write, which leaves what writing all of them leaves.
 use borrow.Author.Needs.{needs}
 use mathlib.Core.Path.{ap}
 use Prim.Native.Nat.{_-_, _≤_}
 use native.Mathlib.Omega.{arith}
 use Rattle.base_bytes.proofs.PutLaws.{Writing, writing-starts, writing-as, writing-goes, writing-ends}
-use Rattle.script_table.specs.Profiles.{spaces}
-use Rattle.script_table.proofs.Pieces.{spaces-step, spaces-end}
-use Rattle.script_table.proofs.cells.put_spaces.Statement.{statement}
-use Rattle.script_table.proofs.cells.put_spaces.Tie as tie
+use Rattle.text_words.specs.Columns.{spaces}
+use Rattle.text_words.proofs.ColumnLaws.{spaces-step, spaces-end}
+use Rattle.text_words.proofs.columns.put_spaces.Statement.{statement}
+use Rattle.text_words.proofs.columns.put_spaces.Tie as tie
 
 abbrev Inv-loop : tie.InvT-loop
 Inv-loop count buf₀ at i₀ k₀ buf i k = (i ≤ count) × Writing buf₀ at (spaces count) buf k (spaces (count - i))
@@ -18,17 +18,11 @@ abbrev μ-loop : tie.MeasureT-loop
 loop-holds : tie.Need-loop-holds Inv-loop μ-loop
 loop-holds c = (omega arith, writing-as _ (ap spaces (omega arith)) (writing-starts _ _ _))
 
-put-byte-requires : tie.Need-put-byte-requires Inv-loop μ-loop
-put-byte-requires c κs = search needs
-
-add-i : tie.Need-add-i Inv-loop μ-loop
-add-i c = search needs
-
-loop-less : tie.Need-loop-less Inv-loop μ-loop
-loop-less c = search needs
-
 loop-again : tie.Need-loop-again Inv-loop μ-loop
-loop-again c = (omega arith, writing-goes _ (writing-as _ (spaces-step _ _ (omega arith)) (c .before .before .before .before .before .loop .inv .1)) (c .before .before .put-byte .ensures))
+loop-again c =
+    let one = c .before .before in
+    let w = writing-as _ (spaces-step _ _ (omega arith)) (one .before .before .before .loop .inv .1) in
+    (omega arith, writing-goes _ w (one .put-byte .ensures))
 
 same-length : tie.Need-same-length Inv-loop μ-loop
 same-length c = c .before .loop .inv .1 .size
@@ -43,9 +37,9 @@ put-spaces-spec =
     Inv-loop
     μ-loop
     loop-holds
-    put-byte-requires
-    add-i
-    loop-less
+    (λ c κs. search needs)
+    (λ c. search needs)
+    (λ c. search needs)
     loop-again
     same-length
     returns)

@@ -1,0 +1,2 @@
+-- AIDs as text.
+pub mod AidText
