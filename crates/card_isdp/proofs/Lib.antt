@@ -5,3 +5,4 @@ pub mod Policies
 pub mod Records
 pub mod Alike
 pub mod Placed
+pub mod Clauses

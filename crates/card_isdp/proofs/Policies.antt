@@ -5,11 +5,12 @@ use native.Mathlib.Omega.{arith}
 use lib.Dec.{leb}
 use borrow.Author.Tests.{ne-eqb, lt-leb}
 use Rattle.card_isdp.specs.Policy.{policyOk}
+use Rattle.card_isdp.specs.Clauses.{PolicyBytes}
 
 over : (b : ℕ) → 8 ≤ b → policyOk b ≡ leb b 4
 over b h = rw (ne-eqb (b / 8) 0 (λ e. omega arith), lt-leb b 4 (omega arith))
 
-pub policy-number : (b : ℕ) → policyOk b ≡ leb b 4
+pub policy-number : PolicyBytes
 policy-number zero = refl
 policy-number (suc zero) = refl
 policy-number (suc (suc zero)) = refl

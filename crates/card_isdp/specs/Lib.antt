@@ -6,3 +6,4 @@ pub mod Profile
 pub mod LifeCycle
 pub mod Provisioning
 pub mod Place
+pub mod Clauses

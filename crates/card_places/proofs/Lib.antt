@@ -5,3 +5,4 @@ pub mod Switching
 pub mod Records
 pub mod Lives
 pub mod Sets
+pub mod Numbered

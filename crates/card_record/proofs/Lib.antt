@@ -1,5 +1,6 @@
 -- Laws that several proofs cite: what the types tell, what may be deleted, soundness by parts and kept, the count of ticks, what a step tells, what every answer keeps.
 pub mod Records
+pub mod Numbers
 pub mod Sounds
 pub mod Free
 pub mod Counts
@@ -10,3 +11,4 @@ pub mod Noticed
 pub mod Outcomes
 pub mod Freshness
 pub mod Policies
+pub mod Clauses

@@ -1,14 +1,13 @@
 -- What a step tells: where no number was issued there is no notification, and the enabled profile is the same, since nothing but the
 -- phase, or a place that is not enabled, was written; where a phase was opened its number is new, so there is one. Assumes nothing.
 use mathlib.Core.Path.{_≡_, refl, ap, sym, _∙_}
-use Prim.Native.Nat.{ℕ, zero, suc, _+_, _≤_}
-use native.Mathlib.Omega.{arith}
+use Prim.Native.Nat.{ℕ, zero, suc}
 use mathlib.Core.List.{List, [], _∷_}
 use mathlib.Core.Bool.{Bool, true, false, cond, false≢true}
 use lib.ListN.{set}
 use lib.Dec.{ltb, eqb}
-use borrow.Author.Tests.{eq-eqb, ne-eqb, eqb-true}
-use Rattle.card_isdp.specs.Sizes.{wait, lastNumber}
+use borrow.Author.Tests.{eq-eqb, ne-eqb}
+use Rattle.card_isdp.specs.Sizes.{wait}
 use Rattle.card_isdp.specs.Aids.{noAid}
 use Rattle.card_isdp.specs.LifeCycle.{disabled, isEnabled}
 use Rattle.card_isdp.specs.declared.Aid.{Aid}
@@ -22,15 +21,8 @@ use Rattle.card_record.specs.Steps.{stepTo, tickStep, lostStep, goneIn, 
 use Rattle.card_record.specs.declared.Card.{Card}
 use Rattle.card_record.specs.declared.Phase.{Phase}
 use Rattle.card_record.specs.declared.Phase.the-variants.{Quiet, Trial, Back, Fallen}
+use Rattle.card_record.proofs.Numbers.{next-differs}
 use Rattle.card_record.proofs.Sounds.{Phased, Sound, parts, choose}
-
--- the next number is another one
-next-case : (n : ℕ) (b : Bool) → eqb n lastNumber ≡ b → n ≤ lastNumber → cond b 0 (n + 1) ≡ n → ⊥
-next-case n true e h q = let k = eqb-true n lastNumber e in omega arith
-next-case n false e h q = omega arith
-
-next-differs : (n : ℕ) → n ≤ lastNumber → nextOf n ≡ n → ⊥
-next-differs n h = next-case n (eqb n lastNumber) refl h
 
 -- where neither the old nor the new profile at a place is enabled, the search finds the same one
 skip-case : (x p : Isdp) (ps : List Isdp) (a b : Bool) → isEnabled x ≡ a → isEnabled x ≡ false → isEnabled p ≡ b → isEnabled p ≡ false → at (x ∷ ps) (cond a 0 (suc (seek isEnabled ps))) ≡ at (p ∷ ps) (cond b 0 (suc (seek isEnabled ps)))

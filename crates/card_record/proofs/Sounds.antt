@@ -7,7 +7,7 @@ use mathlib.Core.Bool.{Bool, true, false, cond, _||_, false≢true}
 use mathlib.Core.List.{List}
 use lib.ListN.{length}
 use lib.Dec.{ltb, leb, eqb}
-use borrow.Author.Tests.{eq-eqb, ne-eqb, eqb-true, eqb-false, le-leb, leb-true, ltb-true}
+use borrow.Author.Tests.{eq-eqb, ne-eqb, eqb-true, le-leb, leb-true, ltb-true}
 use Rattle.card_isdp.specs.Sizes.{mostPlaces, eidSize, mostCapacity, wait, lastNumber}
 use Rattle.card_isdp.specs.LifeCycle.{disabled, enabled, isEnabled, isFinished}
 use Rattle.card_isdp.specs.Provisioning.{mayBeFallBack}
@@ -19,6 +19,7 @@ use Rattle.card_places.proofs.Lives.{enable-lives, lives-length, lives-quotas, 
 use Rattle.card_record.specs.Cards.{isQuiet, freeIn, onFallback, noPlace, keeping, forgotten, inState, withPhase}
 use Rattle.card_record.specs.Sound.{sized, sizesOk, placesOk, keptOk, rolesOk, openOk, phaseIn, phaseOk, sound, KeptHeld, FallBackMarked}
 use Rattle.card_record.specs.Clock.{nextOf, moved, tickIn, tickOf, lostOf}
+use Rattle.card_record.proofs.Numbers.{next-small}
 use Rattle.card_record.specs.declared.Card.{Card}
 use Rattle.card_record.specs.declared.Phase.{Phase}
 use Rattle.card_record.specs.declared.Phase.the-variants.{Quiet, Trial, Back, Fallen}
@@ -169,13 +170,6 @@ keeps-place c i s h =
 
 pub forgets : (c : Card) → Sound c → Sound (forgotten c)
 forgets c s = keeps-place c noPlace s refl
-
-next-case : (n : ℕ) (b : Bool) → eqb n lastNumber ≡ b → n ≤ lastNumber → cond b 0 (n + 1) ≤ lastNumber
-next-case n true e h = omega arith
-next-case n false e h = let k : n ≡ lastNumber → ⊥ = eqb-false n lastNumber e in omega arith
-
-pub next-small : (n : ℕ) → n ≤ lastNumber → nextOf n ≤ lastNumber
-next-small n h = next-case n (eqb n lastNumber) refl h
 
 -- a place that has a life cycle is enabled, and a phase opens that asks nothing more than that
 pub moves : (c : Card) (i : ℕ) (p : Phase) → Sound c → (at (c .places) i .life ≡ 0 → ⊥) → Phased p (moved c i p) → Sound (moved c i p)

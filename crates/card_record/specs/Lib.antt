@@ -3,6 +3,7 @@ pub mod Cards
 pub mod Deletions
 pub mod Sound
 pub mod Clock
+pub mod Numbers
 pub mod Free
 pub mod Ticks
 pub mod Notifications
@@ -11,3 +12,4 @@ pub mod Noticed
 pub mod Answers
 pub mod Fresh
 pub mod Policies
+pub mod Clauses

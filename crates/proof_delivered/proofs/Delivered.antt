@@ -5,6 +5,7 @@ use Rattle.proof_demands.proofs.Updates.{written}
 use Rattle.read_command.proofs.ReadBack.{command-back}
 use Rattle.read_command.proofs.Written.{command-written}
 use Rattle.read_operator.proofs.UpdateGrammar.{update-back, update-written}
+use Rattle.proof_demands.proofs.Framing.{framing-answered}
 use Rattle.proof_demands.proofs.StatusTable.{status-table, update-table}
 use Rattle.proof_demands.proofs.Notified.{notifying}
 use Rattle.proof_demands.proofs.Demand2.{demand-2}
@@ -22,6 +23,8 @@ use Rattle.proof_demands.proofs.Unique.{unique, promise-met}
 use Rattle.proof_demands.proofs.Provisioning.{fallen-provisioned}
 use Rattle.proof_demands.proofs.Room.{no-room-lost}
 use Rattle.proof_demands.proofs.Summed.{answers-stay}
+use Rattle.card_record.proofs.Clauses.{sound-clauses}
+use Rattle.card_record.proofs.Numbers.{numbers-run}
 use Rattle.card_record.proofs.Free.{free-kept}
 use Rattle.proof_demands.proofs.Listing.{parts-join}
 use Rattle.read_frame.proofs.Classes.{class-byte}
@@ -56,9 +59,12 @@ delivered =
       command-written = command-written;
       update-back = update-back;
       update-written = update-written;
+      framing-answered = framing-answered;
       status-table = status-table;
       update-table = update-table;
       notifying = notifying;
+      sound-clauses = sound-clauses;
+      numbers-run = numbers-run;
       demand-2 = demand-2;
       demand-3 = demand-3;
       thirty-ticks-close = thirty-ticks-close;

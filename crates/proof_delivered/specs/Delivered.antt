@@ -1,5 +1,7 @@
 -- All that is settled, in the order of README's table: each field is a statement about the definitions. That the code is equal to the definitions
 -- is each function's own promise, and no field here.
+use Rattle.card_record.specs.Clauses.{SoundClauses}
+use Rattle.card_record.specs.Numbers.{NumbersRun}
 use Rattle.card_record.specs.Free.{FreeKept}
 use Rattle.read_frame.specs.Classes.{ClassByte}
 use Rattle.read_command.specs.Grammar.{CommandBack, CommandWritten}
@@ -9,6 +11,7 @@ use Rattle.rule_run.specs.Step.{step}
 use Rattle.proof_demands.specs.Demand1.{Demand1, Demand1Met}
 use Rattle.proof_demands.specs.CallLaws.{EveryCall, EveryCallMet, ReportsTaken}
 use Rattle.proof_demands.specs.Written.{Written}
+use Rattle.proof_demands.specs.Framing.{FramingAnswered}
 use Rattle.proof_demands.specs.StatusTable.{StatusTable}
 use Rattle.proof_demands.specs.UpdateTable.{UpdateTable}
 use Rattle.proof_demands.specs.Notified.{Notifying}
@@ -50,11 +53,15 @@ pub record Delivered : Type 0 where
   pub command-written : CommandWritten
   pub update-back : UpdateBack
   pub update-written : UpdateWritten
-  -- the status table, row for row
+  -- the status table, row for row; its first seven rows of every byte string, in numbers
+  pub framing-answered : FramingAnswered
   pub status-table : StatusTable
   pub update-table : UpdateTable
   -- whenever the enabled profile changes, a notification says so and names it
   pub notifying : Notifying
+  -- what a sound card is, clause by clause in numbers, and how the numbers of notifications run
+  pub sound-clauses : SoundClauses
+  pub numbers-run : NumbersRun
   -- from fresh on, one profile is enabled and one is the fall-back
   pub demand-2 : Demand2
   -- demand 3: a change ends by the thirtieth tick, on the profile that the demand names

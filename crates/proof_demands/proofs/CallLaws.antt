@@ -61,6 +61,7 @@ module _ (c : Card) where
 pub every-call : EveryCall
 every-call =
     record {
+      fresh = λ x. call-laws .fresh (x .eid) (x .aid) (x .capacity) (x .quota) (x .used) (x .volatile);
       create = λ v. lifted (field.create v) (λ c verdict. CreateAnswers c (v .aid) (v .quota)) (λ c verdict. call-laws .create c (v .aid) (v .quota));
       enable = λ aid. lifted (field.storeData (field.enable aid)) (λ c verdict. EnableAnswers c aid) (λ c verdict. call-laws .enable c aid);
       disable = λ aid. lifted (field.storeData (field.disable aid)) (λ c verdict. DisableAnswers c aid) (λ c verdict. call-laws .disable c aid);

@@ -3,6 +3,7 @@ pub mod Demand1
 pub mod Demand2
 pub mod Ticks
 pub mod Written
+pub mod Framing
 pub mod Updates
 pub mod CallLaws
 pub mod Confirmation

@@ -18,7 +18,7 @@ use Rattle.card_record.specs.declared.Card.{Card}
 use Rattle.card_record.specs.declared.Phase.{Phase}
 use Rattle.card_record.specs.declared.Phase.the-variants.{Quiet, Trial, Back, Fallen}
 use Rattle.card_record.proofs.Sounds.{parts, choose}
-use Rattle.rule_steps.proofs.Opens.{only}
+use Rattle.card_places.proofs.Numbered.{only}
 use Rattle.rule_run.specs.Calls.{Call, Call.Command, Call.Keyed, Call.Stored, Call.Finished, Call.Tick, Call.Lost, Call.Policy, asked}
 use Rattle.rule_run.specs.Step.{step, run}
 use Rattle.rule_run.proofs.Kept.{step-sound, run-sound}

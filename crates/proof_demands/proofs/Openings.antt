@@ -16,6 +16,7 @@ use Rattle.card_isdp.specs.declared.Isdp.{Isdp}
 use Rattle.card_places.specs.Places.{at}
 use Rattle.card_places.proofs.Lives.{enable-at, enable-lives, lives-at, within}
 use Rattle.card_places.proofs.Seeks.{enabled-at, seek-below}
+use Rattle.card_places.proofs.Numbered.{only}
 use Rattle.card_record.specs.Cards.{isQuiet, placeOf, profileOf, enabledPlace, onFallback}
 use Rattle.card_record.specs.Sound.{sound}
 use Rattle.card_record.specs.Clock.{nextOf, opened, fallen, lostOf}
@@ -72,7 +73,7 @@ found-aid c aid d =
 -- the change closes at the twentieth tick exactly where the fall-back was enabled
 tick-case : (c : Card) (b : Bool) → onFallback c ≡ b → sound c ≡ true → eqb (enabledPlace c) (c .fallback) ≡ b
 tick-case c true e s =
-    eq-eqb _ _ (steps.only (c .places) (enabledPlace c) (c .fallback) (parts c s .roles .one) (enabled-at (c .places) (parts c s .roles .one)) e)
+    eq-eqb _ _ (only (c .places) (enabledPlace c) (c .fallback) (parts c s .roles .one) (enabled-at (c .places) (parts c s .roles .one)) e)
 tick-case c false e s =
     ne-eqb _ _ (λ q. false≢true (sym e ∙ ap (λ (i : ℕ). isEnabled (at (c .places) i)) (sym q) ∙ enabled-at (c .places) (parts c s .roles .one)))
 

@@ -4,7 +4,7 @@ use borrow.Author.Tests.{eq-eqb}
 use Rattle.card_record.specs.declared.Phase.{Phase}
 use Rattle.card_record.proofs.Sounds.{Phased, parts, fall-back-marked}
 use Rattle.card_record.proofs.Freshness.{fresh-sound}
-use Rattle.rule_steps.proofs.Opens.{only}
+use Rattle.card_places.proofs.Numbered.{only}
 use Rattle.rule_run.proofs.Kept.{run-sound}
 use Rattle.rule_run.specs.Step.{run}
 use Rattle.rule_run.specs.Inputs.{freshOf}

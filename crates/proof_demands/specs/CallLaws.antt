@@ -1,5 +1,5 @@
 -- Document 01, 'Steps': a law for each call, over what the manager answers. A command is told by what the grammar of its bytes writes, in a
--- buffer that is long enough; what each law says stands in steps/specs/Laws, one file a heading.
+-- buffer that is long enough; what each law says stands in rule_steps/specs/Laws, one file a heading.
 use Prim.Native.Nat.{ℕ, _≤_}
 use mathlib.Core.Path.{_≡_}
 use mathlib.Core.List.{List, [], _∷_}
@@ -13,6 +13,7 @@ use Rattle.read_fields.specs.Grammar.{Created, Wanted}
 use Rattle.read_command.specs.Grammar.{Encodes}
 use Rattle.read_operator.specs.Grammar.{EncodesUpdate}
 use Rattle.rule_steps.specs.Laws.Met.{aidEnding}
+use Rattle.rule_steps.specs.Laws.Fresh.{FreshAnswers}
 use Rattle.rule_steps.specs.Laws.Create.{CreateAnswers}
 use Rattle.rule_steps.specs.Laws.Loading.{KeyedAnswers, StoredAnswers, FinishedAnswers}
 use Rattle.rule_steps.specs.Laws.Change.{EnableAnswers, DisableAnswers}
@@ -23,6 +24,7 @@ use Rattle.rule_steps.specs.Laws.Clock.{TickAnswers, LostAnswers}
 use Rattle.rule_steps.specs.Laws.Policy.{SetPolicyAnswers}
 use Rattle.rule_steps.specs.Laws.Reports.{StatusOfAllAnswers, StatusOfNextAnswers, StatusOfOneAnswers, GetDataAnswers}
 use Rattle.rule_run.specs.Calls.{Call, Call.Command, Call.Keyed, Call.Stored, Call.Finished, Call.Tick, Call.Lost, Call.Policy}
+use Rattle.rule_run.specs.Inputs.{Inputs, freshOf}
 use Rattle.rule_run.specs.Table.{leastBuffer}
 use Rattle.rule_run.specs.Step.{step}
 
@@ -49,6 +51,7 @@ UpdateLaw speaker policy Answered =
     → Answered c (step c (Policy speaker s room))
 
 pub record EveryCall : Type 0 where
+  pub fresh : (x : Inputs) → FreshAnswers (x .eid) (x .aid) (x .capacity) (x .quota) (x .used) (x .volatile) (freshOf x)
   pub create : (v : Created) → WrittenLaw (field.create v) (λ c verdict. CreateAnswers c (v .aid) (v .quota))
   pub enable : (aid : List ℕ) → WrittenLaw (field.storeData (field.enable aid)) (λ c verdict. EnableAnswers c aid)
   pub disable : (aid : List ℕ) → WrittenLaw (field.storeData (field.disable aid)) (λ c verdict. DisableAnswers c aid)

@@ -4,6 +4,7 @@ pub mod Demand1
 pub mod Demand2
 pub mod Ticks
 pub mod Written
+pub mod Framing
 pub mod CallLaws
 pub mod Create
 pub mod Unique

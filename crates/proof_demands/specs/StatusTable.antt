@@ -2,14 +2,13 @@
 -- that does not. The calls that meet a row and a later one too pin the order: each pair of adjacent rows that one call can meet is here.
 -- 6D 00 is never met without 6A 86. "Create with an AID already held" meets neither 6A 88 nor a wrong state, 69 82 neither 69 E1 nor 6A 84;
 -- a command that cannot be read asks nothing of the card, so that 6A 80 in an open change is one row's answer alone.
-use Prim.Native.Nat.{ℕ, suc, _+_, _-_}
+use Prim.Native.Nat.{ℕ, suc}
 use mathlib.Core.Path.{_≡_}
 use mathlib.Core.List.{List, [], _∷_, _++_}
 use mathlib.Core.Bool.{cond}
 use lib.ListN.{replicate}
 use Rattle.base_status.specs.StatusWords.{numberOf}
 use Rattle.base_status.specs.Rows.{Row}
-use Rattle.card_isdp.specs.Sizes.{mostPlaces}
 use Rattle.card_isdp.specs.LifeCycle.{selectable, personalized, disabled, enabled, withPolicy, withMark}
 use Rattle.card_isdp.specs.Place.{vacant, made}
 use Rattle.card_isdp.specs.declared.Isdp.{Isdp}
@@ -193,7 +192,7 @@ cases =
     ∷ case 16 0x9000 quiet opening (confirm 1)
     -- 6A 80 for an AID already held, also before 6A 84
     ∷ case 11 0x6A80 fresh [] (create 1 901)
-    ∷ case 11 0x6A80 fresh (creates 2 (mostPlaces - 1)) (create 2 1)
+    ∷ case 11 0x6A80 fresh (creates 2 31) (create 2 1)
     ∷ case 11 0x6A80 fresh [] (create 1 1)
     ∷ case 16 0x9000 fresh [] (create 2 1)
     -- 69 85 for the state, also before 69 E1, 69 82 and 6A 84
@@ -248,9 +247,9 @@ cases =
     -- 6A 84
     ∷ case 15 0x6A84 fresh [] (create 2 901)
     ∷ case 16 0x9000 fresh [] (create 2 900)
-    ∷ case 15 0x6A84 fresh (creates 2 (mostPlaces - 1)) (create (mostPlaces + 1) 1)
+    ∷ case 15 0x6A84 fresh (creates 2 31) (create 33 1)
     -- "Freed places and room are used again", those of a download that broke off too
-    ∷ case 16 0x9000 fresh (creates 2 (mostPlaces - 1) ++ delete 3 ∷ []) (create (mostPlaces + 1) 1)
+    ∷ case 16 0x9000 fresh (creates 2 31 ++ delete 3 ∷ []) (create 33 1)
     ∷ case 15 0x6A84 fresh (create 2 900 ∷ []) (create 3 1)
     ∷ case 16 0x9000 fresh (create 2 900 ∷ Keyed (aid 2) ∷ Stored (aid 2) 900 ∷ delete 2 ∷ []) (create 3 900)
     -- and what a confirmation's deletion gives back: 02 is gone, F and 03 are left

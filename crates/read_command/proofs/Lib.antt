@@ -6,3 +6,4 @@ pub mod Fields
 pub mod ReadBack
 pub mod Written
 pub mod SameTags
+pub mod Words

@@ -2,3 +2,4 @@
 pub mod Requests
 pub mod Reading
 pub mod Grammar
+pub mod Words

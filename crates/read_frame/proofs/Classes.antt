@@ -8,11 +8,11 @@ use Rattle.base_choice.proofs.Branches.{on-eq}
 use Rattle.read_frame.specs.Framing.{classRight}
 use Rattle.read_frame.specs.Classes.{isAmong, isPrinted, yesUnder, classRightBefore, ClassByte}
 
-answersUnder : (ℕ → Bool) → ℕ → List Bool
+unfoldable pub answersUnder : (ℕ → Bool) → ℕ → List Bool
 answersUnder test zero = []
 answersUnder test (suc n) = test n ∷ answersUnder test n
 
-alike : (one other : ℕ → Bool) (n : ℕ) → answersUnder one n ≡ answersUnder other n → (value : ℕ) → value < n → one value ≡ other value
+pub alike : (one other : ℕ → Bool) (n : ℕ) → answersUnder one n ≡ answersUnder other n → (value : ℕ) → value < n → one value ≡ other value
 unfolding answersUnder
 alike one other zero e value h = absurd (omega arith)
 alike one other (suc n) e value h =

@@ -3,3 +3,4 @@ pub mod Framing
 pub mod Classes
 pub mod Frame
 pub mod Rows
+pub mod Headers

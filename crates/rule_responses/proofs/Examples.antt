@@ -16,6 +16,7 @@ worked eid figure =
       aid-only = refl;
       two-rows = refl;
       named-row = refl;
+      not-finished = refl;
       data-figures = refl;
       five-bytes = refl;
       sixteen-bytes = refl;

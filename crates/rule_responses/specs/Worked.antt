@@ -7,7 +7,7 @@ use lib.ListN.{length, replicate}
 use lib.Dec.{eqb}
 use Rattle.card_isdp.specs.Sizes.{mostPlaces}
 use Rattle.card_isdp.specs.Aids.{named, noAid}
-use Rattle.card_isdp.specs.LifeCycle.{disabled, enabled}
+use Rattle.card_isdp.specs.LifeCycle.{selectable, personalized, disabled, enabled}
 use Rattle.card_isdp.specs.Place.{vacant, made}
 use Rattle.card_record.specs.Cards.{noPlace, withPlaces}
 use Rattle.card_record.specs.Fresh.{freshCard}
@@ -25,6 +25,12 @@ abbrev pub gap : List ℕ → ℕ → Card
 gap eid figure =
     withPlaces (one eid figure)
     (made (aidEnding 1) enabled figure figure ∷ vacant ∷ made (aidEnding 2) disabled figure figure ∷ [])
+
+-- one with two profiles whose downloads are not finished
+abbrev pub loading : List ℕ → ℕ → Card
+loading eid figure =
+    withPlaces (one eid figure)
+    (made (aidEnding 1) selectable figure figure ∷ made (aidEnding 2) personalized figure figure ∷ [])
 
 -- a card of so many profiles with an AID of this length, and one that is full
 abbrev pub crowd : List ℕ → ℕ → List ℕ → ℕ → Card
@@ -52,6 +58,8 @@ pub record Worked (eid : List ℕ) (figure : ℕ) : Type 0 where
   -- a free place has no row, and the profile that is not the fall-back has 53 00
   pub two-rows : partGiven (gap eid figure) 0 false true ≡ 0xE3 ∷ 0x0A ∷ 0x4F ∷ 0x05 ∷ 0xA0 ∷ 0x00 ∷ 0x00 ∷ 0x00 ∷ 0x01 ∷ 0x53 ∷ 0x01 ∷ 0x01 ∷ 0xE3 ∷ 0x0A ∷ 0x4F ∷ 0x05 ∷ 0xA0 ∷ 0x00 ∷ 0x00 ∷ 0x00 ∷ 0x02 ∷ 0x53 ∷ 0x01 ∷ 0x00 ∷ []
   pub named-row : oneStatus (gap eid figure) 2 true true ≡ 0xE3 ∷ 0x0E ∷ 0x4F ∷ 0x05 ∷ 0xA0 ∷ 0x00 ∷ 0x00 ∷ 0x00 ∷ 0x02 ∷ 0x9F ∷ 0x70 ∷ 0x01 ∷ 0x1F ∷ 0x53 ∷ 0x01 ∷ 0x00 ∷ []
+  -- SELECTABLE is 07 and PERSONALIZED 0F (000, Table 1)
+  pub not-finished : partGiven (loading eid figure) 0 true false ≡ 0xE3 ∷ 0x0B ∷ 0x4F ∷ 0x05 ∷ 0xA0 ∷ 0x00 ∷ 0x00 ∷ 0x00 ∷ 0x01 ∷ 0x9F ∷ 0x70 ∷ 0x01 ∷ 0x07 ∷ 0xE3 ∷ 0x0B ∷ 0x4F ∷ 0x05 ∷ 0xA0 ∷ 0x00 ∷ 0x00 ∷ 0x00 ∷ 0x02 ∷ 0x9F ∷ 0x70 ∷ 0x01 ∷ 0x0F ∷ []
   -- capacity 1,048,576 and quota 66,051 leave 0E FD FD; the volatile figure is 0A 0B 0C 0D
   pub data-figures : dataResponse (freshCard eid (aidEnding 1) 1048576 66051 figure 168496141) ≡ 0xFF ∷ 0x21 ∷ 0x0F ∷ 0x81 ∷ 0x01 ∷ 0x01 ∷ 0x82 ∷ 0x04 ∷ 0x00 ∷ 0x0E ∷ 0xFD ∷ 0xFD ∷ 0x83 ∷ 0x04 ∷ 0x0A ∷ 0x0B ∷ 0x0C ∷ 0x0D ∷ []
   -- request 2026-05, a full card: AIDs of five bytes, 15 + 15 + 2 rows of 16; of sixteen bytes, 9 + 9 + 9 + 5 rows of 27; an empty 5C, 28 + 4

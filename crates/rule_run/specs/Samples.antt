@@ -4,7 +4,7 @@ use Prim.Native.Nat.{ℕ, zero, suc, _-_, _/_, _%_}
 use mathlib.Core.List.{List, [], _∷_, _++_}
 use lib.ListN.{length, replicate}
 use Rattle.card_isdp.specs.Sizes.{mostPlaces}
-use Rattle.card_isdp.specs.Aids.{padded, named}
+use Rattle.card_isdp.specs.Aids.{named}
 use Rattle.card_isdp.specs.LifeCycle.{selectable, enabled}
 use Rattle.card_isdp.specs.Profile.{profile}
 use Rattle.card_isdp.specs.Place.{vacant}
@@ -12,8 +12,6 @@ use Rattle.card_isdp.specs.declared.Isdp.{Isdp}
 use Rattle.card_places.specs.Places.{freeOf}
 use Rattle.card_record.specs.Cards as cards
 use Rattle.card_record.specs.declared.Card.{Card}
-use Rattle.card_record.specs.declared.Kind.{Kind}
-use Rattle.card_record.specs.declared.Notification.{Notification}
 use Rattle.card_record.specs.declared.Phase.{Phase}
 use Rattle.card_record.specs.declared.Phase.the-variants.{Quiet}
 use Rattle.rule_run.specs.Calls.{Call, Call.Command, Call.Keyed, Call.Stored, Call.Finished, Call.Tick}
@@ -100,8 +98,3 @@ created n (suc k) = profile (named (aid n)) selectable 1 0 0 0 ∷ created (suc 
 -- F is the fall-back, 02 the other, Quiet
 abbrev pub cardOfTwo : ℕ → ℕ → ℕ → Card
 cardOfTwo first second last = cardWith (two first second) last 0 Quiet
-
--- the notification of a kind, with a number, that the profile whose AID ends so is enabled
-abbrev pub notice : Kind → ℕ → ℕ → Notification
-notice kind number n =
-    record { kind = kind; number = number; eid = replicate 16 0x89; aid = record { bytes = padded (aid n); len = 5 } }

@@ -1,5 +1,6 @@
 -- The law of each call, and what they share.
 use Rattle.rule_steps.specs.Laws.{CallLaws}
+use Rattle.rule_steps.proofs.Laws.Fresh.{fresh-law}
 use Rattle.rule_steps.proofs.Laws.Create.{create-law}
 use Rattle.rule_steps.proofs.Laws.Loading.{keyed-law, stored-law, finished-law}
 use Rattle.rule_steps.proofs.Laws.Change.{enable-law, disable-law}
@@ -11,6 +12,7 @@ use Rattle.rule_steps.proofs.Laws.Clock.{tick-law, lost-law}
 use Rattle.rule_steps.proofs.Laws.Policy.{set-policy-law}
 pub mod Places
 pub mod Answer
+pub mod Fresh
 pub mod Create
 pub mod Loading
 pub mod Change
@@ -25,6 +27,7 @@ pub mod Met
 pub call-laws : CallLaws
 call-laws =
     record {
+      fresh = fresh-law;
       create = create-law;
       keyed = keyed-law;
       stored = stored-law;

@@ -1,4 +1,5 @@
 -- Document 01, 'Steps': a law for each call, in the paper's words, one file a heading. `demands` lifts each to the bytes of its command.
+use Rattle.rule_steps.specs.Laws.Fresh.{FreshLaw}
 use Rattle.rule_steps.specs.Laws.Create.{CreateLaw}
 use Rattle.rule_steps.specs.Laws.Loading.{KeyedLaw, StoredLaw, FinishedLaw}
 use Rattle.rule_steps.specs.Laws.Change.{EnableLaw, DisableLaw}
@@ -9,6 +10,7 @@ use Rattle.rule_steps.specs.Laws.Clock.{TickLaw, LostLaw}
 use Rattle.rule_steps.specs.Laws.Policy.{SetPolicyLaw}
 use Rattle.rule_steps.specs.Laws.Reports.{StatusOfAllLaw, StatusOfNextLaw, StatusOfOneLaw, GetDataLaw}
 pub mod Answer
+pub mod Fresh
 pub mod Create
 pub mod Loading
 pub mod Change
@@ -21,6 +23,7 @@ pub mod Policy
 pub mod Met
 
 pub record CallLaws : Type 0 where
+  pub fresh : FreshLaw
   pub create : CreateLaw
   pub keyed : KeyedLaw
   pub stored : StoredLaw

@@ -22,6 +22,7 @@ use Rattle.card_isdp.specs.declared.Isdp.{Isdp}
 use Rattle.card_places.specs.Places.{at, seek, enableAt}
 use Rattle.card_places.proofs.Lives.{enable-lives, lives-at, lives-length, enable-at, enable-one}
 use Rattle.card_places.proofs.Seeks.{enabled-at}
+use Rattle.card_places.proofs.Numbered.{only}
 use Rattle.card_record.specs.Cards.{noPlace, keeping, forgotten, placeOf, inState, withRoom, withPhase}
 use Rattle.card_record.specs.Clock.{nextOf, moved}
 use Rattle.card_record.specs.Sound.{keptOk, sound}
@@ -41,7 +42,6 @@ use Rattle.rule_steps.specs.Conditions.{innerWrong, changeWrong, stateWr
 use Rattle.rule_steps.specs.Steps.{actStep, actResponse, stepOf, responseOf, successOf, askedWork, innerWork}
 use Rattle.rule_steps.specs.Laws.Answer.{Result, profileAt, Holds, Enabled, Answers, Still, OnPlace, onlyAt, replaced, rephased, entered}
 use Rattle.rule_steps.proofs.Rows.{Passed, named}
-use Rattle.rule_steps.proofs.Opens.{only}
 use Rattle.rule_steps.proofs.Laws.Places.{place-is, holds, set-places, trade-places}
 
 -- a call is taken exactly where its rows pass

@@ -12,6 +12,7 @@ use Rattle.card_isdp.specs.LifeCycle.{disabled, isEnabled}
 use Rattle.card_isdp.proofs.Bools.{and-l, and-r}
 use Rattle.card_places.proofs.Lives.{within}
 use Rattle.card_places.proofs.Seeks.{enabled-at}
+use Rattle.card_places.proofs.Numbered.{only}
 use Rattle.card_record.specs.Cards.{placeOf, profileOf, enabledPlace}
 use Rattle.card_record.specs.Clock.{nextOf, opened}
 use Rattle.card_record.specs.Sound.{sound}
@@ -27,7 +28,7 @@ use Rattle.rule_steps.specs.Steps.{askedWork}
 use Rattle.rule_steps.specs.Laws.Answer.{profileAt, Holds, Enabled, OnPlace}
 use Rattle.rule_steps.specs.Laws.Change.{TrialEntered, MayEnable, EnableLaw, MayDisable, DisableLaw}
 use Rattle.rule_steps.proofs.Kept.{quietly}
-use Rattle.rule_steps.proofs.Opens.{only, opens, enabled-life, fallback-life}
+use Rattle.rule_steps.proofs.Opens.{opens, enabled-life, fallback-life}
 use Rattle.rule_steps.proofs.Laws.Answer.{command-law, held-passes, enters}
 
 -- the enabled place is one

@@ -13,6 +13,7 @@ use Rattle.card_isdp.specs.Aids.{noAid}
 use Rattle.card_isdp.specs.LifeCycle.{disabled}
 use Rattle.card_places.specs.Places.{at}
 use Rattle.card_places.proofs.Lives.{within}
+use Rattle.card_places.proofs.Numbered.{only}
 use Rattle.card_record.specs.Cards.{isQuiet, onFallback, forgotten, withPhase}
 use Rattle.card_record.specs.Clock.{nextOf, moved, fallen, tickIn, tickOf, lostOf}
 use Rattle.card_record.specs.Sound.{sound}
@@ -29,7 +30,6 @@ use Rattle.rule_steps.specs.Asked.{Asked.tick, Asked.lost}
 use Rattle.rule_steps.specs.Steps.{askedWork}
 use Rattle.rule_steps.specs.Laws.Answer.{profileAt, Enabled, Answers, Still, rephased, entered}
 use Rattle.rule_steps.specs.Laws.Clock.{furtherWait, FallenEntered, TickedIn, TickLaw, LostLaw}
-use Rattle.rule_steps.proofs.Opens.{only}
 use Rattle.rule_steps.proofs.Laws.Answer.{asked-taken, none-to-come, still, rephases, enters}
 
 -- the fall-back is enabled exactly where it is at the enabled place

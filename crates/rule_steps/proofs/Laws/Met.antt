@@ -7,11 +7,12 @@ use Rattle.card_isdp.specs.Place.{isFor, clash, zeros, placeOk}
 use Rattle.card_places.specs.Places.{seek, quotas, allOf, anyOf, countOf, distinct}
 use Rattle.card_record.specs.Sound.{phaseOk, sound}
 use Rattle.card_record.specs.Answers.{accepted}
+use Rattle.card_record.specs.Fresh.{freshOutcome}
 use Rattle.rule_responses.specs.Responses.{leftFrom, leftAfter}
 use Rattle.rule_steps.specs.Laws.Met.{LawsMet}
 
 pub laws-met : LawsMet
-unfolding wordOf sameBytes padded isFor clash zeros placeOk seek quotas allOf anyOf countOf distinct phaseOk sound leftFrom leftAfter accepted
+unfolding wordOf sameBytes padded isFor clash zeros placeOk seek quotas allOf anyOf countOf distinct phaseOk sound leftFrom leftAfter accepted freshOutcome
 laws-met =
     record {
       quiet-sound = refl;
@@ -19,6 +20,7 @@ laws-met =
       trial-sound = (refl, refl);
       back-sound = (refl, refl, refl);
       fallen-sound = (refl, refl);
+      begins = refl;
       creates = refl;
       keys = refl;
       stores = refl;

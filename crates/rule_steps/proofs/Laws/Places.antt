@@ -18,11 +18,11 @@ use Rattle.card_isdp.proofs.Bools.{and-l, and-r, or-l, or-r}
 use Rattle.card_places.specs.Places.{at, seek, anyOf, distinct, countOf, enableAt}
 use Rattle.card_places.proofs.Lives.{enable-at, enable-other, enable-lives, lives-at}
 use Rattle.card_places.proofs.Seeks.{seek-below}
+use Rattle.card_places.proofs.Numbered.{only}
 use Rattle.card_record.specs.Cards.{placeOf, profileOf}
 use Rattle.card_record.specs.declared.Card.{Card}
 use Rattle.card_record.proofs.Sounds.{Sound}
 use Rattle.rule_steps.specs.Laws.Answer.{profileAt, Holds, onlyAt, traded}
-use Rattle.rule_steps.proofs.Opens.{only}
 
 -- a held place is within the list
 pub held-within : (l : List Isdp) (i : ℕ) → held (at l i) ≡ true → i < length l

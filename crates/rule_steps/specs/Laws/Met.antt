@@ -11,6 +11,7 @@ use Rattle.card_isdp.specs.Place.{vacant, made}
 use Rattle.card_record.specs.Cards.{noPlace, cardWith, keeping}
 use Rattle.card_record.specs.Sound.{sound}
 use Rattle.card_record.specs.Answers.{outcome}
+use Rattle.card_record.specs.Fresh.{freshOutcome}
 use Rattle.card_record.specs.declared.Card.{Card}
 use Rattle.card_record.specs.declared.Phase.{Phase}
 use Rattle.card_record.specs.declared.Phase.the-variants.{Quiet, Trial, Back, Fallen}
@@ -50,6 +51,8 @@ pub record LawsMet : Type 0 where
   pub trial-sound : (sound (on02 1 (Trial 0 10 1)) ≡ true) × (sound (on02 1 (Trial 0 1 1)) ≡ true)
   pub back-sound : (sound (on01 2 (Back 10 2)) ≡ true) × (sound (on01 2 (Back 1 2)) ≡ true) × (sound (on02 2 (Back 1 2)) ≡ true)
   pub fallen-sound : (sound (on01 3 (Fallen 10 3)) ≡ true) × (sound (on01 3 (Fallen 1 3)) ≡ true)
+  -- of the greatest capacity, all of it the profile's quota and used
+  pub begins : freshOutcome (replicate eidSize 0) (aidEnding 1) 1048576 1048576 1048576 0 .status ≡ Done
   pub creates : Accepts (on01 0 Quiet) (create (aidEnding 5) 600)
   pub keys : AcceptsInner (on01 0 Quiet) 3 keyed
   pub stores : AcceptsInner (on01 0 Quiet) 4 (stored 90)
