@@ -23,7 +23,7 @@ use Rattle.read_command.specs.Grammar.{readAs}
 use Rattle.read_operator.specs.Field.{policyAt, policyOf}
 use Rattle.read_operator.specs.Reading.{notStoreData, policyWrong, updateOf}
 use Rattle.read_operator.proofs.UpdateGrammar.{update-written}
-use Rattle.rule_steps.specs.Laws.Met.{aidEnding}
+use Rattle.rule_responses.specs.Worked.{aidEnding}
 use Rattle.proof_demands.specs.CallLaws.{IsWritten, EveryCallMet}
 use Rattle.proof_demands.proofs.HypothesesMet.{smallBytes, bytes-of, encodes}
 

@@ -12,7 +12,7 @@ use Rattle.read_fields.specs.Grammar as field
 use Rattle.read_fields.specs.Grammar.{Created, Wanted}
 use Rattle.read_command.specs.Grammar.{Encodes}
 use Rattle.read_operator.specs.Grammar.{EncodesUpdate}
-use Rattle.rule_steps.specs.Laws.Met.{aidEnding}
+use Rattle.rule_responses.specs.Worked.{aidEnding}
 use Rattle.rule_steps.specs.Laws.Fresh.{FreshAnswers}
 use Rattle.rule_steps.specs.Laws.Create.{CreateAnswers}
 use Rattle.rule_steps.specs.Laws.Loading.{KeyedAnswers, StoredAnswers, FinishedAnswers}

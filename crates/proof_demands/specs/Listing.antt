@@ -18,7 +18,7 @@ use Rattle.card_record.specs.declared.Card.{Card}
 use Rattle.card_record.specs.declared.Phase.the-variants.{Quiet}
 use Rattle.rule_responses.specs.Responses.{listing}
 use Rattle.read_fields.specs.Grammar as field
-use Rattle.rule_steps.specs.Laws.Met.{aidEnding}
+use Rattle.rule_responses.specs.Worked.{aidEnding}
 use Rattle.rule_run.specs.Calls.{Call, Call.Command}
 use Rattle.rule_run.specs.Step.{step}
 use Rattle.proof_demands.specs.Room.{Writes}

@@ -16,10 +16,8 @@ use Rattle.card_record.specs.declared.Card.{Card}
 use Rattle.card_record.specs.declared.Phase.{Phase}
 use Rattle.card_record.specs.declared.Phase.the-variants.{Quiet, Trial, Back, Fallen}
 use Rattle.rule_steps.specs.Asked.{Act, Act.enable, Act.disable, Act.delete, Act.masterDelete, Act.setFallBack, Act.status, Act.keyed, Act.stored, Act.finished, Act.setPolicy, Asked, Asked.create, Asked.on, Asked.confirm, Asked.statusOfAll}
+use Rattle.rule_responses.specs.Worked.{aidEnding}
 use Rattle.rule_steps.specs.Steps.{askedWork, innerWork}
-
-abbrev pub aidEnding : ℕ → List ℕ
-aidEnding n = 0xA0 ∷ 0x00 ∷ 0x00 ∷ 0x00 ∷ n ∷ []
 
 -- 01, the fall-back, and 02 in these states and marked, 03 SELECTABLE, 04 PERSONALIZED with 10 bytes used
 abbrev pub sample : ℕ → ℕ → ℕ → Phase → Card
