@@ -13,7 +13,7 @@ use Rattle.card_places.proofs.Lives.{enable-lives, lives-quotas}
 use Rattle.card_places.proofs.Sets.{set-quotas, clear-quotas, alike-quotas}
 use Rattle.card_record.specs.Cards.{isQuiet, freeIn, onFallback, withPhase, givenBack, filled, cleared, rewritten}
 use Rattle.card_record.specs.Sound.{sound}
-use Rattle.card_record.specs.Clock.{dropped, tickIn, tickOf, lostOf, confirmIn, confirmOf}
+use Rattle.card_record.specs.Clock.{dropped, tickIn, tickOf, withoutNetwork, confirmIn, confirmOf}
 use Rattle.card_record.specs.Free.{FreeTrue, FreeKept}
 use Rattle.card_record.specs.declared.Card.{Card}
 use Rattle.card_record.specs.declared.Phase.{Phase}
@@ -78,8 +78,8 @@ tick : (c : Card) → Even c → Even (tickOf c)
 unfolding tickOf
 tick c e = tick-case c (c .phase) e
 
-lost : (c : Card) → Even c → Even (lostOf c)
-unfolding lostOf
+lost : (c : Card) → Even c → Even (withoutNetwork c)
+unfolding withoutNetwork
 lost c e = choose Even (isQuiet (c .phase)) _ _ (λ q. choose Even (onFallback c) _ _ (λ f. e) (λ f. moving (c .fallback) c e)) (λ q. e)
 
 pub free-kept : FreeKept

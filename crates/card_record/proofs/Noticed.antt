@@ -14,9 +14,9 @@ use Rattle.card_isdp.specs.declared.Aid.{Aid}
 use Rattle.card_isdp.specs.declared.Isdp.{Isdp}
 use Rattle.card_places.specs.Places.{at, seek}
 use Rattle.card_record.specs.Cards.{isQuiet, onFallback, enabledAid, forgotten, withPhase, cleared}
-use Rattle.card_record.specs.Clock.{nextOf, moved, opened, fallen, tickIn, tickOf, lostOf, dropped, confirmIn, confirmOf}
-use Rattle.card_record.specs.Notifications.{silent, kindOf, noticeSince}
-use Rattle.card_record.specs.Noticed.{Entered, JustOpened, Noticed, Noticed.silently, Noticed.told, StepsNoticed}
+use Rattle.card_record.specs.Clock.{nextNumber, switched, opened, fallen, tickIn, tickOf, withoutNetwork, dropped, confirmIn, confirmOf}
+use Rattle.card_record.specs.Notifications.{silent, noticeKind, noticeSince}
+use Rattle.card_record.specs.Noticed.{Entered, JustOpened, Noticed, Noticed.silently, Noticed.announced, StepsNoticed}
 use Rattle.card_record.specs.Steps.{stepTo, tickStep, lostStep, goneIn, confirmStep}
 use Rattle.card_record.specs.declared.Card.{Card}
 use Rattle.card_record.specs.declared.Phase.{Phase}
@@ -54,17 +54,17 @@ module _ (c : Card) (s : Sound c) (gone : Aid) where
   abbrev After : Card → Type 0
   After d = Noticed c (stepTo c d gone)
 
-  new : eqb (nextOf (c .last)) (c .last) ≡ false
-  new = ne-eqb (nextOf (c .last)) (c .last) (next-differs (c .last) (s .sizes .numbered))
+  new : eqb (nextNumber (c .last)) (c .last) ≡ false
+  new = ne-eqb (nextNumber (c .last)) (c .last) (next-differs (c .last) (s .sizes .numbered))
 
   -- a phase is opened: its whole wait, its number and its kind
-  entered : (i : ℕ) (p : Phase) → Entered wait (nextOf (c .last)) (kindOf p) (stepTo c (moved c i p) gone .notification)
+  entered : (i : ℕ) (p : Phase) → Entered wait (nextNumber (c .last)) (noticeKind p) (stepTo c (switched c i p) gone .notification)
   unfolding noticeSince
   entered i p = record { whole-wait = refl; its-number = rw new; its-kind = rw new }
 
-  tells : (i : ℕ) (p : Phase) → JustOpened p (stepTo c (moved c i p) gone .notification) → After (moved c i p)
+  tells : (i : ℕ) (p : Phase) → JustOpened p (stepTo c (switched c i p) gone .notification) → After (switched c i p)
   unfolding noticeSince
-  tells i p o = told (record { phase = o; number = rw new; last = refl; eid = rw new; profile = rw new })
+  tells i p o = announced (record { phase = o; number = rw new; last = refl; eid = rw new; profile = rw new })
 
   pub opens : (t : ℕ) → After (opened c t)
   opens t = tells t _ (entered t _)
@@ -100,7 +100,7 @@ module _ (c : Card) (s : Sound c) (gone : Aid) where
   closes (Fallen l n) h = rephases _
 
 pub steps-noticed : StepsNoticed
-unfolding tickStep tickOf lostStep lostOf confirmStep confirmOf
+unfolding tickStep tickOf lostStep withoutNetwork confirmStep confirmOf
 steps-noticed =
     record {
       tick = λ c e. ticks c (parts c e) noAid (c .phase);

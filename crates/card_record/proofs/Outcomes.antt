@@ -11,7 +11,7 @@ use Rattle.base_status.specs.declared.Status.the-variants.{Unsound}
 use Rattle.card_record.specs.Sound.{sound}
 use Rattle.card_record.specs.Ticks.{ticksToCome, ticksByPhase}
 use Rattle.card_record.specs.Notifications.{silent}
-use Rattle.card_record.specs.Answers.{Outcome, Work, refusedAt, acceptedAt, refused, accepted, settle, outcome, known}
+use Rattle.card_record.specs.Answers.{Outcome, Work, refusedWith, acceptedWith, refused, accepted, settle, outcome, outcomeOnSound}
 use Rattle.card_record.specs.declared.Card.{Card}
 use Rattle.card_record.specs.declared.Step.{Step}
 use Rattle.card_record.proofs.Counts.{counted}
@@ -71,16 +71,16 @@ pub decide-ticks : (c : Card) (w : Status) (s : Step) (rsp : List ℕ) → (isDo
 decide-ticks c w s rsp f = ticks-case c w s rsp (isDone w) refl f
 
 -- a card known to be sound
-known-case : (c : Card) (w : Status) (s : Step) (rsp : List ℕ) (b : Bool) → isDone w ≡ b → sound c ≡ true → (isDone w ≡ true → sound (s .card) ≡ true) → cond b (accepted w s rsp) (refused c w) ≡ cond b (acceptedAt (ticksByPhase (s .card)) w s rsp) (refusedAt (ticksByPhase c) c w)
+known-case : (c : Card) (w : Status) (s : Step) (rsp : List ℕ) (b : Bool) → isDone w ≡ b → sound c ≡ true → (isDone w ≡ true → sound (s .card) ≡ true) → cond b (accepted w s rsp) (refused c w) ≡ cond b (acceptedWith (ticksByPhase (s .card)) w s rsp) (refusedWith (ticksByPhase c) c w)
 unfolding accepted refused
 known-case c w s rsp true e h f = rw (counted (s .card) (f e))
 known-case c w s rsp false e h f = rw (h, counted c h)
 
-pub checked : (c : Card) (w : Work) → sound c ≡ true → (isDone (wordOf (w .success) (w .rows)) ≡ true → sound (w .step .card) ≡ true) → outcome c w ≡ known c w
+pub checked : (c : Card) (w : Work) → sound c ≡ true → (isDone (wordOf (w .success) (w .rows)) ≡ true → sound (w .step .card) ≡ true) → outcome c w ≡ outcomeOnSound c w
 unfolding wordOf
 checked c w h f = rw h (known-case c (wordOf (w .success) (w .rows)) (w .step) (w .response) (isDone (wordOf (w .success) (w .rows))) refl h f)
 
 -- a card that is not
-pub stopped : (c : Card) (w : Work) → sound c ≡ false → outcome c w ≡ refusedAt 0 c Unsound
+pub stopped : (c : Card) (w : Work) → sound c ≡ false → outcome c w ≡ refusedWith 0 c Unsound
 unfolding wordOf refused
 stopped c w h = rw h

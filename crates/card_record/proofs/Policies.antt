@@ -10,7 +10,7 @@ use Rattle.card_isdp.specs.declared.Isdp.{Isdp}
 use Rattle.card_places.specs.Places.{at, allOff, enableAt}
 use Rattle.card_places.proofs.Lives.{enable-lives, lives-at}
 use Rattle.card_record.specs.Cards.{isQuiet, onFallback, forgotten, withPhase}
-use Rattle.card_record.specs.Clock.{nextOf, moved, fallen, tickIn, tickOf, lostOf}
+use Rattle.card_record.specs.Clock.{nextNumber, switched, fallen, tickIn, tickOf, withoutNetwork}
 use Rattle.card_record.specs.Policies.{repolicy, withPolicies, NoPolicyAsked}
 use Rattle.card_record.specs.declared.Card.{Card}
 use Rattle.card_record.specs.declared.Phase.{Phase}
@@ -43,7 +43,7 @@ split bs false x y = refl
 
 tick-case : (bs : List ℕ) (c : Card) (p : Phase) → tickIn p (withPolicies bs c) ≡ withPolicies bs (tickIn p c)
 tick-case bs c Quiet = refl
-tick-case bs c (Trial q l n) = rw (enable-blind bs (c .places) q) (split bs (ltb 1 l) (withPhase c (Trial q (l - 1) n)) (moved c q (Back wait (nextOf (c .last)))))
+tick-case bs c (Trial q l n) = rw (enable-blind bs (c .places) q) (split bs (ltb 1 l) (withPhase c (Trial q (l - 1) n)) (switched c q (Back wait (nextNumber (c .last)))))
 tick-case bs c (Back l n) =
     rw (life-blind bs (c .places) (c .fallback), enable-blind bs (c .places) (c .fallback), split bs (onFallback c) (withPhase c Quiet) (fallen c))
     (split bs (ltb 1 l) (withPhase c (Back (l - 1) n)) (cond (onFallback c) (withPhase c Quiet) (fallen c)))
@@ -53,8 +53,8 @@ tick-blind : (bs : List ℕ) (c : Card) → tickOf (withPolicies bs c) ≡ withP
 unfolding tickOf
 tick-blind bs c = tick-case bs c (c .phase)
 
-lost-blind : (bs : List ℕ) (c : Card) → lostOf (withPolicies bs c) ≡ withPolicies bs (lostOf c)
-unfolding lostOf
+lost-blind : (bs : List ℕ) (c : Card) → withoutNetwork (withPolicies bs c) ≡ withPolicies bs (withoutNetwork c)
+unfolding withoutNetwork
 lost-blind bs c =
     rw (life-blind bs (c .places) (c .fallback), enable-blind bs (c .places) (c .fallback), split bs (onFallback c) (forgotten c) (fallen c))
     (split bs (isQuiet (c .phase)) (cond (onFallback c) (forgotten c) (fallen c)) (forgotten c))
@@ -78,8 +78,8 @@ tick-deletes-nothing : (c : Card) (j : ℕ) → at (tickOf c .places) j .aid .le
 unfolding tickOf
 tick-deletes-nothing c j = tick-keeps j c (c .phase)
 
-lost-deletes-nothing : (c : Card) (j : ℕ) → at (lostOf c .places) j .aid .len ≡ at (c .places) j .aid .len
-unfolding lostOf
+lost-deletes-nothing : (c : Card) (j : ℕ) → at (withoutNetwork c .places) j .aid .len ≡ at (c .places) j .aid .len
+unfolding withoutNetwork
 lost-deletes-nothing c j =
     choose (Keeps j c) (isQuiet (c .phase)) _ _
     (λ q. choose (Keeps j c) (onFallback c) _ _ (λ e. refl) (λ e. moved-keeps (c .places) (c .fallback) j)) (λ q. refl)

@@ -18,7 +18,7 @@ use Rattle.card_places.specs.Places.{at, quotas, allOf, countOf, distinct, enab
 use Rattle.card_places.proofs.Lives.{enable-lives, lives-length, lives-quotas, lives-distinct, enable-one, enable-at, enable-ok, enable-resort, within}
 use Rattle.card_record.specs.Cards.{isQuiet, freeIn, onFallback, noPlace, keeping, forgotten, inState, withPhase}
 use Rattle.card_record.specs.Sound.{sized, sizesOk, placesOk, keptOk, rolesOk, openOk, phaseIn, phaseOk, sound, KeptHeld, FallBackMarked}
-use Rattle.card_record.specs.Clock.{nextOf, moved, tickIn, tickOf, lostOf}
+use Rattle.card_record.specs.Clock.{nextNumber, switched, tickIn, tickOf, withoutNetwork}
 use Rattle.card_record.proofs.Numbers.{next-small}
 use Rattle.card_record.specs.declared.Card.{Card}
 use Rattle.card_record.specs.declared.Phase.{Phase}
@@ -172,13 +172,13 @@ pub forgets : (c : Card) → Sound c → Sound (forgotten c)
 forgets c s = keeps-place c noPlace s refl
 
 -- a place that has a life cycle is enabled, and a phase opens that asks nothing more than that
-pub moves : (c : Card) (i : ℕ) (p : Phase) → Sound c → (at (c .places) i .life ≡ 0 → ⊥) → Phased p (moved c i p) → Sound (moved c i p)
+pub moves : (c : Card) (i : ℕ) (p : Phase) → Sound c → (at (c .places) i .life ≡ 0 → ⊥) → Phased p (switched c i p) → Sound (switched c i p)
 moves c i p s n h =
     let k = within (c .places) i n in
     let r = enable-lives (c .places) i in
     let z = s .placed in
     record {
-      sizes = resized c (c .free) (nextOf (c .last)) p (enableAt (c .places) i) (s .sizes) (next-small (c .last) (s .sizes .numbered)) (lives-length r);
+      sizes = resized c (c .free) (nextNumber (c .last)) p (enableAt (c .places) i) (s .sizes) (next-small (c .last) (s .sizes .numbered)) (lives-length r);
       placed = record { each = enable-ok (c .capacity) (c .places) i (ne-eqb _ _ n) (z .each); apart = lives-distinct r ∙ z .apart; room = rw (lives-quotas r) (z .room) };
       roles = record { one = enable-one (c .places) i k; resort = enable-resort (c .places) i (c .fallback) k (s .roles .resort); listing = refl };
       phased = h;
@@ -219,17 +219,17 @@ pub resort-nonzero : (c : Card) → Sound c → at (c .places) (c .fallback) .li
 resort-nonzero c s = done-nonzero (at (c .places) (c .fallback) .life) (resort-done c s)
 
 -- the fall-back is enabled
-pub falls : (c : Card) → Sound c → Sound (moved c (c .fallback) (Fallen wait (nextOf (c .last))))
+pub falls : (c : Card) → Sound c → Sound (switched c (c .fallback) (Fallen wait (nextNumber (c .last))))
 falls c s =
     let n = resort-nonzero c s in
-    moves c (c .fallback) (Fallen wait (nextOf (c .last))) s n
-    (fresh (nextOf (c .last)), enable-at (c .places) (c .fallback) (within (c .places) (c .fallback) n))
+    moves c (c .fallback) (Fallen wait (nextNumber (c .last))) s n
+    (fresh (nextNumber (c .last)), enable-at (c .places) (c .fallback) (within (c .places) (c .fallback) n))
 
 tick-case : (c : Card) (p : Phase) → Sound c → Phased p c → Sound (tickIn p c)
 tick-case c Quiet s h = forgets c s
 tick-case c (Trial q l n) s h =
     choose Sound (ltb 1 l) _ _ (λ b. rephased c (Trial q (l - 1) n) s (less l n (c .last) b (h .0), h .1))
-    (λ b. moves c q (Back wait (nextOf (c .last))) s (nonzero _ 30 (h .1)) (fresh (nextOf (c .last))))
+    (λ b. moves c q (Back wait (nextNumber (c .last))) s (nonzero _ 30 (h .1)) (fresh (nextNumber (c .last))))
 tick-case c (Back l n) s h =
     choose Sound (ltb 1 l) _ _ (λ b. rephased c (Back (l - 1) n) s (less l n (c .last) b h))
     (λ b. choose Sound (onFallback c) _ _ (λ e. rephased c Quiet s tt) (λ e. falls c s))
@@ -241,8 +241,8 @@ pub tick-sound : (c : Card) → sound c ≡ true → sound (tickOf c) ≡ true
 unfolding tickOf
 tick-sound c e = whole (tickIn (c .phase) c) (tick-case c (c .phase) (parts c e) (parts c e .phased))
 
-pub lost-sound : (c : Card) → sound c ≡ true → sound (lostOf c) ≡ true
-unfolding lostOf
+pub lost-sound : (c : Card) → sound c ≡ true → sound (withoutNetwork c) ≡ true
+unfolding withoutNetwork
 lost-sound c e =
     let s = parts c e in
     whole _ (choose Sound (isQuiet (c .phase)) _ _ (λ q. choose Sound (onFallback c) _ _ (λ v. forgets c s) (λ v. falls c s)) (λ q. forgets c s))

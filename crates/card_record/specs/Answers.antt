@@ -25,8 +25,8 @@ pub record Outcome : Type 0 where
   pub ticks : ℕ
 
 -- the same as the code hands it out: the response stands in the lent buffer, and its length is told (decision B9)
-abbrev pub handed : Outcome → Answer
-handed o =
+abbrev pub asAnswer : Outcome → Answer
+asAnswer o =
     record {
       status = o .status;
       card = o .card;
@@ -36,29 +36,29 @@ handed o =
     }
 
 -- a refusal and a success, each with its word and a given figure of ticks
-abbrev pub refusedAt : ℕ → Card → Status → Outcome
-refusedAt ticks c word =
+abbrev pub refusedWith : ℕ → Card → Status → Outcome
+refusedWith ticks c word =
     record { status = word; card = c; response = []; notification = silent; ticks = ticks }
 
-abbrev pub acceptedAt : ℕ → Status → Step → List ℕ → Outcome
-acceptedAt ticks word s response =
+abbrev pub acceptedWith : ℕ → Status → Step → List ℕ → Outcome
+acceptedWith ticks word s response =
     record { status = word; card = s .card; response = response; notification = s .notification; ticks = ticks }
 
 -- the success as the code hands it out, where only the response's length is known
-abbrev pub answerAt : ℕ → Status → Step → ℕ → Answer
-answerAt ticks word s n =
+abbrev pub answerWith : ℕ → Status → Step → ℕ → Answer
+answerWith ticks word s n =
     record { status = word; card = s .card; length = n; notification = s .notification; ticks = ticks }
 
 -- an answer without a notification: a refusal has no response either, a success that issues no number may have one (decision B79)
-abbrev pub silentAt : ℕ → Status → Card → ℕ → Answer
-silentAt ticks word c n = record { status = word; card = c; length = n; notification = silent; ticks = ticks }
+abbrev pub silentWith : ℕ → Status → Card → ℕ → Answer
+silentWith ticks word c n = record { status = word; card = c; length = n; notification = silent; ticks = ticks }
 
 -- the ticks are counted by the tick rule, and 6F 00 carries 0 (decision 47)
 unfoldable pub refused : Card → Status → Outcome
-refused c word = refusedAt (cond (sound c) (ticksToCome c) 0) c word
+refused c word = refusedWith (cond (sound c) (ticksToCome c) 0) c word
 
 unfoldable pub accepted : Status → Step → List ℕ → Outcome
-accepted word s response = acceptedAt (ticksToCome (s .card)) word s response
+accepted word s response = acceptedWith (ticksToCome (s .card)) word s response
 
 -- the answer of a table's word and a step: a success takes the step, any other word refuses (decision B36)
 abbrev pub settle : Card → Status → Step → List ℕ → Outcome
@@ -80,9 +80,9 @@ abbrev pub outcome : Card → Work → Outcome
 outcome c w = settle c (wordOf (w .success) (soundRow c ∷ w .rows)) (w .step) (w .response)
 
 -- the same for a card known to be sound: the row 6F 00 is not asked, and the ticks are figured by the phase (decision B10)
-abbrev pub settleKnown : Card → Status → Step → List ℕ → Outcome
-settleKnown c word s response =
-    cond (isDone word) (acceptedAt (ticksByPhase (s .card)) word s response) (refusedAt (ticksByPhase c) c word)
+abbrev pub settleOnSound : Card → Status → Step → List ℕ → Outcome
+settleOnSound c word s response =
+    cond (isDone word) (acceptedWith (ticksByPhase (s .card)) word s response) (refusedWith (ticksByPhase c) c word)
 
-abbrev pub known : Card → Work → Outcome
-known c w = settleKnown c (wordOf (w .success) (w .rows)) (w .step) (w .response)
+abbrev pub outcomeOnSound : Card → Work → Outcome
+outcomeOnSound c w = settleOnSound c (wordOf (w .success) (w .rows)) (w .step) (w .response)

@@ -11,20 +11,20 @@ use Rattle.card_record.specs.declared.Phase.{Phase}
 use Rattle.card_record.specs.declared.Phase.the-variants.{Quiet, Trial, Back, Fallen}
 
 -- "Notification numbers run 1, 2, .. 65535, 0, 1": an old number may be outstanding again (decision 66)
-abbrev pub nextOf : ℕ → ℕ
-nextOf n = cond (eqb n lastNumber) 0 (n + 1)
+abbrev pub nextNumber : ℕ → ℕ
+nextNumber n = cond (eqb n lastNumber) 0 (n + 1)
 
 -- the place at i is enabled, the next number is issued, and the phase opens (decision 9)
-abbrev pub moved : Card → ℕ → Phase → Card
-moved c i p = withChange c (nextOf (c .last)) p (enableAt (c .places) i)
+abbrev pub switched : Card → ℕ → Phase → Card
+switched c i p = withChange c (nextNumber (c .last)) p (enableAt (c .places) i)
 
 -- the profile at place t is enabled in place of the enabled one: Trial
 abbrev pub opened : Card → ℕ → Card
-opened c t = moved c t (Trial (enabledPlace c) wait (nextOf (c .last)))
+opened c t = switched c t (Trial (enabledPlace c) wait (nextNumber (c .last)))
 
 -- the fall-back is enabled: Fallen
 abbrev pub fallen : Card → Card
-fallen c = moved c (c .fallback) (Fallen wait (nextOf (c .last)))
+fallen c = switched c (c .fallback) (Fallen wait (nextNumber (c .last)))
 
 -- "Tick: Quiet, nothing. Else ticks left falls by one; at zero: Trial enables the previous profile, Back; Back enables the
 -- fall-back, Fallen, or closes if the fall-back is already enabled; Fallen closes." (decisions 9, 10, 52)
@@ -32,7 +32,7 @@ abbrev pub tickIn : Phase → Card → Card
 tickIn Quiet c = forgotten c
 tickIn (Trial previous left number) c =
     cond (ltb 1 left) (withPhase c (Trial previous (left - 1) number))
-    (moved c previous (Back wait (nextOf (c .last))))
+    (switched c previous (Back wait (nextNumber (c .last))))
 tickIn (Back left number) c =
     cond (ltb 1 left) (withPhase c (Back (left - 1) number))
     (cond (onFallback c) (withPhase c Quiet) (fallen c))
@@ -57,8 +57,8 @@ unfoldable pub tickOf : Card → Card
 tickOf c = tickIn (c .phase) c
 
 -- "Lost: if Quiet and the enabled profile is not the fall-back, enable it, Fallen. Else nothing." (decision 52)
-unfoldable pub lostOf : Card → Card
-lostOf c = cond (isQuiet (c .phase)) (cond (onFallback c) (forgotten c) (fallen c)) (forgotten c)
+unfoldable pub withoutNetwork : Card → Card
+withoutNetwork c = cond (isQuiet (c .phase)) (cond (onFallback c) (forgotten c) (fallen c)) (forgotten c)
 
 -- n is the outstanding number; in Quiet there is none (decision 45)
 abbrev pub outstanding : Phase → ℕ → Bool

@@ -9,7 +9,7 @@ use Rattle.card_isdp.specs.declared.Isdp.{Isdp}
 use Rattle.card_places.specs.Places.{at, quotas, freeOf}
 use Rattle.card_record.specs.Cards.{freeIn, cardWith, filled, cleared, rewritten, withFallback}
 use Rattle.card_record.specs.Sound.{sound}
-use Rattle.card_record.specs.Clock.{opened, tickOf, lostOf, confirmOf}
+use Rattle.card_record.specs.Clock.{opened, tickOf, withoutNetwork, confirmOf}
 use Rattle.card_record.specs.declared.Card.{Card}
 
 -- the same card with another number for free; with the one that the quotas leave
@@ -24,17 +24,17 @@ pub record FreeTrue (c : Card) : Type 0 where
   pub as-summed : freeIn c ≡ freeOf (c .capacity) (c .places)
   pub within : quotas (c .places) ≤ c .capacity
 
-abbrev pub Keeps : (Card → Card) → Type 0
-Keeps write = (c : Card) → FreeTrue c → FreeTrue (write c)
+abbrev pub KeepsFree : (Card → Card) → Type 0
+KeepsFree write = (c : Card) → FreeTrue c → FreeTrue (write c)
 
 pub record FreeKept : Type 0 where
   pub sound-card : (c : Card) → sound c ≡ true → FreeTrue c
   -- a profile whose quota is not over free is made in a place that is not held; one is deleted; one is rewritten with its quota
   pub creation : (i : ℕ) (p : Isdp) (c : Card) → i < length (c .places) → at (c .places) i ≡ vacant → p .quota ≤ freeIn c → FreeTrue c → FreeTrue (filled c i p)
-  pub deletion : (i : ℕ) → Keeps (λ c. cleared c i)
+  pub deletion : (i : ℕ) → KeepsFree (λ c. cleared c i)
   pub rewriting : (i : ℕ) (p : Isdp) (c : Card) → p .quota ≡ at (c .places) i .quota → FreeTrue c → FreeTrue (rewritten c i p)
-  pub confirmation : Keeps confirmOf
-  pub opening : (t : ℕ) → Keeps (λ c. opened c t)
-  pub fall-back : (f : ℕ) → Keeps (λ c. withFallback c f)
-  pub tick : Keeps tickOf
-  pub lost : Keeps lostOf
+  pub confirmation : KeepsFree confirmOf
+  pub opening : (t : ℕ) → KeepsFree (λ c. opened c t)
+  pub fall-back : (f : ℕ) → KeepsFree (λ c. withFallback c f)
+  pub tick : KeepsFree tickOf
+  pub lost : KeepsFree withoutNetwork

@@ -7,7 +7,7 @@ use Rattle.card_isdp.specs.Sizes.{wait}
 use Rattle.card_isdp.specs.Aids.{noAid}
 use Rattle.card_record.specs.Cards.{enabledAid}
 use Rattle.card_record.specs.Sound.{sound}
-use Rattle.card_record.specs.Clock.{nextOf, opened}
+use Rattle.card_record.specs.Clock.{nextNumber, opened}
 use Rattle.card_record.specs.Notifications.{silent}
 use Rattle.card_record.specs.Steps.{stepTo, tickStep, lostStep, confirmStep}
 use Rattle.card_record.specs.declared.Card.{Card}
@@ -38,16 +38,16 @@ JustOpened (Back left number) n = Entered left number RolledBack n
 JustOpened (Fallen left number) n = Entered left number FallenBack n
 
 -- a notification of the phase just opened: "kind, number, EID and the AID of the profile then enabled"
-pub record Told (c : Card) (s : Step) : Type 0 where
+pub record Announced (c : Card) (s : Step) : Type 0 where
   pub phase : JustOpened (s .card .phase) (s .notification)
-  pub number : s .notification .number ≡ nextOf (c .last)
-  pub last : s .card .last ≡ nextOf (c .last)
+  pub number : s .notification .number ≡ nextNumber (c .last)
+  pub last : s .card .last ≡ nextNumber (c .last)
   pub eid : s .notification .eid ≡ c .eid
   pub profile : s .notification .aid ≡ enabledAid (s .card)
 
 pub data Noticed (c : Card) (s : Step) : Type 0 where
   silently : Silently c s → Noticed c s
-  told : Told c s → Noticed c s
+  announced : Announced c s → Noticed c s
 
 -- of every sound card: tick, lost, the confirmation, and the opening of a change
 pub record StepsNoticed : Type 0 where

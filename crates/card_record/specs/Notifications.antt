@@ -21,11 +21,11 @@ codeOf Changed = 0x02
 codeOf RolledBack = 0x03
 codeOf FallenBack = 0x05
 
-abbrev pub kindOf : Phase → Kind
-kindOf Quiet = Silent
-kindOf (Trial previous left number) = Changed
-kindOf (Back left number) = RolledBack
-kindOf (Fallen left number) = FallenBack
+abbrev pub noticeKind : Phase → Kind
+noticeKind Quiet = Silent
+noticeKind (Trial previous left number) = Changed
+noticeKind (Back left number) = RolledBack
+noticeKind (Fallen left number) = FallenBack
 
 -- no notification: one value, so that two answers without one are equal (decision B12)
 abbrev pub silent : Notification
@@ -36,7 +36,7 @@ abbrev pub issuedAs : Kind → Card → Notification
 issuedAs kind c = record { kind = kind; number = c .last; eid = c .eid; aid = enabledAid c }
 
 abbrev pub issued : Card → Notification
-issued c = issuedAs (kindOf (c .phase)) c
+issued c = issuedAs (noticeKind (c .phase)) c
 
 -- a card after one whose last number was `last`: one is handed out exactly where a number was issued (decision B13)
 unfoldable pub noticeSince : ℕ → Card → Notification

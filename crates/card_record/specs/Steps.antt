@@ -4,7 +4,7 @@ use mathlib.Core.Bool.{cond}
 use Rattle.card_isdp.specs.Aids.{noAid}
 use Rattle.card_isdp.specs.declared.Aid.{Aid}
 use Rattle.card_places.specs.Places.{at}
-use Rattle.card_record.specs.Clock.{tickOf, lostOf, confirmOf, dropped}
+use Rattle.card_record.specs.Clock.{tickOf, withoutNetwork, confirmOf, dropped}
 use Rattle.card_record.specs.Notifications.{issuedAs, noticeSince}
 use Rattle.card_record.specs.declared.Card.{Card}
 use Rattle.card_record.specs.declared.Kind.{Kind}
@@ -17,8 +17,8 @@ abbrev pub stepSince : ℕ → Card → Aid → Step
 stepSince last d deleted = record { card = d; notification = noticeSince last d; deleted = deleted }
 
 -- of a number that was issued: with the notification of a kind
-abbrev pub stepTold : Kind → Card → Aid → Step
-stepTold kind d deleted = record { card = d; notification = issuedAs kind d; deleted = deleted }
+abbrev pub stepNotified : Kind → Card → Aid → Step
+stepNotified kind d deleted = record { card = d; notification = issuedAs kind d; deleted = deleted }
 
 -- from card c to card d
 abbrev pub stepTo : Card → Card → Aid → Step
@@ -28,7 +28,7 @@ unfoldable pub tickStep : Card → Step
 tickStep c = stepTo c (tickOf c) noAid
 
 unfoldable pub lostStep : Card → Step
-lostStep c = stepTo c (lostOf c) noAid
+lostStep c = stepTo c (withoutNetwork c) noAid
 
 -- the AID that the confirmation deletes
 abbrev pub trialGone : Card → ℕ → Aid

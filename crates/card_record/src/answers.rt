@@ -8,17 +8,17 @@ use base_status::Status;
 ghost use mathlib.Core.Path.{_≡_};
 ghost use lib.ListN.{length};
 ghost use Rattle.card_record.specs.Ticks.{ticksByPhase};
-ghost use Rattle.card_record.specs.Answers.{handed, refusedAt, answerAt, silentAt};
+ghost use Rattle.card_record.specs.Answers.{asAnswer, refusedWith, answerWith, silentWith};
 ghost use Rattle.card_record.specs.Steps.{tickStep};
 ghost use Rattle.base_status.specs.declared.Status.the-variants.{Unsound, Done};
 
 impl Card {
     // An answer without a notification, of a card known to be sound, and no step between (decision B79).
     pub fn silently(self, word: Status, length: usize) -> Answer
-        ensures { λ r. ⌜ r ≡ silentAt (ticksByPhase self) word self length ⌝ }
+        ensures { λ r. ⌜ r ≡ silentWith (ticksByPhase self) word self length ⌝ }
     {
         let notification = Notification::silent();
-        let ticks = self.ticks_to_come();
+        let ticks = self.ticks_by_phase();
         Answer {
             status: word,
             card: self,
@@ -30,14 +30,14 @@ impl Card {
 
     // A refusal of a card known to be sound: the card as it was, and its ticks.
     pub fn refused(self, status: Status) -> Answer
-        ensures { λ r. ⌜ r ≡ handed (refusedAt (ticksByPhase self) self status) ⌝ }
+        ensures { λ r. ⌜ r ≡ asAnswer (refusedWith (ticksByPhase self) self status) ⌝ }
     {
         self.silently(status, 0)
     }
 
     // The answer of a tick. Most leave their phase open and issue no number: these have a way of their own (decision B79).
     pub fn ticked(self) -> Answer
-        ensures { λ r. ⌜ r ≡ answerAt (ticksByPhase (tickStep self .card)) Done (tickStep self) 0 ⌝ }
+        ensures { λ r. ⌜ r ≡ answerWith (ticksByPhase (tickStep self .card)) Done (tickStep self) 0 ⌝ }
     {
         let phase = self.phase;
         if phase.waits() {
@@ -50,7 +50,7 @@ impl Card {
 
     // The refusal of a card that is not sound.
     pub fn unsound(self) -> Answer
-        ensures { λ r. ⌜ r ≡ handed (refusedAt 0 self Unsound) ⌝ }
+        ensures { λ r. ⌜ r ≡ asAnswer (refusedWith 0 self Unsound) ⌝ }
     {
         let notification = Notification::silent();
         Answer {
@@ -66,11 +66,11 @@ impl Card {
 impl Step {
     // The answer of an accepted call with its word of success and so many response bytes.
     pub fn answer(self, word: Status, length: usize) -> Answer
-        ensures { λ r. ⌜ r ≡ answerAt (ticksByPhase (self .card)) word self length ⌝ }
+        ensures { λ r. ⌜ r ≡ answerWith (ticksByPhase (self .card)) word self length ⌝ }
     {
         let card = self.card;
         let notification = self.notification;
-        let ticks = card.ticks_to_come();
+        let ticks = card.ticks_by_phase();
         Answer {
             status: word,
             card,

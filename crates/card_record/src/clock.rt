@@ -9,11 +9,11 @@ ghost use mathlib.Core.Bool.{true, false, cond};
 ghost use Rattle.card_isdp.specs.Sizes.{wait};
 ghost use Rattle.card_record.specs.declared.Phase.the-variants.{Quiet, Back};
 ghost use Rattle.card_record.specs.Cards.{onFallback, withPhase};
-ghost use Rattle.card_record.specs.Clock.{nextOf, moved, opened, fallen, waits, shorter, tickOf, lostOf, dropped, outstanding};
+ghost use Rattle.card_record.specs.Clock.{nextNumber, switched, opened, fallen, waits, shorter, tickOf, withoutNetwork, dropped, outstanding};
 
 // The number after `n`.
-fn next(n: u16) -> u16
-    ensures { λ r. ⌜ r ≡ nextOf n ⌝ }
+fn next_number(n: u16) -> u16
+    ensures { λ r. ⌜ r ≡ nextNumber n ⌝ }
 {
     if n == Card::LAST_NUMBER { 0 } else { n + 1 }
 }
@@ -81,13 +81,13 @@ impl Phase {
 
 impl Card {
     // The place is enabled, the next number is issued, and the phase opens.
-    fn moved(self, i: u8, phase: Phase) -> Card
-        ensures { λ r. ⌜ r ≡ moved self i phase ⌝ }
+    fn switched(self, i: u8, phase: Phase) -> Card
+        ensures { λ r. ⌜ r ≡ switched self i phase ⌝ }
     {
         let before = self.places;
         let places = card_places::enable_at(before, i);
         let mut after = self;
-        after.last = next(self.last);
+        after.last = next_number(self.last);
         after.places = places;
         after.with_phase(phase)
     }
@@ -97,8 +97,8 @@ impl Card {
         ensures { λ r. ⌜ r ≡ opened self t ⌝ }
     {
         let e = self.enabled_place();
-        let n = next(self.last);
-        self.moved(
+        let n = next_number(self.last);
+        self.switched(
             t,
             Phase::Trial {
                 previous: e,
@@ -112,8 +112,8 @@ impl Card {
     fn fallen(self) -> Card
         ensures { λ r. ⌜ r ≡ fallen self ⌝ }
     {
-        let n = next(self.last);
-        self.moved(
+        let n = next_number(self.last);
+        self.switched(
             self.fallback,
             Phase::Fallen {
                 left: Card::WAIT,
@@ -124,10 +124,10 @@ impl Card {
 
     // Trial has run out.
     fn trial_over(self, previous: u8) -> Card
-        ensures { λ r. ⌜ r ≡ moved self previous (Back wait (nextOf (self .last))) ⌝ }
+        ensures { λ r. ⌜ r ≡ switched self previous (Back wait (nextNumber (self .last))) ⌝ }
     {
-        let n = next(self.last);
-        self.moved(
+        let n = next_number(self.last);
+        self.switched(
             previous,
             Phase::Back {
                 left: Card::WAIT,
@@ -176,7 +176,7 @@ impl Card {
 
     // The card after the network was lost.
     pub(crate) fn without_network(self) -> Card
-        ensures { λ r. ⌜ r ≡ lostOf self ⌝ }
+        ensures { λ r. ⌜ r ≡ withoutNetwork self ⌝ }
     {
         let phase = self.phase;
         if !phase.is_quiet() {
@@ -190,7 +190,7 @@ impl Card {
     }
 
     // Does the confirmation delete the profile at a place?
-    pub(crate) fn drops(self, i: u8) -> bool
+    pub(crate) fn dropped(self, i: u8) -> bool
         ensures { λ r. ⌜ r ≡ dropped self i ⌝ }
     {
         let p = self.profile(i);

@@ -11,7 +11,7 @@ use card_isdp::aid_ok;
 use card_isdp::pad;
 ghost use mathlib.Core.Path.{_≡_};
 ghost use lib.ListN.{length};
-ghost use Rattle.card_record.specs.Answers.{handed};
+ghost use Rattle.card_record.specs.Answers.{asAnswer};
 ghost use Rattle.card_record.specs.Fresh.{zeroCard, freshOk, freshCard, freshOutcome};
 
 impl Card {
@@ -37,7 +37,14 @@ impl Card {
     }
 
     // A card with one profile.
-    fn first(eid: &[u8], aid: &[u8], capacity: u32, quota: u32, used: u32, volatile: u32) -> Card
+    fn fresh_card(
+        eid: &[u8],
+        aid: &[u8],
+        capacity: u32,
+        quota: u32,
+        used: u32,
+        volatile: u32,
+    ) -> Card
         requires { ⌜ length (now eid) ≡ 16 ⌝ }
         ensures { λ r. ⌜ r ≡ freshCard (now (eid .entry)) (now (aid .entry)) capacity quota used volatile ⌝ }
     {
@@ -67,13 +74,13 @@ impl Card {
         used: u32,
         volatile: u32,
     ) -> Answer
-        ensures { λ r. ⌜ r ≡ handed (freshOutcome (now (eid .entry)) (now (aid .entry)) capacity quota used volatile) ⌝ }
+        ensures { λ r. ⌜ r ≡ asAnswer (freshOutcome (now (eid .entry)) (now (aid .entry)) capacity quota used volatile) ⌝ }
     {
         let zero = Card::zero();
         if !Card::fresh_ok(eid, aid, capacity, quota, used) {
             return zero.refused(Status::DataWrong);
         }
-        let card = Card::first(eid, aid, capacity, quota, used, volatile);
+        let card = Card::fresh_card(eid, aid, capacity, quota, used, volatile);
         card.step_since(zero.last, Aid::none())
             .answer(Status::Done, 0)
     }

@@ -8,7 +8,7 @@ use crate::Step;
 use card_isdp::Aid;
 ghost use mathlib.Core.Path.{_≡_};
 ghost use Rattle.card_record.specs.Clock.{trialClosed};
-ghost use Rattle.card_record.specs.Steps.{stepSince, stepTold, stepTo, tickStep, lostStep, trialGone, confirmStep};
+ghost use Rattle.card_record.specs.Steps.{stepSince, stepNotified, stepTo, tickStep, lostStep, trialGone, confirmStep};
 
 impl Card {
     // Every step is made here: this card comes after one whose last number was `last`. It takes that number and not the old card, so
@@ -26,16 +26,16 @@ impl Card {
         }
         let phase = self.phase;
         match phase {
-            Phase::Quiet => self.step_told(Kind::Silent, deleted),
-            Phase::Trial { .. } => self.step_told(Kind::Changed, deleted),
-            Phase::Back { .. } => self.step_told(Kind::RolledBack, deleted),
-            Phase::Fallen { .. } => self.step_told(Kind::FallenBack, deleted),
+            Phase::Quiet => self.step_notified(Kind::Silent, deleted),
+            Phase::Trial { .. } => self.step_notified(Kind::Changed, deleted),
+            Phase::Back { .. } => self.step_notified(Kind::RolledBack, deleted),
+            Phase::Fallen { .. } => self.step_notified(Kind::FallenBack, deleted),
         }
     }
 
     // A step that issued a number: its notification goes with it.
-    fn step_told(self, kind: Kind, deleted: Aid) -> Step
-        ensures { λ r. ⌜ r ≡ stepTold kind self deleted ⌝ }
+    fn step_notified(self, kind: Kind, deleted: Aid) -> Step
+        ensures { λ r. ⌜ r ≡ stepNotified kind self deleted ⌝ }
     {
         let notification = self.issued(kind);
         Step {
@@ -66,7 +66,7 @@ impl Card {
         ensures { λ r. ⌜ r ≡ stepTo self (trialClosed self previous) (trialGone self previous) ⌝ }
     {
         let quiet = self.with_phase(Phase::Quiet);
-        if self.drops(previous) {
+        if self.dropped(previous) {
             let p = self.profile(previous);
             let after = quiet.cleared(previous);
             return after.step_since(self.last, p.aid);

@@ -8,7 +8,7 @@ ghost use Rattle.card_record.specs.Ticks.{ticksByPhase};
 
 impl Card {
     // The ticks still to come, by the phase; the definitions count them step by step.
-    pub fn ticks_to_come(self) -> u32
+    pub fn ticks_by_phase(self) -> u32
         ensures { λ r. ⌜ r ≡ ticksByPhase self ⌝ }
     {
         let phase = self.phase;

@@ -16,13 +16,13 @@ use Rattle.month_count.specs.declared.Month.{Month}
 use Rattle.month_report.specs.Report.{reportText, mostReport}
 use Rattle.month_account.specs.Refusals.{refusalText, mostRefusal}
 use Rattle.month_account.specs.Account.{textBy, accountText, mostAccount}
-use Rattle.month_account.specs.Statements.{Told}
+use Rattle.month_account.specs.Statements.{AccountSays}
 
 text-as : (explain : Bool) (s : List ℕ) (v : Verdict) → verdictOf s ≡ v → accountText explain s ≡ textBy explain v (countedBy v s)
 unfolding accountText
 text-as explain s v e = ap (λ (x : Verdict). textBy explain x (countedBy x s)) e
 
-pub told : Told
+pub told : AccountSays
 told =
     record {
       refused = λ explain s r e. text-as explain s (Refused r) e;

@@ -34,8 +34,8 @@ meaningText UnknownKind = text "an event is of no kind that there is\n"
 meaningText WrongLength = text "an event has too few or too many bytes for its kind\n"
 
 -- the meanings one after the other, as the code keeps them: each is a piece of this text
-abbrev pub meanings : List ℕ
-meanings =
+abbrev pub refusalMeanings : List ℕ
+refusalMeanings =
     meaningText ContentsWrong
     ++ meaningText SectionMissing
     ++ meaningText FreshBad

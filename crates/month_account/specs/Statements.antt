@@ -12,6 +12,6 @@ use Rattle.month_report.specs.Report.{reportText}
 use Rattle.month_account.specs.Refusals.{refusalText}
 use Rattle.month_account.specs.Account.{accountText}
 
-pub record Told : Type 0 where
+pub record AccountSays : Type 0 where
   pub refused : (explain : Bool) (s : List ℕ) (r : Refusal) → verdictOf s ≡ Refused r → accountText explain s ≡ refusalText explain r
   pub accepted : (explain : Bool) (s : List ℕ) → verdictOf s ≡ Accepted → accountText explain s ≡ reportText explain (monthOf s .tally) (monthOf s .minutes)

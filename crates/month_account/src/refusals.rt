@@ -9,7 +9,7 @@ ghost use Prim.Native.Nat.{_≤_};
 ghost use lib.ListN.{length};
 ghost use Rattle.base_bytes.specs.Put.{Wrote};
 ghost use Rattle.text_words.specs.Letters.{pieceOf};
-ghost use Rattle.month_account.specs.Refusals.{nameText, names, meaningText, meanings, lineText, refusalText, mostRefusal};
+ghost use Rattle.month_account.specs.Refusals.{nameText, names, meaningText, refusalMeanings, lineText, refusalText, mostRefusal};
 
 // Where the name of a refusal stands in the text of all names.
 fn name_piece(refusal: Refusal) -> Piece
@@ -39,7 +39,7 @@ fn put_name(refusal: Refusal, out: &mut [u8], at: usize) -> usize
 
 // Where the meaning of a refusal stands in the text of all meanings.
 fn meaning_piece(refusal: Refusal) -> Piece
-    ensures { λ r. ⌜ pieceOf meanings r ≡ meaningText refusal ⌝ }
+    ensures { λ r. ⌜ pieceOf refusalMeanings r ≡ meaningText refusal ⌝ }
 {
     match refusal {
         Refusal::ContentsWrong => Piece(0, 77),

@@ -9,12 +9,12 @@ use lib.Dec.{eqb}
 use borrow.Author.Tests.{lt-ltb, le-ltb, eq-eqb, ne-eqb}
 use Rattle.base_choice.proofs.Branches.{on-eq}
 use Rattle.month_contents.specs.Below.{someBelow, sumBelow}
-use Rattle.month_contents.specs.Contents.{sections, startAt, lengthAt, contentsEnd, notFilled, ofKind, sectionOf}
+use Rattle.month_contents.specs.Contents.{sections, startAt, bodyLength, contentsEnd, notFilled, ofKind, sectionOf}
 use Rattle.month_contents.specs.declared.Section.the-variants.{Body, Missing}
 use Rattle.month_contents.proofs.Below.{first-hit, first-none, sum-next, sum-part}
 
 module _ (s : List ℕ) (kind i : ℕ) where
-  pub section-hit : someBelow i (ofKind s kind) ≡ false → ofKind s kind i ≡ true → i < sections s → Body (record { start = startAt s i; len = lengthAt s i }) ≡ sectionOf s kind
+  pub section-hit : someBelow i (ofKind s kind) ≡ false → ofKind s kind i ≡ true → i < sections s → Body (record { start = startAt s i; len = bodyLength s i }) ≡ sectionOf s kind
   unfolding sectionOf
   section-hit f e h = rw (first-hit (ofKind s kind) i e (sections s) f h, lt-ltb i (sections s) h)
 
@@ -27,17 +27,17 @@ module _ (s : List ℕ) (kind i : ℕ) where
 module _ (s : List ℕ) where
   -- the lengths are too many: at once, or at the next one
   pub filled-past : length s < contentsEnd s → true ≡ notFilled s
-  filled-past h = rw (ne-eqb (contentsEnd s + sumBelow (sections s) (lengthAt s)) (length s) (λ w. absurd (omega arith)))
+  filled-past h = rw (ne-eqb (contentsEnd s + sumBelow (sections s) (bodyLength s)) (length s) (λ w. absurd (omega arith)))
 
-  module _ (i left : ℕ) (e : contentsEnd s + sumBelow i (lengthAt s) + left ≡ length s) where
-    pub filled-over : i < sections s → left < lengthAt s i → true ≡ notFilled s
+  module _ (i left : ℕ) (e : contentsEnd s + sumBelow i (bodyLength s) + left ≡ length s) where
+    pub filled-over : i < sections s → left < bodyLength s i → true ≡ notFilled s
     filled-over h k =
-        let n = sum-next i (lengthAt s) in
-        let p = sum-part (lengthAt s) (i + 1) (sections s) (omega arith) in
-        rw (ne-eqb (contentsEnd s + sumBelow (sections s) (lengthAt s)) (length s) (λ w. absurd (omega arith)))
+        let n = sum-next i (bodyLength s) in
+        let p = sum-part (bodyLength s) (i + 1) (sections s) (omega arith) in
+        rw (ne-eqb (contentsEnd s + sumBelow (sections s) (bodyLength s)) (length s) (λ w. absurd (omega arith)))
 
-    pub filled-next : lengthAt s i ≤ left → contentsEnd s + sumBelow (i + 1) (lengthAt s) + (left - lengthAt s i) ≡ length s
-    filled-next k = let n = sum-next i (lengthAt s) in omega arith
+    pub filled-next : bodyLength s i ≤ left → contentsEnd s + sumBelow (i + 1) (bodyLength s) + (left - bodyLength s i) ≡ length s
+    filled-next k = let n = sum-next i (bodyLength s) in omega arith
 
     -- all are taken off: what is left tells
     pub filled-end : i ≤ sections s → sections s ≤ i → not (eqb left 0) ≡ notFilled s
@@ -45,5 +45,5 @@ module _ (s : List ℕ) where
         let q : i ≡ sections s = omega arith in
         let r = rw q at e in
         on-eq left 0
-        (λ z. rw (eq-eqb left 0 z, eq-eqb (contentsEnd s + sumBelow (sections s) (lengthAt s)) (length s) (omega arith)))
-        (λ z. rw (ne-eqb left 0 z, ne-eqb (contentsEnd s + sumBelow (sections s) (lengthAt s)) (length s) (λ w. absurd (z (omega arith)))))
+        (λ z. rw (eq-eqb left 0 z, eq-eqb (contentsEnd s + sumBelow (sections s) (bodyLength s)) (length s) (omega arith)))
+        (λ z. rw (ne-eqb left 0 z, ne-eqb (contentsEnd s + sumBelow (sections s) (bodyLength s)) (length s) (λ w. absurd (z (omega arith)))))

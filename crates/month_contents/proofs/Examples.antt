@@ -2,7 +2,7 @@
 use mathlib.Core.Path.{refl}
 use Rattle.month_contents.specs.Below.{someBelow, firstBelow, sumBelow}
 use Rattle.month_contents.specs.Contents.{contentsWrong, sectionOf}
-use Rattle.month_contents.specs.Written.{entry, listing}
+use Rattle.month_contents.specs.Written.{entry, twoSections}
 use Rattle.month_contents.specs.Examples.{three, ContentsExamples, LaidMet}
 use Rattle.month_contents.proofs.Laid.{end-to-end}
 
@@ -41,4 +41,4 @@ contents-examples =
     }
 
 pub laid-met : LaidMet
-laid-met = end-to-end (listing (entry 1 28 2) (entry 2 30 1) three) (contents-examples .in-order)
+laid-met = end-to-end (twoSections (entry 1 28 2) (entry 2 30 1) three) (contents-examples .in-order)

@@ -12,7 +12,7 @@ use lib.Dec.{leb, ltb}
 use borrow.Author.Tests.{ltb-true, leb-true, le-leb, lt-leb, lt-ltb}
 use Rattle.base_choice.proofs.Branches.{on-lt}
 use Rattle.month_contents.specs.Below.{sumBelow, countBelow}
-use Rattle.month_contents.specs.Contents.{sections, kindAt, startAt, lengthAt, stopAt, contentsEnd}
+use Rattle.month_contents.specs.Contents.{sections, kindAt, startAt, bodyLength, stopAt, contentsEnd}
 use Rattle.month_contents.specs.Statements.{holds, Laid, EndToEnd, NothingElseWrong}
 use Rattle.month_contents.proofs.Below.{sum-same, sum-swap, sum-tight, count-none, count-once, count-two, count-range}
 use Rattle.month_contents.proofs.Refusals.{Passed, passed, not-wrong}
@@ -43,13 +43,13 @@ module _ (s : List ℕ) (p i : ℕ) where
 
 -- the places that the bodies hold are as many as their lengths add up to
 module _ (s : List ℕ) (inside : (i : ℕ) → i < sections s → stopAt s i ≤ length s) where
-  one-body : (i : ℕ) → i < sections s → sumBelow (length s) (λ p. cond (holds s p i) 1 0) ≡ lengthAt s i
+  one-body : (i : ℕ) → i < sections s → sumBelow (length s) (λ p. cond (holds s p i) 1 0) ≡ bodyLength s i
   one-body i h = let e = count-range (startAt s i) (stopAt s i) (length s) (omega arith) in omega (arith, inside i h)
 
-  places-held : sumBelow (length s) (λ p. countBelow (sections s) (holds s p)) ≡ sumBelow (sections s) (lengthAt s)
+  places-held : sumBelow (length s) (λ p. countBelow (sections s) (holds s p)) ≡ sumBelow (sections s) (bodyLength s)
   places-held =
       sum-swap (λ p i. cond (holds s p i) 1 0) (length s) (sections s)
-      ∙ sum-same (λ i. sumBelow (length s) (λ p. cond (holds s p i) 1 0)) (lengthAt s) (sections s) one-body
+      ∙ sum-same (λ i. sumBelow (length s) (λ p. cond (holds s p i) 1 0)) (bodyLength s) (sections s) one-body
 
 -- one for each place of the file past the contents
 abbrev past : List ℕ → ℕ → ℕ
@@ -138,7 +138,7 @@ module _ (s : List ℕ) (l : Laid s) where
       (λ k. rw (lt-leb (contentsEnd s) q k) (count-none (holds s q) (sections s) (λ i m. not-held s q i (omega (arith, l .after-contents i m)))))
       (λ k. rw (le-leb (contentsEnd s) q k, lt-ltb q (length s) h) (l .filled q k h))
 
-  lengths-fill : contentsEnd s + sumBelow (sections s) (lengthAt s) ≡ length s
+  lengths-fill : contentsEnd s + sumBelow (sections s) (bodyLength s) ≡ length s
   lengths-fill =
       let all = places-held s (l .inside) in
       let same = sum-same (λ q. countBelow (sections s) (holds s q)) (past s) (length s) held-is-past in

@@ -8,7 +8,7 @@ use lib.ListN.{length}
 use lib.Dec.{ltb}
 use borrow.Author.Tests.{lt-ltb, le-ltb, ltb-false, eqb-true, eq-eqb, not-false}
 use Rattle.month_contents.specs.Below.{someBelow, sumBelow}
-use Rattle.month_contents.specs.Contents.{mostFile, sections, lengthAt, contentsEnd, kindWrong, bodyWrong, notFilled, contentsWrong}
+use Rattle.month_contents.specs.Contents.{mostFile, sections, bodyLength, contentsEnd, kindWrong, bodyWrong, notFilled, contentsWrong}
 use Rattle.month_contents.proofs.Below.{neither-l, neither-r, some-each, each-some}
 
 module _ (s : List ℕ) where
@@ -37,7 +37,7 @@ pub record Passed (s : List ℕ) : Type 0 where
   pub held : contentsEnd s ≤ length s
   pub kinds : (i : ℕ) → i < sections s → kindWrong s i ≡ false
   pub bodies : (i : ℕ) → i < sections s → bodyWrong s i ≡ false
-  pub full : contentsEnd s + sumBelow (sections s) (lengthAt s) ≡ length s
+  pub full : contentsEnd s + sumBelow (sections s) (bodyLength s) ≡ length s
 
 pub passed : (s : List ℕ) → contentsWrong s ≡ false → Passed s
 unfolding contentsWrong

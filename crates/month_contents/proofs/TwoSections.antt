@@ -13,7 +13,7 @@ use borrow.Author.Tests.{ltb-true, eqb-true, eq-eqb, ne-eqb}
 use Rattle.base_choice.proofs.Branches.{on-lt, on-eq}
 use Rattle.base_bytes.specs.declared.Part.{Part}
 use Rattle.month_contents.specs.Below.{sumBelow}
-use Rattle.month_contents.specs.Contents.{mostFile, isKnown, sections, kindAt, startAt, lengthAt, kindWrong, bodyWrong, ofKind, placeOf, contentsWrong, sectionOf}
+use Rattle.month_contents.specs.Contents.{mostFile, isKnown, sections, kindAt, startAt, bodyLength, kindWrong, bodyWrong, ofKind, sectionPlace, contentsWrong, sectionOf}
 use Rattle.month_contents.specs.declared.Section.the-variants.{Body, Missing}
 use Rattle.month_contents.proofs.Below.{some-none, some-next, first-passes}
 use Rattle.month_contents.proofs.Ends.{section-hit}
@@ -24,7 +24,7 @@ use Rattle.month_contents.proofs.Entries.{kind-known, kind-new, kind-ri
 pub record Entry (s : List ℕ) (i kind : ℕ) (part : Part) : Type 0 where
   pub kind-is : kindAt s i ≡ kind
   pub start-is : startAt s i ≡ part .start
-  pub length-is : lengthAt s i ≡ part .len
+  pub length-is : bodyLength s i ≡ part .len
 
 -- two sections are listed, in this order
 pub record Lists (s : List ℕ) (kind : ℕ) (part : Part) (kind′ : ℕ) (part′ : Part) : Type 0 where
@@ -44,17 +44,17 @@ pub record TwoSections (s : List ℕ) (a b : Part) : Type 0 where
   pub laid : Chain s a b ⊎ Chain s b a
 
 -- the section that is found is the body of some entry of its kind
-found-case : (s : List ℕ) (kind : ℕ) (part : Part) (c : Bool) → ltb (placeOf s kind) (sections s) ≡ c
-    → cond c (Body (record { start = startAt s (placeOf s kind); len = lengthAt s (placeOf s kind) })) Missing ≡ Body part
-    → (placeOf s kind < sections s) × Entry s (placeOf s kind) kind part
+found-case : (s : List ℕ) (kind : ℕ) (part : Part) (c : Bool) → ltb (sectionPlace s kind) (sections s) ≡ c
+    → cond c (Body (record { start = startAt s (sectionPlace s kind); len = bodyLength s (sectionPlace s kind) })) Missing ≡ Body part
+    → (sectionPlace s kind < sections s) × Entry s (sectionPlace s kind) kind part
 found-case s kind part true e q =
-    let h = ltb-true (placeOf s kind) (sections s) e in
-    (h, record { kind-is = eqb-true (kindAt s (placeOf s kind)) kind (first-passes (sections s) (ofKind s kind) h); start-is = cc; length-is = cc })
+    let h = ltb-true (sectionPlace s kind) (sections s) e in
+    (h, record { kind-is = eqb-true (kindAt s (sectionPlace s kind)) kind (first-passes (sections s) (ofKind s kind) h); start-is = cc; length-is = cc })
 found-case s kind part false e q = let z : _≡_ {A = ℕ} 0 1 = cc in absurd (omega arith)
 
-pub section-found : (s : List ℕ) (kind : ℕ) (part : Part) → sectionOf s kind ≡ Body part → (placeOf s kind < sections s) × Entry s (placeOf s kind) kind part
+pub section-found : (s : List ℕ) (kind : ℕ) (part : Part) → sectionOf s kind ≡ Body part → (sectionPlace s kind < sections s) × Entry s (sectionPlace s kind) kind part
 unfolding sectionOf
-section-found s kind part e = found-case s kind part (ltb (placeOf s kind) (sections s)) refl e
+section-found s kind part e = found-case s kind part (ltb (sectionPlace s kind) (sections s)) refl e
 
 -- the known kinds are the numbers 1 and 2
 known-is : (kind : ℕ) → isKnown kind ≡ true → (1 ≤ kind) × (kind ≤ 2)
@@ -79,7 +79,7 @@ at-most-two s p =
 
 -- the two bodies fill the file
 module _ (s : List ℕ) (p : Passed s) (kind : ℕ) (part : Part) (kind′ : ℕ) (part′ : Part) (l : Lists s kind part kind′ part′) where
-  lengths : 28 + lengthAt s 0 + lengthAt s 1 ≡ length s
+  lengths : 28 + bodyLength s 0 + bodyLength s 1 ≡ length s
   unfolding sumBelow
   lengths = let f = rw (l .two) at (p .full) in omega arith
 
@@ -113,15 +113,15 @@ two-sections s a b e f g =
     let hj = j .0 in
     let ki = i .1 .kind-is in
     let kj = j .1 .kind-is in
-    on-lt (placeOf s 1) (placeOf s 2)
+    on-lt (sectionPlace s 1) (sectionPlace s 2)
     (λ h.
-    let l : Lists s 1 a 2 b = record { two = omega arith; entry-0 = entry-as s (placeOf s 1) 0 1 a (omega arith) (i .1); entry-1 = entry-as s (placeOf s 2) 1 2 b (omega arith) (j .1) } in
+    let l : Lists s 1 a 2 b = record { two = omega arith; entry-0 = entry-as s (sectionPlace s 1) 0 1 a (omega arith) (i .1); entry-1 = entry-as s (sectionPlace s 2) 1 2 b (omega arith) (j .1) } in
     record { listed = inl l; laid = chained s p 1 a 2 b l })
-    (λ h. on-lt (placeOf s 2) (placeOf s 1)
+    (λ h. on-lt (sectionPlace s 2) (sectionPlace s 1)
     (λ k.
-    let l : Lists s 2 b 1 a = record { two = omega arith; entry-0 = entry-as s (placeOf s 2) 0 2 b (omega arith) (j .1); entry-1 = entry-as s (placeOf s 1) 1 1 a (omega arith) (i .1) } in
+    let l : Lists s 2 b 1 a = record { two = omega arith; entry-0 = entry-as s (sectionPlace s 2) 0 2 b (omega arith) (j .1); entry-1 = entry-as s (sectionPlace s 1) 1 1 a (omega arith) (i .1) } in
     record { listed = inr l; laid = ⊎-swap (chained s p 2 b 1 a l) })
-    (λ k. let same : placeOf s 1 ≡ placeOf s 2 = omega arith in absurd (omega (arith, ap (kindAt s) same))))
+    (λ k. let same : sectionPlace s 1 ≡ sectionPlace s 2 = omega arith in absurd (omega (arith, ap (kindAt s) same))))
 
 -- the other way round: contents with these numbers are not wrong, and both sections are found
 module _ (s : List ℕ) (kind : ℕ) (part : Part) (kind′ : ℕ) (part′ : Part) (l : Lists s kind part kind′ part′) where

@@ -37,12 +37,12 @@ kindAt s i = fourAt s (entryAt i)
 abbrev pub startAt : List ℕ → ℕ → ℕ
 startAt s i = fourAt s (entryAt i + 4)
 
-abbrev pub lengthAt : List ℕ → ℕ → ℕ
-lengthAt s i = fourAt s (entryAt i + 8)
+abbrev pub bodyLength : List ℕ → ℕ → ℕ
+bodyLength s i = fourAt s (entryAt i + 8)
 
 -- "A start plus a length .. does not wrap" (decision B43)
 abbrev pub stopAt : List ℕ → ℕ → ℕ
-stopAt s i = startAt s i + lengthAt s i
+stopAt s i = startAt s i + bodyLength s i
 
 -- "from the end of the contents"
 abbrev pub contentsEnd : List ℕ → ℕ
@@ -74,7 +74,7 @@ bodyWrong s i =
 -- "there is a gap, or bytes are left over": bodies that lie inside and do not overlap fill the file exactly where
 -- their lengths do (decision B43)
 abbrev pub notFilled : List ℕ → Bool
-notFilled s = not (eqb (contentsEnd s + sumBelow (sections s) (lengthAt s)) (length s))
+notFilled s = not (eqb (contentsEnd s + sumBelow (sections s) (bodyLength s)) (length s))
 
 -- sections may lie in any order; a file that is too long or too short is wrong here too (decisions B43, B44)
 unfoldable pub contentsWrong : List ℕ → Bool
@@ -90,11 +90,11 @@ contentsWrong s =
 abbrev pub ofKind : List ℕ → ℕ → ℕ → Bool
 ofKind s kind i = eqb (kindAt s i) kind
 
-abbrev pub placeOf : List ℕ → ℕ → ℕ
-placeOf s kind = firstBelow (sections s) (ofKind s kind)
+abbrev pub sectionPlace : List ℕ → ℕ → ℕ
+sectionPlace s kind = firstBelow (sections s) (ofKind s kind)
 
 unfoldable pub sectionOf : List ℕ → ℕ → Section
 sectionOf s kind =
-    cond (ltb (placeOf s kind) (sections s))
-    (Body (record { start = startAt s (placeOf s kind); len = lengthAt s (placeOf s kind) }))
+    cond (ltb (sectionPlace s kind) (sections s))
+    (Body (record { start = startAt s (sectionPlace s kind); len = bodyLength s (sectionPlace s kind) }))
     Missing

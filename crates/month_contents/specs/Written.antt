@@ -7,5 +7,5 @@ abbrev pub entry : ℕ → ℕ → ℕ → List ℕ
 entry kind start len = fourBytes kind ++ fourBytes start ++ fourBytes len
 
 -- two sections listed, and the bodies
-abbrev pub listing : List ℕ → List ℕ → List ℕ → List ℕ
-listing first second bodies = fourBytes 2 ++ first ++ second ++ bodies
+abbrev pub twoSections : List ℕ → List ℕ → List ℕ → List ℕ
+twoSections first second bodies = fourBytes 2 ++ first ++ second ++ bodies

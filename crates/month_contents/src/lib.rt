@@ -4,7 +4,7 @@ use base_bytes::Part;
 use base_bytes::read_four;
 ghost use mathlib.Core.Path.{_≡_};
 ghost use Rattle.month_contents.specs.Below.{someBelow};
-ghost use Rattle.month_contents.specs.Contents.{isKnown, sections, entryAt, kindAt, startAt, lengthAt, stopAt, contentsEnd, sameKind, kindWrong, apart, overlap, bodyWrong, notFilled, contentsWrong, sectionOf};
+ghost use Rattle.month_contents.specs.Contents.{isKnown, sections, entryAt, kindAt, startAt, bodyLength, stopAt, contentsEnd, sameKind, kindWrong, apart, overlap, bodyWrong, notFilled, contentsWrong, sectionOf};
 
 // The most bytes of a file.
 pub const MOST_FILE: usize = 65536;
@@ -62,7 +62,7 @@ fn start_at(s: &[u8], i: u32) -> usize
 }
 
 fn length_at(s: &[u8], i: u32) -> usize
-    ensures { λ r. ⌜ r ≡ lengthAt (now (s .entry)) i ⌝ }
+    ensures { λ r. ⌜ r ≡ bodyLength (now (s .entry)) i ⌝ }
 {
     let at = entry_at(i) + 8;
     let length = read_four(s, at);

@@ -20,7 +20,7 @@ use Rattle.rule_run.specs.Runs.{isTick}
 use Rattle.month_tally.specs.Lines.{restLine, minutesLength, sameAid, aidsIn, lineOf, noNames, noted, minuteOn}
 use Rattle.month_tally.specs.declared.Names.{Names}
 use Rattle.month_count.specs.Month.{Counted, atFirst, counted, counting}
-use Rattle.month_count.specs.Statements.{monthFrom, figure, reached, enabledIn, isAmong, WhatALineSays}
+use Rattle.month_count.specs.Statements.{monthFrom, figure, cardsReached, enabledIn, isAmongAids, WhatALineSays}
 use Rattle.month_count.proofs.Splits.{figure-none, figure-next, figure-same}
 use Rattle.month_tally.proofs.Noting.{lines-most, line-most}
 use Rattle.month_tally.specs.Statements.{notedAll}
@@ -109,7 +109,7 @@ figures c (call ∷ calls) k i kept =
 
 -- the lines are those of the AIDs enabled, one after the other
 names-from : (c : Card) (calls : List Call) (k : Counted) (n : Names) → k .tally .names ≡ noted n (enabledAid c) → counting c calls k .tally .names ≡ notedAll n (enabledIn c calls)
-unfolding counting notedAll reached
+unfolding counting notedAll cardsReached
 names-from c [] k n e = e
 names-from c (call ∷ calls) k n e =
     names-from (step c call .card) calls (counted c call k) (noted n (enabledAid c)) (ap (λ (m : Names). noted m (enabledAid (step c call .card))) e)
@@ -127,5 +127,5 @@ what-a-line-says c calls =
       aids = ap aidsIn names ∙ lines-in-order .first-64 (enabledIn c calls);
       more = ap (λ (n : Names). n .more) names ∙ lines-in-order .rest-from-65 (enabledIn c calls);
       line = λ i h. told i (omega (arith, lines-most end (fit .size))) ∙ figure-same c calls (has end i) (sameAid (getD (aidsIn end) i noAid)) (λ a. line-is end i a fit h);
-      rest = told restLine (omega arith) ∙ figure-same c calls (has end restLine) (λ a. not (isAmong a (aidsIn end))) (λ a. rest-is end a fit);
+      rest = told restLine (omega arith) ∙ figure-same c calls (has end restLine) (λ a. not (isAmongAids a (aidsIn end))) (λ a. rest-is end a fit);
     }

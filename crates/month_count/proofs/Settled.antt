@@ -16,7 +16,7 @@ use Rattle.month_tally.specs.Lines.{mostLines, restLine, sameAid, seekAid, aids
 use Rattle.month_tally.specs.declared.Names.{Names}
 use Rattle.month_tally.proofs.Seeking.{seek-kept, seek-last}
 use Rattle.month_tally.proofs.Noting.{lines-most, withLine, by-noting, aids-new}
-use Rattle.month_count.specs.Statements.{isAmong}
+use Rattle.month_count.specs.Statements.{isAmongAids}
 
 -- one that is not found is found where it is put, behind the others
 added-case : (t : Bool) (n m l : ℕ) → suc l ≤ cond t 0 (suc n) → (l ≤ n → l ≤ m) → suc l ≤ cond t 0 (suc m)
@@ -49,10 +49,10 @@ among-case true n m b e = lt-ltb 0 (suc m) (omega arith)
 among-case false n m true e = let h = ltb-true n m e in lt-ltb (suc n) (suc m) (omega arith)
 among-case false n m false e = let h = ltb-false n m e in le-ltb (suc n) (suc m) (omega arith)
 
-seek-among : (a : Aid) (l : List Aid) → ltb (seekAid a l) (length l) ≡ isAmong a l
-unfolding seekAid isAmong
+seek-among : (a : Aid) (l : List Aid) → ltb (seekAid a l) (length l) ≡ isAmongAids a l
+unfolding seekAid isAmongAids
 seek-among a [] = refl
-seek-among a (x ∷ xs) = among-case (sameAid x a) (seekAid a xs) (length xs) (isAmong a xs) (seek-among a xs)
+seek-among a (x ∷ xs) = among-case (sameAid x a) (seekAid a xs) (length xs) (isAmongAids a xs) (seek-among a xs)
 
 -- as many AIDs as there are lines, and each line is found at its own place
 abbrev Own : List Aid → Type 0
@@ -176,5 +176,5 @@ rest-is-case : (xs : List Aid) (a : Aid) (b : Bool) → length xs ≤ mostLines 
 rest-is-case xs a true m e = let k = ltb-true (seekAid a xs) (length xs) e in ne-eqb (seekAid a xs) restLine (λ q. absurd (omega arith))
 rest-is-case xs a false m e = refl
 
-pub rest-is : (n : Names) (a : Aid) → Fit n → eqb (lineOf n a) restLine ≡ not (isAmong a (aidsIn n))
+pub rest-is : (n : Names) (a : Aid) → Fit n → eqb (lineOf n a) restLine ≡ not (isAmongAids a (aidsIn n))
 rest-is n a fit = rest-is-case (aidsIn n) a (hasLine n a) (lines-most n (fit .size)) refl ∙ ap not (seek-among a (aidsIn n))

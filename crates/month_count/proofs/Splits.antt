@@ -12,7 +12,7 @@ use Rattle.card_record.specs.declared.Card.{Card}
 use Rattle.rule_run.specs.Calls.{Call}
 use Rattle.rule_run.specs.Step.{step, run}
 use Rattle.rule_run.specs.Runs.{isTick}
-use Rattle.month_count.specs.Statements.{howMany, Split, joined, behind, splits, EverySplit, countsFor, figure, reached, EveryCard}
+use Rattle.month_count.specs.Statements.{howMany, Split, wholeSplit, behind, splits, EverySplit, countsFor, figure, cardsReached, EveryCard}
 
 as-many : (calls : List Call) → length (splits calls) ≡ length calls
 unfolding splits
@@ -28,12 +28,12 @@ map-at call (s ∷ l) (suc i) none h = map-at call l i none (omega arith)
 place : (calls : List Call) (i : ℕ) → suc i < suc (length calls) → i < length (splits calls)
 place calls i h = let e = as-many calls in omega arith
 
-joins : (calls : List Call) (i : ℕ) (none : Split) → i < length calls → joined (getD (splits calls) i none) ≡ calls
+joins : (calls : List Call) (i : ℕ) (none : Split) → i < length calls → wholeSplit (getD (splits calls) i none) ≡ calls
 unfolding splits
 joins [] i none h = absurd (omega arith)
 joins (call ∷ calls) zero none h = refl
 joins (call ∷ calls) (suc i) none h =
-    ap joined (map-at call (splits calls) i none (place calls i h)) ∙ ap (λ (l : List Call). call ∷ l) (joins calls i none (omega arith))
+    ap wholeSplit (map-at call (splits calls) i none (place calls i h)) ∙ ap (λ (l : List Call). call ∷ l) (joins calls i none (omega arith))
 
 once : (calls : List Call) (i : ℕ) (none : Split) → i < length calls → length (getD (splits calls) i none .before) ≡ i
 unfolding splits
@@ -64,18 +64,18 @@ every-split =
     }
 
 -- the cards reached
-cards-as-many : (c : Card) (calls : List Call) → length (reached c calls) ≡ length calls + 1
-unfolding reached
+cards-as-many : (c : Card) (calls : List Call) → length (cardsReached c calls) ≡ length calls + 1
+unfolding cardsReached
 cards-as-many c [] = refl
 cards-as-many c (call ∷ calls) = let e = cards-as-many (step c call .card) calls in omega arith
 
-cards-first : (c none : Card) (calls : List Call) → getD (reached c calls) 0 none ≡ c
-unfolding reached
+cards-first : (c none : Card) (calls : List Call) → getD (cardsReached c calls) 0 none ≡ c
+unfolding cardsReached
 cards-first c none [] = refl
 cards-first c none (call ∷ calls) = refl
 
-cards-all : (c none : Card) (before after : List Call) → getD (reached c (before ++ after)) (length before) none ≡ run c before
-unfolding reached run
+cards-all : (c none : Card) (before after : List Call) → getD (cardsReached c (before ++ after)) (length before) none ≡ run c before
+unfolding cardsReached run
 cards-all c none [] after = cards-first c none after
 cards-all c none (call ∷ before) after = cards-all (step c call .card) none before after
 

@@ -13,9 +13,9 @@ use Rattle.card_isdp.specs.declared.Isdp.{Isdp}
 use Rattle.card_places.specs.Places.{at}
 use Rattle.card_record.specs.Cards.{enabledPlace, enabledAid}
 use Rattle.card_record.specs.Sound.{sound}
-use Rattle.card_record.specs.Noticed.{JustOpened, silently, told}
+use Rattle.card_record.specs.Noticed.{JustOpened, silently, announced}
 use Rattle.card_record.specs.Notifications.{codeOf}
-use Rattle.card_record.specs.Answers.{Outcome, handed}
+use Rattle.card_record.specs.Answers.{Outcome, asAnswer}
 use Rattle.card_record.specs.declared.Answer.{Answer}
 use Rattle.card_record.specs.declared.Card.{Card}
 use Rattle.card_record.specs.declared.Notification.{Notification}
@@ -40,7 +40,7 @@ use Rattle.month_tally.proofs.Noting.{line-most, noted-full, noted-twice}
 use Rattle.month_tally.proofs.Minutes.{minute-more, minute-most, minute-length, no-minutes}
 use Rattle.month_tally.specs.declared.Names.{Names}
 use Rattle.month_count.specs.Month.{Counted, atFirst, counted, counting}
-use Rattle.month_count.specs.Loop.{Countable, Line}
+use Rattle.month_count.specs.Loop.{Countable, MinutesLine}
 
 -- the enabled profile after a call
 opened-code : (p : Phase) (n : Notification) → JustOpened p n → codeOf (n .kind) ≡ 0 → ⊥
@@ -51,11 +51,11 @@ opened-code (Fallen left number) n o e = let k = ap codeOf (o .its-kind) in omeg
 
 unnamed-case : (c : Card) (o : Outcome) → Notified c o → codeOf (o .notification .kind) ≡ 0 → enabledAid (o .card) ≡ enabledAid c
 unnamed-case c o (silently x) e = x .same-profile
-unnamed-case c o (told x) e = absurd (opened-code (o .card .phase) (o .notification) (x .phase) e)
+unnamed-case c o (announced x) e = absurd (opened-code (o .card .phase) (o .notification) (x .phase) e)
 
 named-case : (c : Card) (o : Outcome) → Notified c o → (codeOf (o .notification .kind) ≡ 0 → ⊥) → enabledAid (o .card) ≡ o .notification .aid
 named-case c o (silently x) n = absurd (n (ap (λ (k : Notification). codeOf (k .kind)) (x .none)))
-named-case c o (told x) n = sym (x .profile)
+named-case c o (announced x) n = sym (x .profile)
 
 -- what was counted so far
 abbrev pub soFar : Names → ℕ → ℕ → ℕ → List ℕ → Counted
@@ -131,14 +131,14 @@ tick-alike b s m n (code.Stored aid k) = refl
 tick-alike b s m n (code.Finished aid policy mark) = refl
 tick-alike b s m n code.Tick = refl
 tick-alike b s m n code.Lost = refl
-tick-alike b s m n (code.Policy speaker bytes) = refl
+tick-alike b s m n (code.PolicyUpdate speaker bytes) = refl
 
 module _ {first : Card} {b minutes : List ℕ} {names : Names} {line : ℕ} {c : Card} {ticks events refused at : ℕ} (st : Stands first b minutes names line c ticks events refused at) where
   line-within : line ≤ restLine
   line-within = rw (st .known .own) (line-most names (st .known .full) (enabledAid c))
 
   -- a minute has room
-  pub line-room : length b ≤ mostFile → Line line minutes
+  pub line-room : length b ≤ mostFile → MinutesLine line minutes
   line-room h =
       record {
         within = line-within;
@@ -164,12 +164,12 @@ module _ {first : Card} {b minutes : List ℕ} {names : Names} {line : ℕ} {c :
     abbrev this : Call
     this = callOfEvent (t .event)
 
-    answered : r ≡ handed (step c this)
+    answered : r ≡ asAnswer (step c this)
     answered =
         served .0 .answer
-        ∙ ap (λ (n : ℕ). handed (onSound c (callOf b n call))) size
-        ∙ ap (λ (x : Call). handed (onSound c x)) (t .asks)
-        ∙ ap handed (on-sound-agrees c this (st .sound-card))
+        ∙ ap (λ (n : ℕ). asAnswer (onSound c (callOf b n call))) size
+        ∙ ap (λ (x : Call). asAnswer (onSound c x)) (t .asks)
+        ∙ ap asAnswer (on-sound-agrees c this (st .sound-card))
 
     same-tick : isTick (callOf [] 0 call) ≡ isTick this
     same-tick = tick-alike [] b 0 leastBuffer call ∙ ap isTick (t .asks)

@@ -20,6 +20,6 @@ pub record Countable (c : Card) (b : List ℕ) (minutes : List ℕ) : Type 0 whe
   pub clear : minutes ≡ noMinutes
 
 -- a line that there are minutes for, with room for one more
-pub record Line (line : ℕ) (minutes : List ℕ) : Type 0 where
+pub record MinutesLine (line : ℕ) (minutes : List ℕ) : Type 0 where
   pub within : line ≤ restLine
   pub low : getD minutes line 0 < 4294967295

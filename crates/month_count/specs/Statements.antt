@@ -35,19 +35,19 @@ monthFrom c calls = counting c calls (atFirst c)
 abbrev pub linesIn : Counted → List Aid
 linesIn k = aidsIn (k .tally .names)
 
-abbrev pub minutesOf : Counted → List ℕ
-minutesOf k = take (length (linesIn k)) (k .minutes)
+abbrev pub lineMinutes : Counted → List ℕ
+lineMinutes k = take (length (linesIn k)) (k .minutes)
 
-abbrev pub restOf : Counted → ℕ
-restOf k = getD (k .minutes) restLine 0
+abbrev pub restMinutes : Counted → ℕ
+restMinutes k = getD (k .minutes) restLine 0
 
 -- the figure of the rest is told only where there is a 65th AID
 abbrev pub restTold : Counted → ℕ
-restTold k = cond (k .tally .names .more) (restOf k) 0
+restTold k = cond (k .tally .names .more) (restMinutes k) 0
 
 -- "all ticks": the lines and the rest add up to the ticks among the calls, and so many are told
 pub record AddsUp (calls : List Call) (k : Counted) : Type 0 where
-  pub lines : minutesIn (minutesOf k) + restTold k ≡ ticksAmong calls
+  pub lines : minutesIn (lineMinutes k) + restTold k ≡ ticksAmong calls
   pub ticks : k .tally .ticks ≡ ticksAmong calls
 
 abbrev pub TicksAddUp : Type 0
@@ -71,8 +71,8 @@ pub record Split : Type 0 where
   pub this : Call
   pub after : List Call
 
-abbrev pub joined : Split → List Call
-joined s = s .before ++ s .this ∷ s .after
+abbrev pub wholeSplit : Split → List Call
+wholeSplit s = s .before ++ s .this ∷ s .after
 
 -- the same with one call more in front
 abbrev pub behind : Call → Split → Split
@@ -85,9 +85,9 @@ splits (call ∷ calls) = record { before = []; this = call; after = calls } ∷
 -- each joins to the calls, and the one at place i has i calls before; every way to write the calls so stands there
 pub record EverySplit : Type 0 where
   pub as-many : (calls : List Call) → length (splits calls) ≡ length calls
-  pub joins : (calls : List Call) (i : ℕ) (none : Split) → i < length calls → joined (getD (splits calls) i none) ≡ calls
+  pub joins : (calls : List Call) (i : ℕ) (none : Split) → i < length calls → wholeSplit (getD (splits calls) i none) ≡ calls
   pub once : (calls : List Call) (i : ℕ) (none : Split) → i < length calls → length (getD (splits calls) i none .before) ≡ i
-  pub all : (s none : Split) → getD (splits (joined s)) (length (s .before)) none ≡ s
+  pub all : (s none : Split) → getD (splits (wholeSplit s)) (length (s .before)) none ≡ s
 
 -- the figure of the AIDs that meet a test: the ways to write the calls as before, a tick, after, in which the profile enabled on the card that
 -- `before` leads to bears such an AID
@@ -98,22 +98,22 @@ abbrev pub figure : Card → List Call → (Aid → Bool) → ℕ
 figure c calls test = howMany (countsFor c test) (splits calls)
 
 -- the cards reached, at first and after each call: those that every beginning of the calls leads to
-unfoldable pub reached : Card → List Call → List Card
-reached c [] = c ∷ []
-reached c (call ∷ calls) = c ∷ reached (step c call .card) calls
+unfoldable pub cardsReached : Card → List Call → List Card
+cardsReached c [] = c ∷ []
+cardsReached c (call ∷ calls) = c ∷ cardsReached (step c call .card) calls
 
 pub record EveryCard : Type 0 where
-  pub as-many : (c : Card) (calls : List Call) → length (reached c calls) ≡ length calls + 1
-  pub all : (c none : Card) (before after : List Call) → getD (reached c (before ++ after)) (length before) none ≡ run c before
+  pub as-many : (c : Card) (calls : List Call) → length (cardsReached c calls) ≡ length calls + 1
+  pub all : (c none : Card) (before after : List Call) → getD (cardsReached c (before ++ after)) (length before) none ≡ run c before
 
 -- the AIDs enabled on them, one after the other
 abbrev pub enabledIn : Card → List Call → List Aid
-enabledIn c calls = map enabledAid (reached c calls)
+enabledIn c calls = map enabledAid (cardsReached c calls)
 
 -- an AID is the same as one of a list
-unfoldable pub isAmong : Aid → List Aid → Bool
-isAmong a [] = false
-isAmong a (x ∷ xs) = sameAid x a || isAmong a xs
+unfoldable pub isAmongAids : Aid → List Aid → Bool
+isAmongAids a [] = false
+isAmongAids a (x ∷ xs) = sameAid x a || isAmongAids a xs
 
 -- "There is one line for each of the first 64 different AIDs ever enabled, in the order in which each was first enabled"; a line's minutes are
 -- the figure of the AIDs that are the same as its own, and the rest's the figure of those that are on no line
@@ -121,7 +121,7 @@ pub record LinesSay (c : Card) (calls : List Call) (k : Counted) : Type 0 where
   pub aids : linesIn k ≡ take 64 (firsts (enabledIn c calls))
   pub more : k .tally .names .more ≡ ltb 64 (length (firsts (enabledIn c calls)))
   pub line : (i : ℕ) → i < length (linesIn k) → getD (k .minutes) i 0 ≡ figure c calls (sameAid (getD (linesIn k) i noAid))
-  pub rest : restOf k ≡ figure c calls (λ a. not (isAmong a (linesIn k)))
+  pub rest : restMinutes k ≡ figure c calls (λ a. not (isAmongAids a (linesIn k)))
 
 abbrev pub WhatALineSays : Type 0
 WhatALineSays = (c : Card) (calls : List Call) → LinesSay c calls (monthFrom c calls)

@@ -22,7 +22,7 @@ ghost use Rattle.record_door.specs.Door.{callOf};
 ghost use Rattle.month_events.specs.Events.{eventsOf, callsOf};
 ghost use Rattle.month_tally.specs.Lines.{minuteOn};
 ghost use Rattle.month_count.specs.Month.{atFirst, counting, nothing, fileMonth, fileCounted};
-ghost use Rattle.month_count.specs.Loop.{Countable, Line};
+ghost use Rattle.month_count.specs.Loop.{Countable, MinutesLine};
 
 // The verdict on a file and its tally; the minutes stand in lent memory.
 pub struct Month {
@@ -40,13 +40,13 @@ fn is_tick(call: Call) -> bool
         Call::Finished { .. } => false,
         Call::Tick => true,
         Call::Lost => false,
-        Call::Policy { .. } => false,
+        Call::PolicyUpdate { .. } => false,
     }
 }
 
 // The minute of a tick, on the line of the profile that is enabled before it; how many ticks the call is.
 fn time(call: Call, line: usize, minutes: &mut [u32; MINUTES]) -> u32
-    requires { ⌜ Line line (now minutes) ⌝ }
+    requires { ⌜ MinutesLine line (now minutes) ⌝ }
     ensures { λ r. ⌜ (r ≡ cond (isTick (callOf [] 0 call)) 1 0) × (now (minutes .exit) ≡ cond (isTick (callOf [] 0 call)) (minuteOn line (now (minutes .entry))) (now (minutes .entry))) ⌝ }
 {
     if !is_tick(call) {

@@ -18,8 +18,8 @@ use Rattle.rule_run.specs.Calls as manager
 use Rattle.record_door.specs.Door as door
 use Rattle.rule_run.specs.Table.{leastBuffer}
 use Rattle.record_door.specs.declared.Call.{Call}
-use Rattle.month_events.specs.Kinds.{kindOf, isUnknown, speakerSize, lengthWrong, callFor}
-use Rattle.month_events.specs.Events.{Event, headSize, firstStop, firstEvent, eventsWithin, eventsOf, cutWithin, cutShort, someEvent, ofUnknownKind, ofWrongLength, kindUnknown, wrongLength, checkedOf, callOfEvent, callIn, stopOf, nextOf}
+use Rattle.month_events.specs.Kinds.{kindOf, isUnknown, speakerSize, eventLengthWrong, callFor}
+use Rattle.month_events.specs.Events.{Event, headSize, firstStop, firstEvent, eventsWithin, eventsOf, cutWithin, cutShort, someEvent, ofUnknownKind, ofWrongLength, kindUnknown, wrongLength, checkedOf, callOfEvent, callOver, stopOf, nextEvent}
 use Rattle.month_events.specs.declared.Kind.{Kind}
 use Rattle.month_events.specs.declared.Kind.the-variants as kind
 use Rattle.month_events.specs.declared.Checked.{Checked}
@@ -169,7 +169,7 @@ module _ (b : List ℕ) (from n : ℕ) where
       omega (arith, length-take n (drop from b))
 
   -- the call over the body is the call of the event's bytes, where these are neither too few nor too many
-  call-in : (k : Kind) → lengthWrong k (take n (drop from b)) ≡ false → door.callOf b leastBuffer (callIn b k from (from + n)) ≡ callFor k (take n (drop from b))
+  call-in : (k : Kind) → eventLengthWrong k (take n (drop from b)) ≡ false → door.callOf b leastBuffer (callOver b k from (from + n)) ≡ callFor k (take n (drop from b))
   call-in kind.Command e =
       let h = least 1 e in
       rw (byte-first (omega arith), part-in 1 (omega arith))
@@ -224,14 +224,14 @@ module _ (t : Event → Bool) (b : List ℕ) (e : Event) (r : List ℕ) (p : eve
 -- the event at a place, where the body does not end within it
 module _ (b : List ℕ) (at : ℕ) where
   abbrev callAt : Call
-  callAt = callIn b (kindOf (byte b at)) (at + headSize) (stopOf b at)
+  callAt = callOver b (kindOf (byte b at)) (at + headSize) (stopOf b at)
 
-  pub next-is : stopOf b at ≤ length b → nextOf b at ≡ next.Event callAt (stopOf b at)
-  unfolding nextOf
+  pub next-is : stopOf b at ≤ length b → nextEvent b at ≡ next.Event callAt (stopOf b at)
+  unfolding nextEvent
   next-is h = rw (le-ltb (length b) (stopOf b at) h)
 
-  pub next-ends : length b < stopOf b at → nextOf b at ≡ next.End
-  unfolding nextOf
+  pub next-ends : length b < stopOf b at → nextEvent b at ≡ next.End
+  unfolding nextEvent
   next-ends h = rw (lt-ltb (length b) (stopOf b at) h)
 
   turn-at : stopOf b at ≤ length b → RightFrom b at → Turn b at callAt (stopOf b at)
@@ -248,12 +248,12 @@ module _ (b : List ℕ) (at : ℕ) where
         inside = h;
         events = turn-events b at l h;
         asks =
-            ap (λ (k : ℕ). door.callOf b leastBuffer (callIn b (kindOf (byte b at)) (at + headSize) k)) s
+            ap (λ (k : ℕ). door.callOf b leastBuffer (callOver b (kindOf (byte b at)) (at + headSize) k)) s
             ∙ call-in b (at + headSize) n (kindOf (byte b at)) (g .0);
         rest = record { whole = sym (turn-whole b at l h) ∙ f .whole; lengths = g .1 };
       }
 
-pub next-event : (b : List ℕ) (at : ℕ) (call : Call) (stop : ℕ) → RightFrom b at → nextOf b at ≡ next.Event call stop → Turn b at call stop
+pub next-event : (b : List ℕ) (at : ℕ) (call : Call) (stop : ℕ) → RightFrom b at → nextEvent b at ≡ next.Event call stop → Turn b at call stop
 next-event b at call stop f p = on-lt (length b) (stopOf b at)
     (λ h. let q = next-ends b at h in let z : _≡_ {A = ℕ} 0 1 = cc in absurd (omega arith))
     (λ h.
@@ -262,7 +262,7 @@ next-event b at call stop f p = on-lt (length b) (stopOf b at)
     let k : callAt b at ≡ call = cc in
     subst (Turn b at call) s (subst (λ (o : Call). Turn b at o (stopOf b at)) k (turn-at b at h f)))
 
-pub none-left : (b : List ℕ) (at : ℕ) → RightFrom b at → nextOf b at ≡ next.End → eventsOf (drop at b) ≡ []
+pub none-left : (b : List ℕ) (at : ℕ) → RightFrom b at → nextEvent b at ≡ next.End → eventsOf (drop at b) ≡ []
 none-left b at f p = on-lt at (length b)
     (λ l. on-lt (length b) (stopOf b at)
     (λ h. absurd (false≢true (sym (f .whole) ∙ turn-cut b at l h)))
@@ -309,7 +309,7 @@ module _ (b : List ℕ) (at : ℕ) (unknown wrong : Bool) where
 
   pub checked-on : at < length b → stopOf b at ≤ length b
       → checkedFrom b at unknown wrong
-      ≡ checkedFrom b (stopOf b at) (unknown || isUnknown (kindOf (byte b at))) (wrong || lengthWrong (kindOf (byte b at)) (take (stopOf b at - (at + headSize)) (drop (at + headSize) b)))
+      ≡ checkedFrom b (stopOf b at) (unknown || isUnknown (kindOf (byte b at))) (wrong || eventLengthWrong (kindOf (byte b at)) (take (stopOf b at - (at + headSize)) (drop (at + headSize) b)))
   unfolding checkedFrom kindUnknown wrongLength
   checked-on h k =
       let some = some-turn h k in

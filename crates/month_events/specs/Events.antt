@@ -10,7 +10,7 @@ use Rattle.base_choice.specs.Choice.{pick}
 use Rattle.rule_run.specs.Calls as manager
 use Rattle.record_door.specs.declared.Call as declared
 use Rattle.record_door.specs.declared.Call.the-variants as call
-use Rattle.month_events.specs.Kinds.{kindOf, isUnknown, speakerSize, lengthWrong, callFor}
+use Rattle.month_events.specs.Kinds.{kindOf, isUnknown, speakerSize, eventLengthWrong, callFor}
 use Rattle.month_events.specs.declared.Kind.{Kind}
 use Rattle.month_events.specs.declared.Kind.the-variants as kind
 use Rattle.month_events.specs.declared.Checked.{Checked}
@@ -64,7 +64,7 @@ abbrev pub ofUnknownKind : Event → Bool
 ofUnknownKind e = isUnknown (kindOf (e .kind))
 
 abbrev pub ofWrongLength : Event → Bool
-ofWrongLength e = lengthWrong (kindOf (e .kind)) (e .bytes)
+ofWrongLength e = eventLengthWrong (kindOf (e .kind)) (e .bytes)
 
 unfoldable pub kindUnknown : List ℕ → Bool
 kindUnknown b = someEvent ofUnknownKind (eventsOf b)
@@ -85,22 +85,22 @@ callsOf [] = []
 callsOf (e ∷ es) = callOfEvent e ∷ callsOf es
 
 -- the call of an event whose bytes stand from `from` up to `to`, as the code has it: over the body that the event stands in
-abbrev pub callIn : List ℕ → Kind → ℕ → ℕ → declared.Call
-callIn b kind.Command from to = call.Command (byte b from) (between (from + 1) to)
-callIn b kind.Keyed from to = call.Keyed (between from to)
-callIn b kind.Stored from to = call.Stored (between (from + 4) to) (fourAt b from)
-callIn b kind.Finished from to = call.Finished (between (from + 1) to) (byte b from) 1
-callIn b kind.Tick from to = call.Tick
-callIn b kind.Lost from to = call.Lost
-callIn b kind.FinishedWithMark from to = call.Finished (between (from + 2) to) (byte b from) (byte b (from + 1))
-callIn b kind.Policy from to = call.Policy (between (from + 1) (from + speakerSize b from)) (between (from + speakerSize b from) to)
-callIn b kind.Unknown from to = call.Lost
+abbrev pub callOver : List ℕ → Kind → ℕ → ℕ → declared.Call
+callOver b kind.Command from to = call.Command (byte b from) (between (from + 1) to)
+callOver b kind.Keyed from to = call.Keyed (between from to)
+callOver b kind.Stored from to = call.Stored (between (from + 4) to) (fourAt b from)
+callOver b kind.Finished from to = call.Finished (between (from + 1) to) (byte b from) 1
+callOver b kind.Tick from to = call.Tick
+callOver b kind.Lost from to = call.Lost
+callOver b kind.FinishedWithMark from to = call.Finished (between (from + 2) to) (byte b from) (byte b (from + 1))
+callOver b kind.Policy from to = call.PolicyUpdate (between (from + 1) (from + speakerSize b from)) (between (from + speakerSize b from) to)
+callOver b kind.Unknown from to = call.Lost
 
 -- the event at a place; none where the body ends there or within it
 abbrev pub stopOf : List ℕ → ℕ → ℕ
 stopOf b at = at + (headSize + pairAt b (at + 1))
 
-unfoldable pub nextOf : List ℕ → ℕ → Next
-nextOf b at =
+unfoldable pub nextEvent : List ℕ → ℕ → Next
+nextEvent b at =
     cond (ltb (length b) (stopOf b at)) next.End
-    (next.Event (callIn b (kindOf (byte b at)) (at + headSize) (stopOf b at)) (stopOf b at))
+    (next.Event (callOver b (kindOf (byte b at)) (at + headSize) (stopOf b at)) (stopOf b at))

@@ -40,16 +40,16 @@ speakerSize b at = 1 + byte b at
 
 -- too few or too many bytes for an event of this kind; a byte that is not there counts as 00,
 -- so a policy update of no bytes has too few (decisions B45, B85)
-abbrev pub lengthWrong : Kind → List ℕ → Bool
-lengthWrong Command bytes = ltb (length bytes) 1
-lengthWrong Keyed bytes = false
-lengthWrong Stored bytes = ltb (length bytes) 4
-lengthWrong Finished bytes = ltb (length bytes) 1
-lengthWrong Tick bytes = not (eqb (length bytes) 0)
-lengthWrong Lost bytes = not (eqb (length bytes) 0)
-lengthWrong FinishedWithMark bytes = ltb (length bytes) 2
-lengthWrong Policy bytes = ltb (length bytes) (speakerSize bytes 0)
-lengthWrong Unknown bytes = false
+abbrev pub eventLengthWrong : Kind → List ℕ → Bool
+eventLengthWrong Command bytes = ltb (length bytes) 1
+eventLengthWrong Keyed bytes = false
+eventLengthWrong Stored bytes = ltb (length bytes) 4
+eventLengthWrong Finished bytes = ltb (length bytes) 1
+eventLengthWrong Tick bytes = not (eqb (length bytes) 0)
+eventLengthWrong Lost bytes = not (eqb (length bytes) 0)
+eventLengthWrong FinishedWithMark bytes = ltb (length bytes) 2
+eventLengthWrong Policy bytes = ltb (length bytes) (speakerSize bytes 0)
+eventLengthWrong Unknown bytes = false
 
 -- the manager's call; "the response buffer of a command and of a policy update has 256 bytes"; request 2026-02: "Old finished events count as marked".
 -- An event of unknown kind is never run: what it would be does not matter (decision B59)
@@ -61,5 +61,5 @@ callFor Finished bytes = manager.Call.Finished (drop 1 bytes) (byte bytes 0) 1
 callFor Tick bytes = manager.Call.Tick
 callFor Lost bytes = manager.Call.Lost
 callFor FinishedWithMark bytes = manager.Call.Finished (drop 2 bytes) (byte bytes 0) (byte bytes 1)
-callFor Policy bytes = manager.Call.Policy (take (byte bytes 0) (drop 1 bytes)) (drop (speakerSize bytes 0) bytes) leastBuffer
+callFor Policy bytes = manager.Call.PolicyUpdate (take (byte bytes 0) (drop 1 bytes)) (drop (speakerSize bytes 0) bytes) leastBuffer
 callFor Unknown bytes = manager.Call.Lost

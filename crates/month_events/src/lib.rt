@@ -9,8 +9,8 @@ ghost use mathlib.Core.Path.{_≡_};
 ghost use Prim.Native.Nat.{_+_, _≤_, _<_};
 ghost use lib.ListN.{length};
 ghost use Rattle.base_bytes.specs.Bytes.{between};
-ghost use Rattle.month_events.specs.Kinds.{kindOf, isUnknown, speakerSize, lengthWrong};
-ghost use Rattle.month_events.specs.Events.{callIn, checkedOf, headSize, nextOf, stopOf};
+ghost use Rattle.month_events.specs.Kinds.{kindOf, isUnknown, speakerSize, eventLengthWrong};
+ghost use Rattle.month_events.specs.Events.{callOver, checkedOf, headSize, nextEvent, stopOf};
 
 pub enum Kind {
     Command,
@@ -77,7 +77,7 @@ impl Kind {
 
     // Are these too few or too many bytes for an event of this kind?
     fn is_wrong(self, bytes: &[u8]) -> bool
-        ensures { λ r. ⌜ r ≡ lengthWrong self (now (bytes .entry)) ⌝ }
+        ensures { λ r. ⌜ r ≡ eventLengthWrong self (now (bytes .entry)) ⌝ }
     {
         let length = bytes.len();
         match self {
@@ -127,7 +127,7 @@ fn stop_of(b: &[u8], at: usize) -> usize
 // The call of an event whose bytes stand from `from` up to `to`.
 fn call_in(b: &[u8], kind: Kind, from: usize, to: usize) -> Call
     requires { ⌜ from ≤ length (now b) ⌝ }
-    ensures { λ r. ⌜ r ≡ callIn (now (b .entry)) kind from to ⌝ }
+    ensures { λ r. ⌜ r ≡ callOver (now (b .entry)) kind from to ⌝ }
 {
     match kind {
         Kind::Command => Call::Command {
@@ -153,7 +153,7 @@ fn call_in(b: &[u8], kind: Kind, from: usize, to: usize) -> Call
         },
         Kind::Policy => {
             let stop = from + speaker_size(b, from);
-            Call::Policy {
+            Call::PolicyUpdate {
                 speaker: part(from + 1, stop),
                 bytes: part(stop, to),
             }
@@ -191,7 +191,7 @@ pub fn check_events(b: &[u8]) -> Checked
 
 // The event at a place; none where the body ends there or within it.
 pub fn next_event(b: &[u8], at: usize) -> Next
-    ensures { λ r. ⌜ r ≡ nextOf (now (b .entry)) at ⌝ }
+    ensures { λ r. ⌜ r ≡ nextEvent (now (b .entry)) at ⌝ }
 {
     if b.len() <= at {
         return Next::End;

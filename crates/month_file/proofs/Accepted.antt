@@ -17,20 +17,20 @@ use Rattle.month_contents.specs.declared.Section.the-variants.{Body, Missing}
 use Rattle.month_events.specs.Events.{cutShort, kindUnknown, wrongLength, checkedOf}
 use Rattle.month_events.specs.declared.Checked.the-variants as checked
 use Rattle.month_file.specs.Inputs.{inputsOf, freshAnswer, freshBad}
-use Rattle.month_file.specs.File.{isMissing, partIn, bodyOf, Row, table, firstOf, verdictOf}
-use Rattle.month_file.specs.Refusals.{NoneHolds}
+use Rattle.month_file.specs.File.{isMissing, partIn, bodyOf, RefusalRow, refusalRows, firstOf, verdictOf}
+use Rattle.month_file.specs.Refusals.{NoneRefuses}
 use Rattle.month_file.specs.declared.Verdict.the-variants.{Accepted, Refused}
 
-passed-case : (r : Row) (rs : List Row) (b : Bool) → r .when ≡ b → cond b (Refused (r .refusal)) (firstOf rs) ≡ Accepted → (firstOf rs ≡ Accepted → NoneHolds rs) → NoneHolds (r ∷ rs)
+passed-case : (r : RefusalRow) (rs : List RefusalRow) (b : Bool) → r .when ≡ b → cond b (Refused (r .refusal)) (firstOf rs) ≡ Accepted → (firstOf rs ≡ Accepted → NoneRefuses rs) → NoneRefuses (r ∷ rs)
 passed-case r rs true q e f = let z : _≡_ {A = ℕ} 0 1 = cc in absurd (omega arith)
 passed-case r rs false q e f = (q, f e)
 
-pub passed : (rs : List Row) → firstOf rs ≡ Accepted → NoneHolds rs
+pub passed : (rs : List RefusalRow) → firstOf rs ≡ Accepted → NoneRefuses rs
 unfolding firstOf
 passed [] e = tt
 passed (r ∷ rs) e = passed-case r rs (r .when) refl e (passed rs)
 
-pub none-refuses : (rs : List Row) → NoneHolds rs → firstOf rs ≡ Accepted
+pub none-refuses : (rs : List RefusalRow) → NoneRefuses rs → firstOf rs ≡ Accepted
 unfolding firstOf
 none-refuses [] p = refl
 none-refuses (r ∷ rs) p = rw (p .0) (none-refuses rs (p .1))
@@ -76,7 +76,7 @@ right-of b e f g = rw (e, f, g)
 
 pub accepted : (s : List ℕ) → verdictOf s ≡ Accepted → Accepting s
 accepted s e =
-    let p = passed (table s) e in
+    let p = passed (refusalRows s) e in
     let m = or-none (isMissing (sectionOf s freshKind)) (isMissing (sectionOf s eventsKind)) (p .1 .0) in
     let f = fresh-of (bodyOf s freshKind) (p .1 .1 .0) in
     let r = p .1 .1 .1 in

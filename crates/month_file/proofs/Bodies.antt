@@ -14,7 +14,7 @@ use Rattle.month_events.proofs.Written.{bytes-drop}
 use Rattle.base_bytes.specs.Bytes.{fourAt, fourBytes, partOf}
 use Rattle.base_bytes.specs.declared.Part.{Part}
 use Rattle.month_contents.specs.Contents.{mostFile}
-use Rattle.month_contents.specs.Written.{entry, listing}
+use Rattle.month_contents.specs.Written.{entry, twoSections}
 use Rattle.month_contents.proofs.TwoSections.{Lists, Chain, TwoSections, Accepted, two-accepted}
 use Rattle.month_file.specs.Grammar.{fileOf}
 
@@ -28,7 +28,7 @@ four-back n h =
 -- the contents list what was written
 module _ (k : ℕ) (p : Part) (l : ℕ) (q : Part) (bodies : List ℕ) (k-four : k < 4294967296) (l-four : l < 4294967296) where
   abbrev listed : List ℕ
-  listed = listing (entry k (p .start) (p .len)) (entry l (q .start) (q .len)) bodies
+  listed = twoSections (entry k (p .start) (p .len)) (entry l (q .start) (q .len)) bodies
 
   pub lists : p .start + p .len < 4294967296 → q .start + q .len < 4294967296 → Lists listed k p l q
   lists a b =
@@ -148,7 +148,7 @@ module _ (s : List ℕ) (w : Bytes s) where
 
   -- the contents are their numbers written
   pub listing-is : (k : ℕ) (p : Part) (l : ℕ) (q : Part) → 28 ≤ length s → Lists s k p l q
-      → s ≡ listing (entry k (p .start) (p .len)) (entry l (q .start) (q .len)) (drop 28 s)
+      → s ≡ twoSections (entry k (p .start) (p .len)) (entry l (q .start) (q .len)) (drop 28 s)
   listing-is k p l q h x =
       four-on 0 2 (omega arith) (x .two)
       ∙ ap (λ (r : List ℕ). fourBytes 2 ++ r)
@@ -203,7 +203,7 @@ module _ (s : List ℕ) (p q : Part) (c : Chain s p q) where
       ∙ ap (λ (n : ℕ). record { start = 28 + length u; len = n }) (sym right-length)
 
 listing-as : (k l : ℕ) {p p′ q q′ : Part} {r r′ : List ℕ} → p ≡ p′ → q ≡ q′ → r ≡ r′
-    → listing (entry k (p .start) (p .len)) (entry l (q .start) (q .len)) r ≡ listing (entry k (p′ .start) (p′ .len)) (entry l (q′ .start) (q′ .len)) r′
+    → twoSections (entry k (p .start) (p .len)) (entry l (q .start) (q .len)) r ≡ twoSections (entry k (p′ .start) (p′ .len)) (entry l (q′ .start) (q′ .len)) r′
 listing-as k l a b c = rw (a, b, c)
 
 -- a file whose contents are right and list both sections is the file of its two bodies

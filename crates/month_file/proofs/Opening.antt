@@ -16,7 +16,7 @@ use Rattle.month_events.specs.Events.{cutShort, kindUnknown, wrongLength, check
 use Rattle.month_events.specs.declared.Checked.{Checked}
 use Rattle.month_events.specs.declared.Checked.the-variants as checked
 use Rattle.month_file.specs.Inputs.{freshAnswer, freshBad}
-use Rattle.month_file.specs.File.{row, table, firstOf, verdictOf, refusedFile, openedBy, openedOf}
+use Rattle.month_file.specs.File.{refusalRow, refusalRows, firstOf, verdictOf, refusedFile, openedBy, openedOf}
 use Rattle.month_file.specs.declared.Refusal.the-variants.{ContentsWrong, SectionMissing, FreshBad, CutShort, UnknownKind, WrongLength}
 use Rattle.month_file.specs.declared.Verdict.{Verdict}
 use Rattle.month_file.specs.declared.Verdict.the-variants.{Accepted, Refused}
@@ -28,7 +28,7 @@ verdictFor checked.UnknownKind = Refused UnknownKind
 verdictFor checked.WrongLength = Refused WrongLength
 verdictFor checked.Right = Accepted
 
-last-rows : (cut unknown wrong : Bool) → firstOf (row cut CutShort ∷ row unknown UnknownKind ∷ row wrong WrongLength ∷ [])
+last-rows : (cut unknown wrong : Bool) → firstOf (refusalRow cut CutShort ∷ refusalRow unknown UnknownKind ∷ refusalRow wrong WrongLength ∷ [])
     ≡ verdictFor (pick cut checked.CutShort (pick unknown checked.UnknownKind (pick wrong checked.WrongLength checked.Right)))
 unfolding firstOf pick
 last-rows true unknown wrong = refl

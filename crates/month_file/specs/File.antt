@@ -36,30 +36,30 @@ fileEvents s = eventsOf (bodyOf s eventsKind)
 abbrev pub fileCalls : List ℕ → List Call
 fileCalls s = callsOf (fileEvents s)
 
-pub record Row : Type 0 where
+pub record RefusalRow : Type 0 where
   pub when : Bool
   pub refusal : Refusal
 
-abbrev pub row : Bool → Refusal → Row
-row condition refusal = record { when = condition; refusal = refusal }
+abbrev pub refusalRow : Bool → Refusal → RefusalRow
+refusalRow condition refusal = record { when = condition; refusal = refusal }
 
 -- each row is asked of the whole file before the next (decision B44)
-abbrev pub table : List ℕ → List Row
-table s =
-    row (contentsWrong s) ContentsWrong
-    ∷ row (isMissing (sectionOf s freshKind) || isMissing (sectionOf s eventsKind)) SectionMissing
-    ∷ row (freshBad (bodyOf s freshKind)) FreshBad
-    ∷ row (cutShort (bodyOf s eventsKind)) CutShort
-    ∷ row (kindUnknown (bodyOf s eventsKind)) UnknownKind
-    ∷ row (wrongLength (bodyOf s eventsKind)) WrongLength
+abbrev pub refusalRows : List ℕ → List RefusalRow
+refusalRows s =
+    refusalRow (contentsWrong s) ContentsWrong
+    ∷ refusalRow (isMissing (sectionOf s freshKind) || isMissing (sectionOf s eventsKind)) SectionMissing
+    ∷ refusalRow (freshBad (bodyOf s freshKind)) FreshBad
+    ∷ refusalRow (cutShort (bodyOf s eventsKind)) CutShort
+    ∷ refusalRow (kindUnknown (bodyOf s eventsKind)) UnknownKind
+    ∷ refusalRow (wrongLength (bodyOf s eventsKind)) WrongLength
     ∷ []
 
-unfoldable pub firstOf : List Row → Verdict
+unfoldable pub firstOf : List RefusalRow → Verdict
 firstOf [] = Accepted
 firstOf (r ∷ rs) = cond (r .when) (Refused (r .refusal)) (firstOf rs)
 
 abbrev pub verdictOf : List ℕ → Verdict
-verdictOf s = firstOf (table s)
+verdictOf s = firstOf (refusalRows s)
 
 -- the file opened; of a refused one the record of zeros, and no events
 abbrev pub refusedFile : Refusal → Opened

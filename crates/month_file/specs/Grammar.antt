@@ -9,7 +9,7 @@ use Rattle.base_bytes.specs.Bytes.{fourBytes}
 use Rattle.base_status.specs.StatusWords.{isDone}
 use Rattle.read_tlv.specs.Encoding.{Bytes}
 use Rattle.month_contents.specs.Contents.{freshKind}
-use Rattle.month_contents.specs.Written.{entry, listing}
+use Rattle.month_contents.specs.Written.{entry, twoSections}
 use Rattle.month_events.specs.Events.{Event}
 use Rattle.month_events.specs.Written.{encodeEvents, AllWritable}
 use Rattle.rule_run.specs.Inputs.{Inputs, freshOf}
@@ -24,10 +24,10 @@ encodeInputs x =
 
 -- the file of two bodies: whether the inputs are listed first, and whether they are laid first; the contents end at byte 28
 abbrev pub fileOf : Bool → Bool → List ℕ → List ℕ → List ℕ
-fileOf true true f b = listing (entry 1 28 (length f)) (entry 2 (28 + length f) (length b)) (f ++ b)
-fileOf false true f b = listing (entry 2 (28 + length f) (length b)) (entry 1 28 (length f)) (f ++ b)
-fileOf true false f b = listing (entry 1 (28 + length b) (length f)) (entry 2 28 (length b)) (b ++ f)
-fileOf false false f b = listing (entry 2 28 (length b)) (entry 1 (28 + length b) (length f)) (b ++ f)
+fileOf true true f b = twoSections (entry 1 28 (length f)) (entry 2 (28 + length f) (length b)) (f ++ b)
+fileOf false true f b = twoSections (entry 2 (28 + length f) (length b)) (entry 1 28 (length f)) (f ++ b)
+fileOf true false f b = twoSections (entry 1 (28 + length b) (length f)) (entry 2 28 (length b)) (b ++ f)
+fileOf false false f b = twoSections (entry 2 28 (length b)) (entry 1 (28 + length b) (length f)) (b ++ f)
 
 abbrev pub written : Bool → Bool → Inputs → List Event → List ℕ
 written listedFirst laidFirst x es = fileOf listedFirst laidFirst (encodeInputs x) (encodeEvents es)

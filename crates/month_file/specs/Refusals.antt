@@ -10,7 +10,7 @@ use Rattle.card_record.specs.Fresh.{zeroCard}
 use Rattle.card_record.specs.declared.Card.{Card}
 use Rattle.month_contents.specs.Written.{entry}
 use Rattle.month_events.specs.Events.{Event, eventsOf}
-use Rattle.month_file.specs.File.{Row, table, verdictOf, openedOf}
+use Rattle.month_file.specs.File.{RefusalRow, refusalRows, verdictOf, openedOf}
 use Rattle.month_file.specs.Grammar.{encodeInputs, fileOf, sample}
 use Rattle.month_file.specs.declared.Refusal.{Refusal}
 use Rattle.month_file.specs.declared.Refusal.the-variants.{ContentsWrong, SectionMissing, FreshBad, CutShort, UnknownKind, WrongLength}
@@ -18,17 +18,17 @@ use Rattle.month_file.specs.declared.Verdict.{Verdict}
 use Rattle.month_file.specs.declared.Verdict.the-variants.{Accepted, Refused}
 
 -- no row's condition holds
-abbrev pub NoneHolds : List Row → Type 0
-NoneHolds [] = Unit {0}
-NoneHolds (r ∷ rs) = (r .when ≡ false) × NoneHolds rs
+abbrev pub NoneRefuses : List RefusalRow → Type 0
+NoneRefuses [] = Unit {0}
+NoneRefuses (r ∷ rs) = (r .when ≡ false) × NoneRefuses rs
 
 -- the refusal of the first row whose condition holds
-pub record First (rows : List Row) (r : Refusal) : Type 0 where
-  pub before : List Row
-  pub this : Row
-  pub after : List Row
+pub record FirstRefusal (rows : List RefusalRow) (r : Refusal) : Type 0 where
+  pub before : List RefusalRow
+  pub this : RefusalRow
+  pub after : List RefusalRow
   pub split : rows ≡ before ++ this ∷ after
-  pub none-before : NoneHolds before
+  pub none-before : NoneRefuses before
   pub holds : this .when ≡ true
   pub name : this .refusal ≡ r
 
@@ -40,24 +40,24 @@ abbrev pub eventsRun : List ℕ → List Event
 eventsRun s = eventsOf (partOf s (openedOf s .events))
 
 pub record Refusing : Type 0 where
-  pub first-row : (s : List ℕ) (r : Refusal) → First (table s) r → verdictOf s ≡ Refused r
-  pub only-first-row : (s : List ℕ) (r : Refusal) → verdictOf s ≡ Refused r → First (table s) r
-  pub otherwise : (s : List ℕ) → NoneHolds (table s) → verdictOf s ≡ Accepted
-  pub only-otherwise : (s : List ℕ) → verdictOf s ≡ Accepted → NoneHolds (table s)
+  pub first-row : (s : List ℕ) (r : Refusal) → FirstRefusal (refusalRows s) r → verdictOf s ≡ Refused r
+  pub only-first-row : (s : List ℕ) (r : Refusal) → verdictOf s ≡ Refused r → FirstRefusal (refusalRows s) r
+  pub otherwise : (s : List ℕ) → NoneRefuses (refusalRows s) → verdictOf s ≡ Accepted
+  pub only-otherwise : (s : List ℕ) → verdictOf s ≡ Accepted → NoneRefuses (refusalRows s)
   -- the verdict that is told is the table's, and of a refused file no card is made and no event is run
   pub told : (s : List ℕ) → openedOf s .verdict ≡ verdictOf s
   pub no-card : (s : List ℕ) (r : Refusal) → verdictOf s ≡ Refused r → cardRun s ≡ zeroCard
   pub none-run : (s : List ℕ) (r : Refusal) → verdictOf s ≡ Refused r → eventsRun s ≡ []
 
-abbrev pub inputs : ℕ → ℕ → ℕ → List ℕ
-inputs quota used n = encodeInputs (sample quota used n)
+abbrev pub inputBytes : ℕ → ℕ → ℕ → List ℕ
+inputBytes quota used n = encodeInputs (sample quota used n)
 
 abbrev pub good : List ℕ
-good = inputs 50 0 5
+good = inputBytes 50 0 5
 
 -- no card is made of them
 abbrev pub bad : List ℕ
-bad = inputs 50 51 5
+bad = inputBytes 50 51 5
 
 abbrev pub tick : List ℕ
 tick = 5 ∷ 0 ∷ 0 ∷ []
@@ -73,68 +73,68 @@ abbrev pub cut : List ℕ
 cut = 5 ∷ 0 ∷ []
 
 -- one section alone
-abbrev pub alone : ℕ → List ℕ → List ℕ
-alone kind body = fourBytes 1 ++ entry kind 16 (length body) ++ body
+abbrev pub oneSection : ℕ → List ℕ → List ℕ
+oneSection kind body = fourBytes 1 ++ entry kind 16 (length body) ++ body
 
-pub record Case : Type 0 where
+pub record FileCase : Type 0 where
   pub says : Verdict
   pub file : List ℕ
 
-abbrev pub accepted : List ℕ → Case
-accepted file = record { says = Accepted; file = file }
+abbrev pub acceptedCase : List ℕ → FileCase
+acceptedCase file = record { says = Accepted; file = file }
 
-abbrev pub refused : Refusal → List ℕ → Case
-refused r file = record { says = Refused r; file = file }
+abbrev pub refusedCase : Refusal → List ℕ → FileCase
+refusedCase r file = record { says = Refused r; file = file }
 
-abbrev pub cases : List Case
-cases =
+abbrev pub fileCases : List FileCase
+fileCases =
     -- "The sections may be listed in any order, and their bodies may lie in any order"; no events are events too
-    accepted (fileOf true true good tick)
-    ∷ accepted (fileOf false true good tick)
-    ∷ accepted (fileOf true false good tick)
-    ∷ accepted (fileOf false false good tick)
-    ∷ accepted (fileOf true true good [])
-    ∷ accepted (fileOf true false good [])
+    acceptedCase (fileOf true true good tick)
+    ∷ acceptedCase (fileOf false true good tick)
+    ∷ acceptedCase (fileOf true false good tick)
+    ∷ acceptedCase (fileOf false false good tick)
+    ∷ acceptedCase (fileOf true true good [])
+    ∷ acceptedCase (fileOf true false good [])
     -- contents wrong: bytes left over, also where a section is missing, and with inputs and events that are wrong too
-    ∷ refused ContentsWrong []
-    ∷ refused ContentsWrong (fileOf true true good tick ++ 0 ∷ [])
-    ∷ refused ContentsWrong (alone 1 good ++ 0 ∷ [])
-    ∷ refused ContentsWrong (fileOf true true bad cut ++ 0 ∷ [])
+    ∷ refusedCase ContentsWrong []
+    ∷ refusedCase ContentsWrong (fileOf true true good tick ++ 0 ∷ [])
+    ∷ refusedCase ContentsWrong (oneSection 1 good ++ 0 ∷ [])
+    ∷ refusedCase ContentsWrong (fileOf true true bad cut ++ 0 ∷ [])
     -- section missing: each of the two and both, also with inputs and events that are wrong
-    ∷ refused SectionMissing (fourBytes 0)
-    ∷ refused SectionMissing (alone 1 good)
-    ∷ refused SectionMissing (alone 2 tick)
-    ∷ refused SectionMissing (alone 1 bad)
-    ∷ refused SectionMissing (alone 2 cut)
+    ∷ refusedCase SectionMissing (fourBytes 0)
+    ∷ refusedCase SectionMissing (oneSection 1 good)
+    ∷ refusedCase SectionMissing (oneSection 2 tick)
+    ∷ refusedCase SectionMissing (oneSection 1 bad)
+    ∷ refusedCase SectionMissing (oneSection 2 cut)
     -- fresh inputs bad: under 32 bytes, 6A 80 at each of its neighbours, also with events that are wrong
-    ∷ refused FreshBad (fileOf true true (replicate 31 0) tick)
-    ∷ refused FreshBad (fileOf true true (inputs 50 0 4) tick)
-    ∷ refused FreshBad (fileOf true true (inputs 50 0 17) tick)
-    ∷ accepted (fileOf true true (inputs 50 0 16) tick)
-    ∷ refused FreshBad (fileOf true true (inputs 101 0 5) tick)
-    ∷ accepted (fileOf true true (inputs 100 0 5) tick)
-    ∷ refused FreshBad (fileOf true true bad tick)
-    ∷ accepted (fileOf true true (inputs 50 50 5) tick)
-    ∷ refused FreshBad (fileOf true true bad cut)
+    ∷ refusedCase FreshBad (fileOf true true (replicate 31 0) tick)
+    ∷ refusedCase FreshBad (fileOf true true (inputBytes 50 0 4) tick)
+    ∷ refusedCase FreshBad (fileOf true true (inputBytes 50 0 17) tick)
+    ∷ acceptedCase (fileOf true true (inputBytes 50 0 16) tick)
+    ∷ refusedCase FreshBad (fileOf true true (inputBytes 101 0 5) tick)
+    ∷ acceptedCase (fileOf true true (inputBytes 100 0 5) tick)
+    ∷ refusedCase FreshBad (fileOf true true bad tick)
+    ∷ acceptedCase (fileOf true true (inputBytes 50 50 5) tick)
+    ∷ refusedCase FreshBad (fileOf true true bad cut)
     -- event cut short: at the end of events that are right, also after an unknown kind and a wrong length
-    ∷ refused CutShort (fileOf true true good (tick ++ cut))
-    ∷ refused CutShort (fileOf true false good (tick ++ cut))
-    ∷ refused CutShort (fileOf true true good (unknown ++ cut))
-    ∷ refused CutShort (fileOf true true good (long ++ cut))
+    ∷ refusedCase CutShort (fileOf true true good (tick ++ cut))
+    ∷ refusedCase CutShort (fileOf true false good (tick ++ cut))
+    ∷ refusedCase CutShort (fileOf true true good (unknown ++ cut))
+    ∷ refusedCase CutShort (fileOf true true good (long ++ cut))
     -- event of unknown kind: also after a wrong length
-    ∷ refused UnknownKind (fileOf true true good (tick ++ unknown))
-    ∷ refused UnknownKind (fileOf true true good (long ++ unknown))
+    ∷ refusedCase UnknownKind (fileOf true true good (tick ++ unknown))
+    ∷ refusedCase UnknownKind (fileOf true true good (long ++ unknown))
     -- event of wrong length
-    ∷ refused WrongLength (fileOf true true good (tick ++ (long ++ tick)))
+    ∷ refusedCase WrongLength (fileOf true true good (tick ++ (long ++ tick)))
     ∷ []
 
-unfoldable pub found : List Case → List Verdict
-found [] = []
-found (k ∷ ks) = verdictOf (k .file) ∷ found ks
+unfoldable pub verdictsFound : List FileCase → List Verdict
+verdictsFound [] = []
+verdictsFound (k ∷ ks) = verdictOf (k .file) ∷ verdictsFound ks
 
-unfoldable pub meant : List Case → List Verdict
-meant [] = []
-meant (k ∷ ks) = k .says ∷ meant ks
+unfoldable pub verdictsMeant : List FileCase → List Verdict
+verdictsMeant [] = []
+verdictsMeant (k ∷ ks) = k .says ∷ verdictsMeant ks
 
 abbrev pub RefusalTable : Type 0
-RefusalTable = found cases ≡ meant cases
+RefusalTable = verdictsFound fileCases ≡ verdictsMeant fileCases

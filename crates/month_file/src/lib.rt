@@ -13,7 +13,7 @@ use month_contents::section_of;
 use month_events::Checked;
 use month_events::check_events;
 ghost use mathlib.Core.Path.{_≡_};
-ghost use Rattle.card_record.specs.Answers.{handed};
+ghost use Rattle.card_record.specs.Answers.{asAnswer};
 ghost use Rattle.month_file.specs.Inputs.{freshAnswer};
 ghost use Rattle.month_file.specs.File.{refusedFile, openedOf};
 
@@ -56,7 +56,7 @@ impl Opened {
 
 // What the fresh call answers to inputs as they stand in a file; a byte that they lack is 00.
 fn fresh_answer(f: &[u8]) -> Answer
-    ensures { λ r. ⌜ r ≡ handed (freshAnswer (now (f .entry))) ⌝ }
+    ensures { λ r. ⌜ r ≡ asAnswer (freshAnswer (now (f .entry))) ⌝ }
 {
     let eid = Part { start: 0, len: 16 };
     let aid = Part {

@@ -17,7 +17,7 @@ use Rattle.text_aid.proofs.Lengths.{aid-length}
 use Rattle.month_tally.specs.Lines.{mostLines, restLine, aidsIn}
 use Rattle.month_tally.specs.declared.Tally.{Tally}
 use Rattle.month_tally.proofs.Seeking.{unread}
-use Rattle.month_report.specs.Report.{figureText, shareLead, percentText, shareText, tenthsOf, plainText, minutesText, totalText, aidLine, linesText, restText, headText, refusedText, totalsText, reportText, mostLine, mostReport}
+use Rattle.month_report.specs.Report.{figureText, shareLead, percentText, shareText, tenthsOf, plainText, minutesText, totalText, aidLine, linesText, restText, reportHead, refusedText, totalsText, reportText, mostReportLine, mostReport}
 
 module _ (explain : Bool) (ticks : ℕ) (minutes : List ℕ) (l : List Aid) (i : ℕ) where
   pub lines-step : (a : Aid) → i < length l → getD l i unread ≡ a → linesText explain ticks minutes i (drop i l) ≡ aidLine explain ticks a (getD minutes i 0) ++ linesText explain ticks minutes (i + 1) (drop (i + 1) l)
@@ -57,10 +57,10 @@ unfolding shareText
 share-length minutes ticks =
     by-eq (λ (l : List ℕ). length l ≤ 27) ticks 0 (λ h. omega arith) (λ h. percent-length (tenthsOf minutes ticks))
 
-minutes-length : (explain : Bool) (ticks size minutes : ℕ) → size ≤ 32 → size + length (minutesText explain ticks size minutes) ≤ mostLine
+minutes-length : (explain : Bool) (ticks size minutes : ℕ) → size ≤ 32 → size + length (minutesText explain ticks size minutes) ≤ mostReportLine
 unfolding minutesText
 minutes-length explain ticks size minutes h =
-    each (λ (l : List ℕ). size + length l ≤ mostLine) explain
+    each (λ (l : List ℕ). size + length l ≤ mostReportLine) explain
     (λ e. simp length-append (omega (arith, figure-length size minutes h, share-length minutes ticks)))
     (λ e. let p = plain-length minutes in omega arith)
 
@@ -72,21 +72,21 @@ total-length explain size n h =
     (λ e. let p = plain-length n in omega arith)
 
 -- the lines
-pub aid-line-length : (explain : Bool) (ticks : ℕ) (a : Aid) (minutes : ℕ) → length (a .bytes) ≤ 16 → length (aidLine explain ticks a minutes) ≤ mostLine
+pub aid-line-length : (explain : Bool) (ticks : ℕ) (a : Aid) (minutes : ℕ) → length (a .bytes) ≤ 16 → length (aidLine explain ticks a minutes) ≤ mostReportLine
 unfolding aidLine
 aid-line-length explain ticks a minutes h =
     let k = aid-length a h in
     simp length-append (omega (arith, minutes-length explain ticks (length (aidText a)) minutes k))
 
-rest-length : (explain : Bool) (ticks : ℕ) (more : Bool) (minutes : ℕ) → length (restText explain ticks more minutes) ≤ mostLine
+rest-length : (explain : Bool) (ticks : ℕ) (more : Bool) (minutes : ℕ) → length (restText explain ticks more minutes) ≤ mostReportLine
 unfolding restText
 rest-length explain ticks more minutes =
-    each (λ (l : List ℕ). length l ≤ mostLine) more
+    each (λ (l : List ℕ). length l ≤ mostReportLine) more
     (λ e. simp length-append (omega (arith, minutes-length explain ticks 4 minutes (omega arith))))
     (λ e. omega arith)
 
-head-length : (explain : Bool) → length (headText explain) ≤ 50
-unfolding headText
+head-length : (explain : Bool) → length (reportHead explain) ≤ 50
+unfolding reportHead
 head-length explain = each (λ (l : List ℕ). length l ≤ 50) explain (λ e. omega arith) (λ e. omega arith)
 
 refused-length : (explain : Bool) (n : ℕ) → length (refusedText explain n) ≤ 61
@@ -107,7 +107,7 @@ totals-length explain t =
       refused-length explain (t .refused),
     ))
 
-pub report-length : (explain : Bool) (t : Tally) (minutes : List ℕ) → length (linesText explain (t .ticks) minutes 0 (aidsIn (t .names))) ≤ mostLines * mostLine → length (reportText explain t minutes) ≤ mostReport
+pub report-length : (explain : Bool) (t : Tally) (minutes : List ℕ) → length (linesText explain (t .ticks) minutes 0 (aidsIn (t .names))) ≤ mostLines * mostReportLine → length (reportText explain t minutes) ≤ mostReport
 unfolding reportText
 report-length explain t minutes h =
     simp length-append

@@ -8,11 +8,11 @@ use Rattle.text_words.specs.Hex.{glyphOf, hexText}
 use Rattle.text_words.specs.Numbers.{digitsText}
 use Rattle.card_isdp.specs.Aids.{padded}
 use Rattle.text_words.specs.Columns.{spaces, leadOf, columnText}
-use Rattle.month_report.specs.Report.{figureText, shareLead, percentText, shareText, plainText, minutesText, totalText, aidLine, linesText, restText, headText, refusedText, totalsText, reportText}
+use Rattle.month_report.specs.Report.{figureText, shareLead, percentText, shareText, plainText, minutesText, totalText, aidLine, linesText, restText, reportHead, refusedText, totalsText, reportText}
 use Rattle.month_report.specs.Statements.{Rounded, Shown}
 
 pub shown : Shown
-unfolding reportText totalsText refusedText headText restText linesText aidLine totalText minutesText plainText shareText percentText shareLead figureText columnText leadOf spaces digitsText hexText glyphOf pick isBelow isSame padded
+unfolding reportText totalsText refusedText reportHead restText linesText aidLine totalText minutesText plainText shareText percentText shareLead figureText columnText leadOf spaces digitsText hexText glyphOf pick isBelow isSame padded
 shown =
     record {
       plain = refl;

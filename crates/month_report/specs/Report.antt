@@ -59,8 +59,8 @@ linesText explain ticks minutes line (a ∷ aids) =
 unfoldable pub restText : Bool → ℕ → Bool → ℕ → List ℕ
 restText explain ticks more minutes = pick more (text "rest" ++ minutesText explain ticks 4 minutes) []
 
-unfoldable pub headText : Bool → List ℕ
-headText explain = pick explain (text "AID                               minutes   share\n") []
+unfoldable pub reportHead : Bool → List ℕ
+reportHead explain = pick explain (text "AID                               minutes   share\n") []
 
 -- "Then come all ticks and all events of the file"; for a person also how many of the events were refused
 unfoldable pub refusedText : Bool → ℕ → List ℕ
@@ -76,14 +76,14 @@ totalsText explain t =
 
 unfoldable pub reportText : Bool → Tally → List ℕ → List ℕ
 reportText explain t minutes =
-    headText explain
+    reportHead explain
     ++ linesText explain (t .ticks) minutes 0 (aidsIn (t .names))
     ++ restText explain (t .ticks) (t .names .more) (getD minutes restLine 0)
     ++ totalsText explain t
 
 -- a line has 88 bytes at the most, where a number has 64 bits; the head and the totals have 233
-abbrev pub mostLine : ℕ
-mostLine = 88
+abbrev pub mostReportLine : ℕ
+mostReportLine = 88
 
 abbrev pub mostReport : ℕ
-mostReport = (mostLines + 1) * mostLine + 233
+mostReport = (mostLines + 1) * mostReportLine + 233

@@ -6,7 +6,7 @@ use mathlib.Core.Bool.{Bool, true, false}
 use lib.ListN.{replicate}
 use Rattle.card_isdp.specs.Aids.{noAid}
 use Rattle.text_words.specs.Letters.{text}
-use Rattle.month_tally.specs.Statements.{aidEnding}
+use Rattle.month_tally.specs.Statements.{tallyAid}
 use Rattle.month_tally.specs.declared.Tally.{Tally}
 use Rattle.month_report.specs.Report.{tenthsOf, shareText, reportText}
 
@@ -22,25 +22,25 @@ Rounded =
 abbrev pub tallyOf : Bool → ℕ → Tally
 tallyOf more ticks =
     record {
-      names = record { aids = aidEnding 1 ∷ aidEnding 2 ∷ replicate 62 noAid; count = 2; more = more };
+      names = record { aids = tallyAid 1 ∷ tallyAid 2 ∷ replicate 62 noAid; count = 2; more = more };
       ticks = ticks;
       events = 41;
       refused = 3;
     }
 
-abbrev pub minutesOf : ℕ → ℕ → ℕ → List ℕ
-minutesOf first second rest = first ∷ second ∷ (replicate 62 0 ++ rest ∷ [])
+abbrev pub sampleMinutes : ℕ → ℕ → ℕ → List ℕ
+sampleMinutes first second rest = first ∷ second ∷ (replicate 62 0 ++ rest ∷ [])
 
 pub record Shown : Type 0 where
   pub plain :
-      reportText false (tallyOf true 25) (minutesOf 10 10 5)
+      reportText false (tallyOf true 25) (sampleMinutes 10 10 5)
       ≡ text "A000000001 10\n"
       ++ text "A000000002 10\n"
       ++ text "rest 5\n"
       ++ text "ticks 25\n"
       ++ text "events 41\n"
   pub explained :
-      reportText true (tallyOf true 25) (minutesOf 10 10 5)
+      reportText true (tallyOf true 25) (sampleMinutes 10 10 5)
       ≡ text "AID                               minutes   share\n"
       ++ text "A000000001                             10   40.0%\n"
       ++ text "A000000002                             10   40.0%\n"
@@ -50,7 +50,7 @@ pub record Shown : Type 0 where
       ++ text "refused                                 3\n"
   -- one with no tick has a line with 0; where the file has no ticks the share is `-`; there is no rest
   pub no-ticks :
-      reportText true (tallyOf false 0) (minutesOf 0 0 0)
+      reportText true (tallyOf false 0) (sampleMinutes 0 0 0)
       ≡ text "AID                               minutes   share\n"
       ++ text "A000000001                              0       -\n"
       ++ text "A000000002                              0       -\n"

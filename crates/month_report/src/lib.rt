@@ -15,10 +15,10 @@ ghost use Prim.Native.Nat.{_*_, _≤_};
 ghost use lib.ListN.{length};
 ghost use Rattle.base_bytes.specs.Put.{Wrote};
 ghost use Rattle.month_tally.specs.Lines.{mostLines, aidsIn};
-ghost use Rattle.month_report.specs.Report.{aidLine, linesText, restText, headText, refusedText, totalsText, reportText, mostLine, mostReport};
+ghost use Rattle.month_report.specs.Report.{aidLine, linesText, restText, reportHead, refusedText, totalsText, reportText, mostReportLine, mostReport};
 
 fn put_line(explain: bool, ticks: u32, aid: Aid, minutes: u32, out: &mut [u8], at: usize) -> usize
-    ensures { λ r. ⌜ Wrote (now (out .entry)) at (aidLine explain ticks aid minutes) r (now (out .exit)) × (length (aidLine explain ticks aid minutes) ≤ mostLine) ⌝ }
+    ensures { λ r. ⌜ Wrote (now (out .entry)) at (aidLine explain ticks aid minutes) r (now (out .exit)) × (length (aidLine explain ticks aid minutes) ≤ mostReportLine) ⌝ }
 {
     let a = put_aid(aid, out, at);
     put_minutes(explain, ticks, aid.size() * 2, minutes, out, a)
@@ -33,7 +33,7 @@ fn put_lines(
     out: &mut [u8],
     at: usize,
 ) -> usize
-    ensures { λ r. ⌜ Wrote (now (out .entry)) at (linesText explain ticks (now (minutes .entry)) 0 (aidsIn names)) r (now (out .exit)) × (length (linesText explain ticks (now (minutes .entry)) 0 (aidsIn names)) ≤ mostLines * mostLine) ⌝ }
+    ensures { λ r. ⌜ Wrote (now (out .entry)) at (linesText explain ticks (now (minutes .entry)) 0 (aidsIn names)) r (now (out .exit)) × (length (linesText explain ticks (now (minutes .entry)) 0 (aidsIn names)) ≤ mostLines * mostReportLine) ⌝ }
 {
     let n = names.lines();
     let mut i = 0;
@@ -58,7 +58,7 @@ fn put_rest(explain: bool, ticks: u32, more: bool, minutes: u32, out: &mut [u8],
 }
 
 fn put_head(explain: bool, out: &mut [u8], at: usize) -> usize
-    ensures { λ r. ⌜ Wrote (now (out .entry)) at (headText explain) r (now (out .exit)) ⌝ }
+    ensures { λ r. ⌜ Wrote (now (out .entry)) at (reportHead explain) r (now (out .exit)) ⌝ }
 {
     if explain {
         return put_bytes(

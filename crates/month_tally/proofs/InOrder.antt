@@ -15,7 +15,7 @@ use Rattle.card_isdp.specs.Aids.{bytesOf, padded}
 use Rattle.card_isdp.specs.declared.Aid.{Aid}
 use Rattle.month_tally.specs.Lines.{mostLines, restLine, sameAid, seekAid, aidsIn, hasLine, noNames}
 use Rattle.month_tally.specs.declared.Names.{Names}
-use Rattle.month_tally.specs.Statements.{notedAll, others, firsts, linesOf, SameAids, FirstSixtyFour, RestFromSixtyFifth, LineOfEach, LinesInOrder, LinesShown, manyAids}
+use Rattle.month_tally.specs.Statements.{notedAll, others, firsts, linesAfter, SameAids, FirstSixtyFour, RestFromSixtyFifth, LineOfEach, LinesInOrder, LinesShown, manyAids}
 use Rattle.month_tally.proofs.Noting.{withLine, withRest, by-noting, noted-full, aids-new, lines-most}
 
 same-aids : SameAids
@@ -141,7 +141,7 @@ lined (a ∷ l) n f =
     (λ e h g. rest-lined n f a l (notedAll (withRest n) l) e h (lined l (withRest n) g))
     (noted-full n a f)
 
-all-lined : (enabled : List Aid) → Lined noNames enabled (linesOf enabled)
+all-lined : (enabled : List Aid) → Lined noNames enabled (linesAfter enabled)
 all-lined enabled = lined enabled noNames refl
 
 first-64 : FirstSixtyFour

@@ -26,8 +26,8 @@ unfoldable pub firsts : List Aid → List Aid
 firsts [] = []
 firsts (a ∷ aids) = a ∷ others a (firsts aids)
 
-abbrev pub linesOf : List Aid → Names
-linesOf enabled = notedAll noNames enabled
+abbrev pub linesAfter : List Aid → Names
+linesAfter enabled = notedAll noNames enabled
 
 -- "Two AIDs are the same if they have the same length and the same bytes."
 abbrev pub SameAids : Type 0
@@ -35,17 +35,17 @@ SameAids = (a b : Aid) → (sameAid a b ≡ true → bytesOf a ≡ bytesOf b) ×
 
 -- "There is one line for each of the first 64 different AIDs ever enabled, in the order in which each was first enabled"
 abbrev pub FirstSixtyFour : Type 0
-FirstSixtyFour = (enabled : List Aid) → aidsIn (linesOf enabled) ≡ take 64 (firsts enabled)
+FirstSixtyFour = (enabled : List Aid) → aidsIn (linesAfter enabled) ≡ take 64 (firsts enabled)
 
 -- "All AIDs from the 65th on share the line `rest`, which is printed only where there is a 65th."
 abbrev pub RestFromSixtyFifth : Type 0
-RestFromSixtyFifth = (enabled : List Aid) → linesOf enabled .more ≡ ltb 64 (length (firsts enabled))
+RestFromSixtyFifth = (enabled : List Aid) → linesAfter enabled .more ≡ ltb 64 (length (firsts enabled))
 
 abbrev pub LineOfEach : Type 0
 LineOfEach =
     (enabled : List Aid) (a : Aid)
     → seekAid a (firsts enabled) < length (firsts enabled)
-    → lineOf (linesOf enabled) a ≡ min 64 (seekAid a (firsts enabled))
+    → lineOf (linesAfter enabled) a ≡ min 64 (seekAid a (firsts enabled))
 
 pub record LinesInOrder : Type 0 where
   pub same-aids : SameAids
@@ -54,8 +54,8 @@ pub record LinesInOrder : Type 0 where
   pub line-of-each : LineOfEach
 
 -- by computing, of AIDs that differ in the last byte, and of one that differs by a zero at its end
-abbrev pub aidEnding : ℕ → Aid
-aidEnding n = named (0xA0 ∷ 0x00 ∷ 0x00 ∷ 0x00 ∷ n ∷ [])
+abbrev pub tallyAid : ℕ → Aid
+tallyAid n = named (0xA0 ∷ 0x00 ∷ 0x00 ∷ 0x00 ∷ n ∷ [])
 
 abbrev pub longerAid : Aid
 longerAid = named (0xA0 ∷ 0x00 ∷ 0x00 ∷ 0x00 ∷ 0x01 ∷ 0x00 ∷ [])
@@ -63,9 +63,9 @@ longerAid = named (0xA0 ∷ 0x00 ∷ 0x00 ∷ 0x00 ∷ 0x01 ∷ 0x00 ∷ [])
 -- as many, each with another ending
 unfoldable pub manyAids : ℕ → List Aid
 manyAids zero = []
-manyAids (suc n) = aidEnding n ∷ manyAids n
+manyAids (suc n) = tallyAid n ∷ manyAids n
 
 pub record LinesShown : Type 0 where
-  pub few : aidsIn (linesOf (aidEnding 1 ∷ aidEnding 2 ∷ aidEnding 1 ∷ longerAid ∷ aidEnding 2 ∷ [])) ≡ aidEnding 1 ∷ aidEnding 2 ∷ longerAid ∷ []
-  pub all-have-lines : (linesOf (manyAids 64) .count ≡ 64) × (linesOf (manyAids 64) .more ≡ false)
-  pub one-too-many : (linesOf (manyAids 65) .count ≡ 64) × ((linesOf (manyAids 65) .more ≡ true) × (lineOf (linesOf (manyAids 65)) (aidEnding 0) ≡ 64))
+  pub few : aidsIn (linesAfter (tallyAid 1 ∷ tallyAid 2 ∷ tallyAid 1 ∷ longerAid ∷ tallyAid 2 ∷ [])) ≡ tallyAid 1 ∷ tallyAid 2 ∷ longerAid ∷ []
+  pub all-have-lines : (linesAfter (manyAids 64) .count ≡ 64) × (linesAfter (manyAids 64) .more ≡ false)
+  pub one-too-many : (linesAfter (manyAids 65) .count ≡ 64) × ((linesAfter (manyAids 65) .more ≡ true) × (lineOf (linesAfter (manyAids 65)) (tallyAid 0) ≡ 64))

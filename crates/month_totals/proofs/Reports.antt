@@ -11,7 +11,7 @@ use Rattle.rule_run.specs.Calls.{Call}
 use Rattle.month_tally.specs.Lines.{sameAid}
 use Rattle.month_file.specs.File.{fileCalls}
 use Rattle.month_count.specs.Month.{Counted, fileCard}
-use Rattle.month_count.specs.Statements.{isAmong, figure, LinesSay}
+use Rattle.month_count.specs.Statements.{isAmongAids, figure, LinesSay}
 use Rattle.month_count.proofs.Figures.{what-a-line-says}
 use Rattle.month_totals.specs.Reports.{onFile, MonthMeets, SameLines, OneReport}
 
@@ -27,7 +27,7 @@ same-lines c calls k m p q =
           p .line i h
           ∙ ap (λ (lines : List Aid). figure c calls (sameAid (getD lines i noAid))) aids
           ∙ sym (q .line i (subst (λ (lines : List Aid). i < length lines) aids h));
-      rest = p .rest ∙ ap (λ (lines : List Aid). figure c calls (λ a. not (isAmong a lines))) aids ∙ sym (q .rest);
+      rest = p .rest ∙ ap (λ (lines : List Aid). figure c calls (λ a. not (isAmongAids a lines))) aids ∙ sym (q .rest);
     }
 
 pub one-report : OneReport

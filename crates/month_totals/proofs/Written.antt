@@ -16,7 +16,7 @@ use Rattle.rule_run.specs.Runs.{ticksAmong}
 use Rattle.text_words.specs.Letters.{text}
 use Rattle.text_words.specs.Columns.{spaces, leadOf, columnText}
 use Rattle.month_tally.specs.Lines.{sameAid}
-use Rattle.month_report.specs.Report.{figureText, shareLead, percentText, shareText, plainText, minutesText, totalText, aidLine, linesText, restText, headText, refusedText, totalsText, reportText}
+use Rattle.month_report.specs.Report.{figureText, shareLead, percentText, shareText, plainText, minutesText, totalText, aidLine, linesText, restText, reportHead, refusedText, totalsText, reportText}
 use Rattle.month_file.specs.File.{fileCalls}
 use Rattle.month_account.specs.Account.{accountText}
 use Rattle.month_count.specs.Month.{fileCard, fileCounted}
@@ -59,7 +59,7 @@ record Computed : Type 0 where
   last-named : textOf false (told 0 15 15 20) ≡ text "A000000001 0\nA000000002 15\nticks 15\nevents 20\n"
 
 computed : Computed
-unfolding pick isBelow isSame padded hexText glyphOf digitsText spaces leadOf columnText figureText shareLead percentText shareText plainText minutesText totalText aidLine linesText restText headText refusedText totalsText reportText
+unfolding pick isBelow isSame padded hexText glyphOf digitsText spaces leadOf columnText figureText shareLead percentText shareText plainText minutesText totalText aidLine linesText restText reportHead refusedText totalsText reportText
 computed = record { enabled = refl; explained = refl; last-named = refl }
 
 -- an accepted file is written as its count

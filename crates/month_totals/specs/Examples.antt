@@ -9,7 +9,7 @@ use Rattle.card_isdp.specs.Aids.{noAid, named}
 use Rattle.card_record.specs.declared.Card.{Card}
 use Rattle.card_record.specs.declared.Phase.the-variants.{Quiet}
 use Rattle.rule_run.specs.Calls.{Call, Call.Tick, Call.Lost}
-use Rattle.rule_run.specs.Samples.{aid, enable, confirm, delete, load, cardWith, alone}
+use Rattle.rule_run.specs.Samples.{aid, enable, confirm, delete, load, exampleCard, alone}
 use Rattle.month_count.specs.Month.{Counted}
 use Rattle.month_count.specs.Statements.{monthFrom}
 
@@ -28,7 +28,7 @@ told first second ticks events =
 
 -- F alone, as the fresh call makes it
 abbrev pub start : Card
-start = cardWith alone 0 0 Quiet
+start = exampleCard alone 0 0 Quiet
 
 -- 02 is enabled and confirmed, two ticks, back to F, one tick; 02 is deleted, created again and enabled, one tick
 abbrev pub createdAgain : List Call

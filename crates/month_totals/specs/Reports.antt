@@ -8,7 +8,7 @@ use Rattle.rule_run.specs.Calls.{Call}
 use Rattle.month_file.specs.File.{verdictOf, fileCalls}
 use Rattle.month_file.specs.declared.Verdict.the-variants.{Accepted}
 use Rattle.month_count.specs.Month.{Counted, fileCard}
-use Rattle.month_count.specs.Statements.{monthFrom, linesIn, restOf, LinesSay}
+use Rattle.month_count.specs.Statements.{monthFrom, linesIn, restMinutes, LinesSay}
 
 abbrev pub Report : Type 0
 Report = Card → List Call → Counted
@@ -27,7 +27,7 @@ MonthMeets = MeetsLines monthFrom
 pub record SameLines (k m : Counted) : Type 0 where
   pub aids : linesIn k ≡ linesIn m
   pub line : (i : ℕ) → i < length (linesIn k) → getD (k .minutes) i 0 ≡ getD (m .minutes) i 0
-  pub rest : restOf k ≡ restOf m
+  pub rest : restMinutes k ≡ restMinutes m
 
 -- and there is no other: two reports that meet it tell the same
 abbrev pub OneReport : Type 0

@@ -13,11 +13,11 @@ use Rattle.rule_run.specs.Runs.{ticksAmong}
 use Rattle.text_words.specs.Letters.{text}
 use Rattle.month_tally.specs.Lines.{sameAid}
 use Rattle.month_tally.specs.Statements.{firsts}
-use Rattle.month_report.specs.Report.{aidLine, restText, headText, totalText, refusedText, reportText}
+use Rattle.month_report.specs.Report.{aidLine, restText, reportHead, totalText, refusedText, reportText}
 use Rattle.month_file.specs.File.{verdictOf, fileCalls}
 use Rattle.month_file.specs.declared.Verdict.the-variants.{Accepted}
 use Rattle.month_count.specs.Month.{Counted, fileCard}
-use Rattle.month_count.specs.Statements.{howMany, isRefusal, figure, enabledIn, isAmong}
+use Rattle.month_count.specs.Statements.{howMany, isRefusal, figure, enabledIn, isAmongAids}
 use Rattle.month_account.specs.Account.{accountText}
 use Rattle.month_totals.specs.Reports.{onFile}
 use Rattle.month_totals.specs.RollBack as rollBack
@@ -42,7 +42,7 @@ withLines c calls = take 64 (everEnabled c calls)
 
 abbrev pub restSaid : Bool → Card → List Call → List ℕ
 restSaid explain c calls =
-    restText explain (ticksAmong calls) (ltb 64 (length (everEnabled c calls))) (figure c calls (λ a. not (isAmong a (withLines c calls))))
+    restText explain (ticksAmong calls) (ltb 64 (length (everEnabled c calls))) (figure c calls (λ a. not (isAmongAids a (withLines c calls))))
 
 abbrev pub totalsSaid : Bool → Card → List Call → List ℕ
 totalsSaid explain c calls =
@@ -54,7 +54,7 @@ totalsSaid explain c calls =
 
 abbrev pub reportSaid : Bool → Card → List Call → List ℕ
 reportSaid explain c calls =
-    headText explain
+    reportHead explain
     ++ linesSaid explain c calls (withLines c calls)
     ++ restSaid explain c calls
     ++ totalsSaid explain c calls

@@ -30,27 +30,27 @@ countedFor a c call k =
     }
 
 -- the profile last named: by an enable its own, by a disable the fall-back
-abbrev pub namedOn : Card → List ℕ → Act → Aid → Aid
-namedOn c aid enable last = named aid
-namedOn c aid disable last = at (c .places) (c .fallback) .aid
-namedOn c aid delete last = last
-namedOn c aid (masterDelete verdict) last = last
-namedOn c aid setFallBack last = last
-namedOn c aid (status life fallback) last = last
-namedOn c aid keyed last = last
-namedOn c aid (stored n) last = last
-namedOn c aid (finished policy mark) last = last
-namedOn c aid (setPolicy policy) last = last
+abbrev pub askedOn : Card → List ℕ → Act → Aid → Aid
+askedOn c aid enable last = named aid
+askedOn c aid disable last = at (c .places) (c .fallback) .aid
+askedOn c aid delete last = last
+askedOn c aid (masterDelete verdict) last = last
+askedOn c aid setFallBack last = last
+askedOn c aid (status life fallback) last = last
+askedOn c aid keyed last = last
+askedOn c aid (stored n) last = last
+askedOn c aid (finished policy mark) last = last
+askedOn c aid (setPolicy policy) last = last
 
-abbrev pub namedBy : Card → Asked → Aid → Aid
-namedBy c a last = onTarget last (λ aid act. namedOn c aid act last) a
+abbrev pub askedFor : Card → Asked → Aid → Aid
+askedFor c a last = onTarget last (λ aid act. askedOn c aid act last) a
 
-abbrev pub lastNamed : Card → Call → Aid → Aid
-lastNamed c call last = cond (taken c call) (namedBy c (asked c call) last) last
+abbrev pub lastAsked : Card → Call → Aid → Aid
+lastAsked c call last = cond (taken c call) (askedFor c (asked c call) last) last
 
 unfoldable pub countingNamed : Aid → Card → List Call → Counted → Counted
 countingNamed last c [] k = k
-countingNamed last c (call ∷ calls) k = countingNamed (lastNamed c call last) (step c call .card) calls (countedFor last c call k)
+countingNamed last c (call ∷ calls) k = countingNamed (lastAsked c call last) (step c call .card) calls (countedFor last c call k)
 
 -- the buyer's present engine
 abbrev pub namedReport : Report

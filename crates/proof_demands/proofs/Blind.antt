@@ -19,7 +19,7 @@ use Rattle.card_places.specs.Places.{at}
 use Rattle.card_places.proofs.Seeks.{seek-below, bears}
 use Rattle.card_places.proofs.Lives.{Lives, enable-lives, lives-at}
 use Rattle.card_record.specs.Cards.{placeOf, profileOf, freePlace, inState, withPhase, withPlaces, cleared}
-use Rattle.card_record.specs.Clock.{moved, dropped, confirmIn, confirmOf}
+use Rattle.card_record.specs.Clock.{switched, dropped, confirmIn, confirmOf}
 use Rattle.card_record.specs.Ticks.{ticksToCome}
 use Rattle.card_record.specs.Notifications.{noticeSince}
 use Rattle.card_record.specs.Steps.{tickStep, lostStep, confirmStep, goneIn}
@@ -123,7 +123,7 @@ module _ (a : List ℕ) (i u : ℕ) (c : Card) (b : isFor a (at (c .places) i) �
   set-for : (j : ℕ) (x : Isdp) → (j ≡ i → ⊥) → isFor a (at (set (c .places) j x) i) ≡ true
   set-for j x n = rw (getD-set-other (c .places) j i x vacant (λ e. n (sym e))) b
 
-  moved-near : (j : ℕ) (p : Phase) → Near a i (moved c j p) (moved (reuseAt i u c) j p)
+  moved-near : (j : ℕ) (p : Phase) → Near a i (switched c j p) (switched (reuseAt i u c) j p)
   moved-near j p = apart u (reuse-moved i u c j p) (lives-for a i (enable-lives (c .places) j) b)
 
   -- these places, so much free and this phase

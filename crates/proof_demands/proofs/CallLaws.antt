@@ -24,7 +24,7 @@ use Rattle.rule_steps.specs.Laws.Policy.{SetPolicyAnswers}
 use Rattle.rule_steps.specs.Laws.Reports.{StatusOfAllAnswers, StatusOfNextAnswers, StatusOfOneAnswers, GetDataAnswers}
 use Rattle.rule_steps.proofs.Laws.{call-laws}
 use Rattle.rule_run.specs.Calls.{Call.Keyed, Call.Stored, Call.Finished, Call.Tick, Call.Lost}
-use Rattle.rule_run.specs.Step.{step}
+use Rattle.rule_run.specs.Step.{step, stepBy}
 use Rattle.proof_demands.specs.Written.{wantedAsks}
 use Rattle.proof_demands.specs.CallLaws.{WrittenLaw, EveryCall, ReportsTaken}
 use Rattle.rule_run.proofs.Words.{word-is}
@@ -39,23 +39,23 @@ lifted w Answered law c verdict s room e h encoded =
 -- the work of the other calls
 module _ (c : Card) where
   keyed-works : (aid : List ℕ) → outcome c (innerWork c aid keyed) ≡ step c (Keyed aid)
-  unfolding step wordOf
+  unfolding stepBy wordOf
   keyed-works aid = refl
 
   stored-works : (aid : List ℕ) (n : ℕ) → outcome c (innerWork c aid (stored n)) ≡ step c (Stored aid n)
-  unfolding step wordOf
+  unfolding stepBy wordOf
   stored-works aid n = refl
 
   finished-works : (aid : List ℕ) (policy mark : ℕ) → outcome c (innerWork c aid (finished policy mark)) ≡ step c (Finished aid policy mark)
-  unfolding step wordOf
+  unfolding stepBy wordOf
   finished-works aid policy mark = refl
 
   tick-works : outcome c (askedWork c tick) ≡ step c Tick
-  unfolding step wordOf
+  unfolding stepBy wordOf
   tick-works = refl
 
   lost-works : outcome c (askedWork c lost) ≡ step c Lost
-  unfolding step wordOf
+  unfolding stepBy wordOf
   lost-works = refl
 
 pub every-call : EveryCall
@@ -69,9 +69,9 @@ every-call =
       master-delete = λ aid. lifted (field.deletion (field.masterDelete aid)) (λ c verdict. MasterDeleteAnswers c aid verdict) (λ c verdict. call-laws .master-delete c aid verdict);
       set-fall-back = λ aid. lifted (field.storeData (field.setFallBack aid)) (λ c verdict. SetFallBackAnswers c aid) (λ c verdict. call-laws .set-fall-back c aid);
       confirmation = λ number. lifted (field.storeData (field.confirmation number)) (λ c verdict. ConfirmationAnswers c number) (λ c verdict. call-laws .confirmation c number);
-      status-of-all = λ life attribute. lifted (field.getStatus (field.asked false [] life attribute)) (λ c verdict. StatusOfAllAnswers c life attribute) (λ c verdict. call-laws .status-of-all c life attribute);
-      status-of-next = λ life attribute. lifted (field.getStatus (field.asked true [] life attribute)) (λ c verdict. StatusOfNextAnswers c life attribute) (λ c verdict. call-laws .status-of-next c life attribute);
-      status-of-one = λ first rest life attribute. lifted (field.getStatus (field.asked false (first ∷ rest) life attribute)) (λ c verdict. StatusOfOneAnswers c (first ∷ rest) life attribute) (λ c verdict. call-laws .status-of-one c (first ∷ rest) life attribute);
+      status-of-all = λ life attribute. lifted (field.getStatus (field.inquiry false [] life attribute)) (λ c verdict. StatusOfAllAnswers c life attribute) (λ c verdict. call-laws .status-of-all c life attribute);
+      status-of-next = λ life attribute. lifted (field.getStatus (field.inquiry true [] life attribute)) (λ c verdict. StatusOfNextAnswers c life attribute) (λ c verdict. call-laws .status-of-next c life attribute);
+      status-of-one = λ first rest life attribute. lifted (field.getStatus (field.inquiry false (first ∷ rest) life attribute)) (λ c verdict. StatusOfOneAnswers c (first ∷ rest) life attribute) (λ c verdict. call-laws .status-of-one c (first ∷ rest) life attribute);
       get-data = lifted field.getData (λ c verdict. GetDataAnswers c) (λ c verdict. call-laws .get-data c);
       keyed = λ aid c e. subst (KeyedAnswers c aid) (keyed-works c aid) (call-laws .keyed c aid e);
       stored = λ aid n c e. subst (StoredAnswers c aid n) (stored-works c aid n) (call-laws .stored c aid n e);

@@ -6,13 +6,13 @@ use mathlib.Core.Bool.{true}
 use mathlib.Core.Option.{some}
 use Rattle.base_status.specs.Rows.{wordOf}
 use Rattle.base_choice.specs.Choice.{pick, atMost, isBelow, isSame}
-use Rattle.read_tlv.specs.Lists.{listWrong, listAt, listWithin, listOf, elementOf, restOf, closed}
+use Rattle.read_tlv.specs.Lists.{listWrong, listAt, listWithin, listOf, elementOf, restAfter, elementClosed}
 use Rattle.read_tlv.specs.Tlv.{tagAt, lengthAt, afterLength, afterTag, headAt, expectOf, expectAt}
 use Rattle.read_tlv.specs.Encoding.{window}
 use Rattle.read_elements.specs.Reader.{aloneAt}
 use Rattle.read_fields.specs.Delete.{verificationAt, deletionAt}
 use Rattle.read_fields.specs.GetStatus.{tagsAt, listingAt}
-use Rattle.read_fields.specs.StoreData.{dgiAt, namedBy, confirmationAt, storeDataAt}
+use Rattle.read_fields.specs.StoreData.{dgiAt, requestNamed, confirmationAt, storeDataAt}
 use Rattle.read_fields.specs.Grammar.{Wanted}
 use Rattle.read_install.specs.Parameters.{protocolsWithin, protocolsAt, numberAt, grantOf, memoryAt, parametersAt}
 use Rattle.read_install.specs.Install.{prefixedOf, prefixedAt, namesAt, rightsAt, installOf}
@@ -38,7 +38,7 @@ abbrev updating : List ℕ
 updating = 0x80 ∷ 0xE2 ∷ 0x88 ∷ 0x00 ∷ 0x06 ∷ 0x3A ∷ 0x06 ∷ 0x03 ∷ 0x81 ∷ 0x01 ∷ 0x02 ∷ []
 
 pub every-call-met : EveryCallMet
-unfolding updateOf policyOf policyAt policyWrong notStoreData readOf wordOf window lengthWrong classRight classWrong instructionWrong parametersRight parametersWrong shapeRight shapeWrong fieldOf dataWrong pick atMost isBelow isSame tagAt lengthAt afterLength afterTag headAt expectOf expectAt aloneAt verificationAt deletionAt tagsAt listingAt dgiAt namedBy confirmationAt storeDataAt protocolsWithin protocolsAt numberAt grantOf memoryAt parametersAt prefixedOf prefixedAt namesAt rightsAt installOf listWrong listAt listWithin listOf elementOf restOf closed
+unfolding updateOf policyOf policyAt policyWrong notStoreData readOf wordOf window lengthWrong classRight classWrong instructionWrong parametersRight parametersWrong shapeRight shapeWrong fieldOf dataWrong pick atMost isBelow isSame tagAt lengthAt afterLength afterTag headAt expectOf expectAt aloneAt verificationAt deletionAt tagsAt listingAt dgiAt requestNamed confirmationAt storeDataAt protocolsWithin protocolsAt numberAt grantOf memoryAt parametersAt prefixedOf prefixedAt namesAt rightsAt installOf listWrong listAt listWithin listOf elementOf restAfter elementClosed
 every-call-met =
     record {
       create = is-written (0x80 ∷ 0xE6 ∷ 0x0C ∷ 0x00 ∷ 0x22 ∷ 5 ∷ (aidEnding 2 ++ 5 ∷ (aidEnding 2 ++ 5 ∷ (aidEnding 5 ++ 1 ∷ 0x80 ∷ 0x0C ∷ 0xC9 ∷ 4 ∷ 0x81 ∷ 2 ∷ 3 ∷ 0x70 ∷ 0xEF ∷ 4 ∷ 0x83 ∷ 2 ∷ 0x02 ∷ 0x58 ∷ 0 ∷ [])))) _ refl refl;

@@ -14,13 +14,13 @@ use Rattle.card_places.specs.Places.{at}
 use Rattle.card_places.proofs.Lives.{enable-at, within}
 use Rattle.card_record.specs.Cards.{isQuiet, onFallback}
 use Rattle.card_record.specs.Sound.{sound}
-use Rattle.card_record.specs.Clock.{nextOf, tickIn, tickOf}
+use Rattle.card_record.specs.Clock.{nextNumber, tickIn, tickOf}
 use Rattle.card_record.specs.declared.Card.{Card}
 use Rattle.card_record.specs.declared.Phase.{Phase}
 use Rattle.card_record.specs.declared.Phase.the-variants.{Quiet, Trial, Back, Fallen}
 use Rattle.card_record.proofs.Sounds.{Phased, Sound, parts, choose, tick-sound, nonzero, resort-nonzero}
 use Rattle.card_places.proofs.Numbered.{only}
-use Rattle.rule_run.specs.Calls.{Call, Call.Command, Call.Keyed, Call.Stored, Call.Finished, Call.Tick, Call.Lost, Call.Policy, asked}
+use Rattle.rule_run.specs.Calls.{Call, Call.Command, Call.Keyed, Call.Stored, Call.Finished, Call.Tick, Call.Lost, Call.PolicyUpdate, asked}
 use Rattle.rule_run.specs.Step.{step, run}
 use Rattle.rule_run.proofs.Kept.{step-sound}
 use Rattle.rule_run.specs.Runs.{isTick, isConfirmation, confirms, ticksAmong}
@@ -62,7 +62,7 @@ module _ (g p f : ℕ) where
       (choose (Ticked g p f (suc k)) (ltb 1 l) _ _
       (λ b. let m = ltb-true 1 l b in goes (trial (l - 1) n refl (omega arith) v))
       (λ b. let m = ltb-false 1 l b in
-      goes (back wait (nextOf (c .last)) refl (omega arith) (eq-eqb _ _ (enable-at (c .places) p (within (c .places) p (nonzero _ 30 (h .1))))))))
+      goes (back wait (nextNumber (c .last)) refl (omega arith) (eq-eqb _ _ (enable-at (c .places) p (within (c .places) p (nonzero _ 30 (h .1))))))))
 
   from-back : (k : ℕ) (c : Card) (l n : ℕ) → Sound c → c .fallback ≡ f → c .phase ≡ Back l n → l + k ≡ 20 → Holds c p → Ticked g p f (suc k) (tickOf c)
   unfolding tickOf
@@ -75,7 +75,7 @@ module _ (g p f : ℕ) where
       (λ t. let m = ltb-false 1 l t in
       choose (Ticked g p f (suc k)) (onFallback c) _ _
       (λ e. ends refl (rw b at e) (rw (eq-eqb p f (only (c .places) p (c .fallback) (s .roles .one) v e ∙ b)) (omega arith)))
-      (λ e. goes (fallen wait (nextOf (c .last)) (ne-eqb p f (λ q. false≢true (sym e ∙ ap (λ (i : ℕ). isEnabled (at (c .places) i)) (b ∙ sym q) ∙ v))) refl (omega arith)
+      (λ e. goes (fallen wait (nextNumber (c .last)) (ne-eqb p f (λ q. false≢true (sym e ∙ ap (λ (i : ℕ). isEnabled (at (c .places) i)) (b ∙ sym q) ∙ v))) refl (omega arith)
       (rw (← b) (eq-eqb _ _ (enable-at (c .places) (c .fallback) (within (c .places) (c .fallback) (resort-nonzero c s)))))))))
 
   from-fallen : (k : ℕ) (c : Card) (l n : ℕ) → eqb p f ≡ false → Sound c → c .phase ≡ Fallen l n → l + k ≡ 30 → Holds c f → Ticked g p f (suc k) (tickOf c)
@@ -171,7 +171,7 @@ module _ (g p f : ℕ) where
   led k c (Finished aid policy mark) w = led-other k c (Finished aid policy mark) refl _ refl w
   led k c Tick w = led-tick k c w
   led k c Lost w = led-other k c Lost refl _ refl w
-  led k c (Policy speaker s room) w = led-other k c (Policy speaker s room) refl _ refl w
+  led k c (PolicyUpdate speaker s room) w = led-other k c (PolicyUpdate speaker s room) refl _ refl w
 
   led-on : (k : ℕ) (d : Card) (t b r : Bool) → Led g p f k d t b → (not (isQuiet (d .phase)) && r) ≡ true → Known g p f (cond t 1 0 + k) d
   led-on k d t b r (open-still x) e = x

@@ -13,7 +13,7 @@ use Rattle.card_record.proofs.Outcomes.{decide-ticks}
 use Rattle.card_record.proofs.Freshness.{fresh-sound}
 use Rattle.rule_steps.specs.Steps.{stepOf, responseOf}
 use Rattle.rule_run.specs.Calls.{Call, Call.Lost, asked}
-use Rattle.rule_run.specs.Step.{step, run}
+use Rattle.rule_run.specs.Step.{step, stepBy, run}
 use Rattle.rule_run.proofs.Kept.{took-sound, step-sound, run-sound}
 use Rattle.proof_demands.specs.Change.{Change, LostChange}
 use Rattle.rule_run.specs.Runs.{tableWord}
@@ -44,7 +44,7 @@ lost-retold : (f : List ℕ) (r s : List Call → Card) → ((calls : List Call)
 lost-retold f r s e x = coe 0 1 (i. LostChange f (λ calls. e calls i)) x
 
 step-ticks : (c : Card) (call : Call) → sound c ≡ true → step c call .ticks ≡ ticksToCome (step c call .card)
-unfolding step
+unfolding stepBy
 step-ticks c call s =
     let e = decide-ticks c (tableWord c call) (stepOf c (asked c call)) (responseOf c (asked c call)) (took-sound c call) in
     let k : sound (step c call .card) ≡ true = step-sound c call s in

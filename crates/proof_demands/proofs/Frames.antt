@@ -16,7 +16,7 @@ use Rattle.card_places.specs.Places.{at}
 use Rattle.card_places.proofs.Sets.{set-unseen}
 use Rattle.card_record.specs.Cards.{noPlace, keeping, forgotten, isQuiet, placeOf, profileOf, withPlaces, withPhase}
 use Rattle.card_record.specs.Sound.{sound}
-use Rattle.card_record.specs.Clock.{outstanding, dropped, tickOf, lostOf, confirmIn, confirmOf}
+use Rattle.card_record.specs.Clock.{outstanding, dropped, tickOf, withoutNetwork, confirmIn, confirmOf}
 use Rattle.card_record.specs.Steps.{tickStep, lostStep, confirmStep}
 use Rattle.card_record.specs.Answers.{accepted}
 use Rattle.card_record.specs.declared.Card.{Card}
@@ -36,9 +36,9 @@ use Rattle.read_operator.specs.declared.Policy.the-variants as policy
 use Rattle.rule_steps.specs.Asked.{Act, Act.enable, Act.disable, Act.delete, Act.masterDelete, Act.setFallBack, Act.status, Act.keyed, Act.stored, Act.finished, Act.setPolicy, Asked, Asked.unread, Asked.create, Asked.on, Asked.confirm, Asked.statusOfAll, Asked.getData, Asked.tick, Asked.lost}
 use Rattle.rule_steps.specs.Steps.{goesOnAt, stepOf, responseOf}
 use Rattle.rule_run.proofs.Taken.{card-passed}
-use Rattle.rule_run.specs.Calls.{Call, Call.Command, Call.Keyed, Call.Stored, Call.Finished, Call.Tick, Call.Lost, Call.Policy, asked, requestAsks, fieldAsks, policyAsks}
+use Rattle.rule_run.specs.Calls.{Call, Call.Command, Call.Keyed, Call.Stored, Call.Finished, Call.Tick, Call.Lost, Call.PolicyUpdate, asked, requestAsks, fieldAsks, policyAsks}
 use Rattle.rule_run.specs.Table.{table}
-use Rattle.rule_run.specs.Step.{step}
+use Rattle.rule_run.specs.Step.{step, stepBy}
 use Rattle.rule_run.specs.Runs.{taken, isTick, isConfirmation, tableWord}
 use Rattle.proof_demands.specs.Change.{Unmoved, Frame, OnlyOutstanding}
 
@@ -57,8 +57,8 @@ rewritten-same c i x e n =
 open-row : (c : Card) → isQuiet (c .phase) ≡ false → not (isQuiet (c .phase)) ≡ false → ⊥
 open-row c o h = false≢true (sym o ∙ not-false _ h)
 
-lost-open : (c : Card) → isQuiet (c .phase) ≡ false → lostOf c ≡ forgotten c
-unfolding lostOf
+lost-open : (c : Card) → isQuiet (c .phase) ≡ false → withoutNetwork c ≡ forgotten c
+unfolding withoutNetwork
 lost-open c o = rw o
 
 abbrev isTicking : Asked → Bool
@@ -125,7 +125,7 @@ only-tick c (Stored aid n) e = refl
 only-tick c (Finished aid policy mark) e = refl
 only-tick c Tick e = absurd (false≢true (sym e))
 only-tick c Lost e = refl
-only-tick c (Policy speaker s room) e = policy-ticks speaker (policyOf s)
+only-tick c (PolicyUpdate speaker s room) e = policy-ticks speaker (policyOf s)
 
 not-asked : (a b : Bool) → (a && b) ≡ false → b ≡ true → a ≡ false
 not-asked true true e h = e
@@ -133,7 +133,7 @@ not-asked true false e h = absurd (false≢true h)
 not-asked false b e h = refl
 
 pub frame : Frame
-unfolding step
+unfolding stepBy
 frame c call s o e =
     decide-card (Unmoved c) c (tableWord c call) (stepOf c (asked c call)) (responseOf c (asked c call))
     (λ d. asked-same c (asked c call) o (only-tick c call (or-l (isTick call) _ e)) (not-asked (isConfirmation (asked c call)) (taken c call) (or-r (isTick call) _ e) d) (card-passed c call d))
@@ -141,7 +141,7 @@ frame c call s o e =
 
 -- a tick ticks
 pub tick-step : (c : Card) → sound c ≡ true → step c Tick .card ≡ tickOf c
-unfolding step wordOf accepted tickStep
+unfolding stepBy wordOf accepted tickStep
 tick-step c s = rw s
 
 -- the confirmation of the outstanding number closes the change, and the enabled profile stays
@@ -185,7 +185,7 @@ confirm-card c lost e = absurd (false≢true e)
 
 -- an accepted call takes its step
 pub taken-step : (c : Card) (call : Call) → taken c call ≡ true → step c call .card ≡ stepOf c (asked c call) .card
-unfolding step accepted
+unfolding stepBy accepted
 taken-step c call e = rw e
 
 pub confirm-does : (c : Card) (call : Call) → sound c ≡ true → isConfirmation (asked c call) ≡ true → taken c call ≡ true → Closed c (step c call .card)

@@ -20,7 +20,7 @@ use Rattle.read_operator.proofs.Words.{two-rows}
 use Rattle.rule_steps.specs.Conditions.{changeWrong, targetMissing, alreadyHeld, stateWrong, policyForbids, verdictWrong, noRoom}
 use Rattle.rule_steps.specs.Steps.{successOf}
 use Rattle.rule_steps.proofs.Successes.{success-done}
-use Rattle.rule_run.specs.Calls.{Call, Call.Command, Call.Policy, asked}
+use Rattle.rule_run.specs.Calls.{Call, Call.Command, Call.PolicyUpdate, asked}
 use Rattle.rule_run.specs.Table.{valuesWrong}
 use Rattle.rule_run.proofs.Words.{word-is}
 use Rattle.proof_demands.specs.Framing.{laterWords, FramingAnswered}
@@ -112,7 +112,7 @@ framing-answered =
                 ∙ rw (class-in-numbers s b, header-bytes .known s b, header-bytes .right s b, shape-in-numbers s) refl;
           };
       update = λ c speaker s room b.
-          let call = Policy speaker s room in
+          let call = PolicyUpdate speaker s room in
           let rest = numberOf (wordOf (successOf c (asked c call)) (laterRows c call)) in
           record {
             otherwise = rest;

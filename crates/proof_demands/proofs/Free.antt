@@ -25,7 +25,7 @@ use Rattle.card_places.proofs.Lives.{enable-lives, within}
 use Rattle.card_places.proofs.Sets.{all-at}
 use Rattle.card_record.specs.Cards.{freeIn, isQuiet, placeOf, profileOf, freePlace, onFallback, withPhase, cleared}
 use Rattle.card_record.specs.Sound.{sound}
-use Rattle.card_record.specs.Clock.{tickIn, tickOf, lostOf, dropped, confirmIn, confirmOf}
+use Rattle.card_record.specs.Clock.{tickIn, tickOf, withoutNetwork, dropped, confirmIn, confirmOf}
 use Rattle.card_record.specs.Steps.{stepTo, tickStep, lostStep, confirmStep, goneIn}
 use Rattle.card_record.specs.Answers.{accepted}
 use Rattle.card_record.specs.Fresh.{zeroCard, freshCard, freshOk, freshOutcome}
@@ -82,7 +82,7 @@ module _ (c : Card) where
   act-capacity aid (setPolicy policy) = refl
 
   asks-capacity : (a : Asked) → As (stepOf c a .card)
-  unfolding tickStep lostStep confirmStep tickOf lostOf confirmOf
+  unfolding tickStep lostStep confirmStep tickOf withoutNetwork confirmOf
   asks-capacity unread = refl
   asks-capacity (create aid quota) = refl
   asks-capacity (on aid a) = act-capacity aid a

@@ -28,11 +28,11 @@ use Rattle.card_record.specs.Fresh.{freshCard, freshOutcome}
 use Rattle.card_record.specs.declared.Card.{Card}
 use Rattle.card_record.specs.declared.Phase.the-variants.{Trial}
 use Rattle.base_choice.specs.Choice.{pick, atMost, isBelow, isSame}
-use Rattle.read_tlv.specs.Lists.{listWrong, listAt, listWithin, listOf, elementOf, restOf, closed}
+use Rattle.read_tlv.specs.Lists.{listWrong, listAt, listWithin, listOf, elementOf, restAfter, elementClosed}
 use Rattle.read_tlv.specs.Tlv.{tagAt, lengthAt, afterLength, afterTag, headAt, expectOf, expectAt}
 use Rattle.read_tlv.specs.Encoding.{window, Bytes}
 use Rattle.read_elements.specs.Reader.{aloneAt}
-use Rattle.read_fields.specs.StoreData.{dgiAt, namedBy, confirmationAt, storeDataAt}
+use Rattle.read_fields.specs.StoreData.{dgiAt, requestNamed, confirmationAt, storeDataAt}
 use Rattle.read_fields.specs.Grammar.{confirmation, Created, Wanted}
 use Rattle.read_fields.specs.Grammar as written
 use Rattle.read_install.specs.Parameters.{protocolsWithin, protocolsAt, numberAt, grantOf, memoryAt, parametersAt}
@@ -43,7 +43,7 @@ use Rattle.read_command.specs.Grammar.{readAs, Encodes}
 use Rattle.read_command.specs.Reading.{readOf}
 use Rattle.read_command.proofs.Written.{command-written}
 use Rattle.rule_run.specs.Calls.{Call.Command, Call.Tick}
-use Rattle.rule_run.specs.Step.{step}
+use Rattle.rule_run.specs.Step.{step, stepBy}
 use Rattle.proof_demands.specs.Demand1.{Demand1Met}
 use Rattle.proof_demands.specs.Demand2.{Demand2Met}
 use Rattle.proof_demands.specs.Ticks.{TicksMet}
@@ -94,7 +94,7 @@ trial =
     (withMark (made (aidEnding 1) enabled 100 0) 1 ∷ made (aidEnding 2) disabled 100 1 ∷ replicate (mostPlaces - 2) vacant)
 
 pub ticks-met : TicksMet
-unfolding step wordOf accepted tickStep tickOf ticksToCome stepsIn enableAt allOff sound phaseOk allOf placeOk zeros padded distinct anyOf clash isFor countOf quotas sameBytes
+unfolding stepBy wordOf accepted tickStep tickOf ticksToCome stepsIn enableAt allOff sound phaseOk allOf placeOk zeros padded distinct anyOf clash isFor countOf quotas sameBytes
 ticks-met = record { card = trial; call = Tick; card-sound = refl; figure = refl }
 
 -- a create of 02 with 50 bytes
@@ -120,7 +120,7 @@ pub encodes : (s : List ℕ) (capacity : ℕ) (w : Wanted) → smallBytes s ≡ 
 encodes s capacity w b e = command-written s capacity w (bytes-of s b) e
 
 reads : (readAs createBytes (readOf createBytes 1000) ≡ some (written.create asks)) × (readAs createBytes (readOf createBytes 100) ≡ some (written.create asks))
-unfolding readOf wordOf window lengthWrong classRight classWrong instructionWrong parametersRight parametersWrong shapeRight shapeWrong fieldOf dataWrong pick atMost isBelow isSame tagAt lengthAt afterLength afterTag headAt expectOf expectAt protocolsWithin protocolsAt numberAt grantOf memoryAt parametersAt prefixedOf prefixedAt namesAt rightsAt installOf listWrong listAt listWithin listOf elementOf restOf closed aloneAt
+unfolding readOf wordOf window lengthWrong classRight classWrong instructionWrong parametersRight parametersWrong shapeRight shapeWrong fieldOf dataWrong pick atMost isBelow isSame tagAt lengthAt afterLength afterTag headAt expectOf expectAt protocolsWithin protocolsAt numberAt grantOf memoryAt parametersAt prefixedOf prefixedAt namesAt rightsAt installOf listWrong listAt listWithin listOf elementOf restAfter elementClosed aloneAt
 reads = (refl, refl)
 
 request-on : (capacity : ℕ) → sound (freshOf capacity) ≡ true → readAs createBytes (readOf createBytes capacity) ≡ some (written.create asks) → SoundRequest (freshOf capacity) createBytes 256 asks
@@ -150,7 +150,7 @@ abbrev confirmBytes : ℕ → List ℕ
 confirmBytes n = 0x80 ∷ 0xE2 ∷ 0x89 ∷ 0x00 ∷ 0x07 ∷ 0x3A ∷ 0x08 ∷ 0x04 ∷ 0x4E ∷ 0x02 ∷ 0 ∷ n ∷ 0x00 ∷ []
 
 confirm-reads : (readAs (confirmBytes 1) (readOf (confirmBytes 1) 1000) ≡ some (written.storeData (confirmation 1))) × (readAs (confirmBytes 2) (readOf (confirmBytes 2) 1000) ≡ some (written.storeData (confirmation 2)))
-unfolding readOf wordOf window lengthWrong classRight classWrong instructionWrong parametersRight parametersWrong shapeRight shapeWrong fieldOf dataWrong pick atMost isBelow isSame tagAt lengthAt afterLength afterTag headAt expectOf expectAt aloneAt dgiAt namedBy confirmationAt storeDataAt listWrong listAt listWithin listOf elementOf restOf closed
+unfolding readOf wordOf window lengthWrong classRight classWrong instructionWrong parametersRight parametersWrong shapeRight shapeWrong fieldOf dataWrong pick atMost isBelow isSame tagAt lengthAt afterLength afterTag headAt expectOf expectAt aloneAt dgiAt requestNamed confirmationAt storeDataAt listWrong listAt listWithin listOf elementOf restAfter elementClosed
 confirm-reads = (refl, refl)
 
 trial-sound : sound trial ≡ true

@@ -33,9 +33,9 @@ use Rattle.rule_steps.specs.Steps.{successOf, stepOf, responseOf}
 use Rattle.read_operator.specs.Field.{policyOf}
 use Rattle.read_operator.specs.declared.Policy as operator
 use Rattle.read_operator.specs.declared.Policy.the-variants as policy
-use Rattle.rule_run.specs.Calls.{Call, Call.Command, Call.Keyed, Call.Stored, Call.Finished, Call.Tick, Call.Lost, Call.Policy, requestAsks, fieldAsks, policyAsks, asked}
+use Rattle.rule_run.specs.Calls.{Call, Call.Command, Call.Keyed, Call.Stored, Call.Finished, Call.Tick, Call.Lost, Call.PolicyUpdate, requestAsks, fieldAsks, policyAsks, asked}
 use Rattle.rule_run.specs.Table.{bufferShort, inCommand, instructionUnknown, valuesWrong, table}
-use Rattle.rule_run.specs.Step.{step, run}
+use Rattle.rule_run.specs.Step.{step, stepBy, run}
 use Rattle.rule_run.proofs.Kept.{step-sound, run-sound}
 use Rattle.rule_run.specs.Runs.{tableWord}
 use Rattle.proof_demands.specs.Said.{Said, said, Exchange, exchanges}
@@ -72,7 +72,7 @@ call-spares a c (Stored aid m) n = n
 call-spares a c (Finished aid policy mark) n = n
 call-spares a c Tick n = refl
 call-spares a c Lost n = refl
-call-spares a c (Policy speaker s room) n = policy-spares a speaker (policyOf s)
+call-spares a c (PolicyUpdate speaker s room) n = policy-spares a speaker (policyOf s)
 
 -- what is read of a call
 asked-same : (i u : ℕ) (c : Card) (call : Call) → asked (reuseAt i u c) call ≡ asked c call
@@ -82,7 +82,7 @@ asked-same i u c (Stored aid n) = refl
 asked-same i u c (Finished aid policy mark) = refl
 asked-same i u c Tick = refl
 asked-same i u c Lost = refl
-asked-same i u c (Policy speaker s room) = refl
+asked-same i u c (PolicyUpdate speaker s room) = refl
 
 values-same : (i u : ℕ) (c : Card) (call : Call) → valuesWrong (reuseAt i u c) call ≡ valuesWrong c call
 values-same i u c (Command verdict s room) = refl
@@ -91,7 +91,7 @@ values-same i u c (Stored aid n) = refl
 values-same i u c (Finished aid policy mark) = refl
 values-same i u c Tick = refl
 values-same i u c Lost = refl
-values-same i u c (Policy speaker s room) = refl
+values-same i u c (PolicyUpdate speaker s room) = refl
 
 -- the table, of its conditions on the card and its rows at the end
 abbrev rowsWith : Call → Bool → Bool → List Row → List Row
@@ -122,7 +122,7 @@ outcome-alike : (d : Card) (w v : Status) (x y : Asked) (rsp : List ℕ) → w �
 outcome-alike d w v x y rsp e f g = rw (e, f, g)
 
 step-alike : (a : List ℕ) (i u : ℕ) (c : Card) (call : Call) → sound c ≡ true → sound (reuseAt i u c) ≡ true → isFor a (at (c .places) i) ≡ true → not (fills a call) ≡ true → Alike a i (step c call) (step (reuseAt i u c) call)
-unfolding step
+unfolding stepBy
 step-alike a i u c call e f b n =
     let x = asked c call in
     let k = call-spares a c call n in

@@ -42,7 +42,7 @@ use Rattle.proof_demands.specs.Listing.{Lists, Whole, Whole.ends, Whole.
 
 -- a call for rows is answered as what it asks
 lists-answered : (c : Card) (next life shown : Bool) (call : Call) → Lists next life shown c call → step c call ≡ outcome c (askedWork c (statusOfAll next life shown))
-lists-answered c next life shown _ (commands verdict s room h encoded) = written-answered c verdict s room (field.getStatus (field.asked next [] life shown)) h encoded
+lists-answered c next life shown _ (commands verdict s room h encoded) = written-answered c verdict s room (field.getStatus (field.inquiry next [] life shown)) h encoded
 
 more-not-done : _≡_ {A = Status} More Done → ⊥
 more-not-done e = let z : _≡_ {A = ℕ} 0x6310 0x9000 = ap numberOf e in absurd (omega arith)

@@ -13,20 +13,20 @@ use Rattle.card_isdp.specs.Aids.{padded}
 use Rattle.card_isdp.specs.Place.{isFor, clash, zeros, placeOk}
 use Rattle.card_places.specs.Places.{seek, quotas, allOf, anyOf, countOf, distinct, allOff, enableAt}
 use Rattle.card_record.specs.Sound.{phaseOk, sound}
-use Rattle.card_record.specs.Clock.{tickOf, lostOf, confirmOf}
+use Rattle.card_record.specs.Clock.{tickOf, withoutNetwork, confirmOf}
 use Rattle.card_record.specs.Steps.{tickStep, lostStep, confirmStep}
 use Rattle.card_record.specs.Notifications.{noticeSince}
 use Rattle.card_record.specs.Ticks.{stepsIn, ticksToCome}
 use Rattle.card_record.specs.Answers.{refused, accepted}
 use Rattle.card_record.specs.Fresh.{freshOutcome}
 use Rattle.base_choice.specs.Choice.{pick, atMost, isBelow, isSame}
-use Rattle.read_tlv.specs.Lists.{listWrong, listAt, listWithin, listOf, elementOf, restOf, closed}
+use Rattle.read_tlv.specs.Lists.{listWrong, listAt, listWithin, listOf, elementOf, restAfter, elementClosed}
 use Rattle.read_tlv.specs.Tlv.{tagAt, lengthAt, afterLength, afterTag, headAt, expectOf, expectAt}
 use Rattle.read_tlv.specs.Encoding.{window}
 use Rattle.read_elements.specs.Reader.{aloneAt}
-use Rattle.read_fields.specs.StoreData.{dgiAt, confirmationAt, namedBy, storeDataAt}
+use Rattle.read_fields.specs.StoreData.{dgiAt, confirmationAt, requestNamed, storeDataAt}
 use Rattle.read_fields.specs.Delete.{verificationAt, deletionAt}
-use Rattle.read_fields.specs.GetStatus.{noted, listedWithin, listedAt, tagsAt, listingAt}
+use Rattle.read_fields.specs.GetStatus.{tagNoted, listedWithin, listedAt, tagsAt, listingAt}
 use Rattle.read_fields.specs.Grammar.{Wanted}
 use Rattle.read_install.specs.Parameters.{protocolsWithin, protocolsAt, numberAt, grantOf, memoryAt, parametersAt}
 use Rattle.read_install.specs.Install.{prefixedOf, prefixedAt, namesAt, rightsAt, installOf}
@@ -34,8 +34,8 @@ use Rattle.read_frame.specs.Framing.{lengthWrong, classRight, classWrong, instr
 use Rattle.read_command.specs.Requests.{fieldOf, dataWrong}
 use Rattle.read_command.specs.Grammar.{readAs}
 use Rattle.read_command.specs.Reading.{readOf}
-use Rattle.rule_responses.specs.Responses.{rowsFrom, listingFrom, listing, statusBody, statusRow, rowOf, partFrom, leftFrom, partGiven, leftAfter, oneStatus, dataResponse, deletedResponse}
-use Rattle.rule_run.specs.Step.{step}
+use Rattle.rule_responses.specs.Responses.{rowsFrom, listingFrom, listing, statusBody, statusRow, rowOf, partFrom, nextRowFrom, partGiven, nextRowAfter, oneStatus, dataResponse, deletedResponse}
+use Rattle.rule_run.specs.Step.{step, stepBy}
 use Rattle.rule_run.specs.Calls.{Call.Command}
 use Rattle.proof_demands.specs.Room.{Writes, Writes.commands}
 use Rattle.proof_demands.specs.Listing.{Lists, Whole, Whole.ends, Whole.goes-on, Whole.between, joined, PartsJoin, profilesFrom, crowded, getFirst, getNext, ListingMet, goingOnAt, ListingsRefuted}
@@ -45,15 +45,15 @@ writes : (s : List ℕ) (w : Wanted) → smallBytes s ≡ true → readAs s (rea
 writes s w b e = commands 0 s 256 (omega arith) (encodes s 1000 w b e)
 
 first : Lists false true true crowded getFirst
-unfolding step wordOf sameBytes padded isFor clash zeros placeOk seek quotas allOf anyOf countOf distinct allOff enableAt phaseOk sound tickOf lostOf confirmOf tickStep lostStep confirmStep noticeSince stepsIn ticksToCome refused accepted freshOutcome pick atMost isBelow isSame tagAt lengthAt afterLength afterTag headAt expectOf expectAt aloneAt dgiAt confirmationAt namedBy storeDataAt verificationAt deletionAt noted listedWithin listedAt tagsAt listingAt protocolsWithin protocolsAt numberAt grantOf memoryAt parametersAt prefixedOf prefixedAt namesAt rightsAt installOf lengthWrong classRight classWrong instructionWrong parametersRight parametersWrong shapeRight shapeWrong fieldOf dataWrong statusBody statusRow rowOf partFrom leftFrom partGiven leftAfter oneStatus dataResponse deletedResponse listWrong listAt listWithin listOf elementOf restOf closed readOf window
+unfolding stepBy wordOf sameBytes padded isFor clash zeros placeOk seek quotas allOf anyOf countOf distinct allOff enableAt phaseOk sound tickOf withoutNetwork confirmOf tickStep lostStep confirmStep noticeSince stepsIn ticksToCome refused accepted freshOutcome pick atMost isBelow isSame tagAt lengthAt afterLength afterTag headAt expectOf expectAt aloneAt dgiAt confirmationAt requestNamed storeDataAt verificationAt deletionAt tagNoted listedWithin listedAt tagsAt listingAt protocolsWithin protocolsAt numberAt grantOf memoryAt parametersAt prefixedOf prefixedAt namesAt rightsAt installOf lengthWrong classRight classWrong instructionWrong parametersRight parametersWrong shapeRight shapeWrong fieldOf dataWrong statusBody statusRow rowOf partFrom nextRowFrom partGiven nextRowAfter oneStatus dataResponse deletedResponse listWrong listAt listWithin listOf elementOf restAfter elementClosed readOf window
 first = writes _ _ refl refl
 
 next : Lists true true true crowded getNext
-unfolding step wordOf sameBytes padded isFor clash zeros placeOk seek quotas allOf anyOf countOf distinct allOff enableAt phaseOk sound tickOf lostOf confirmOf tickStep lostStep confirmStep noticeSince stepsIn ticksToCome refused accepted freshOutcome pick atMost isBelow isSame tagAt lengthAt afterLength afterTag headAt expectOf expectAt aloneAt dgiAt confirmationAt namedBy storeDataAt verificationAt deletionAt noted listedWithin listedAt tagsAt listingAt protocolsWithin protocolsAt numberAt grantOf memoryAt parametersAt prefixedOf prefixedAt namesAt rightsAt installOf lengthWrong classRight classWrong instructionWrong parametersRight parametersWrong shapeRight shapeWrong fieldOf dataWrong statusBody statusRow rowOf partFrom leftFrom partGiven leftAfter oneStatus dataResponse deletedResponse listWrong listAt listWithin listOf elementOf restOf closed readOf window
+unfolding stepBy wordOf sameBytes padded isFor clash zeros placeOk seek quotas allOf anyOf countOf distinct allOff enableAt phaseOk sound tickOf withoutNetwork confirmOf tickStep lostStep confirmStep noticeSince stepsIn ticksToCome refused accepted freshOutcome pick atMost isBelow isSame tagAt lengthAt afterLength afterTag headAt expectOf expectAt aloneAt dgiAt confirmationAt requestNamed storeDataAt verificationAt deletionAt tagNoted listedWithin listedAt tagsAt listingAt protocolsWithin protocolsAt numberAt grantOf memoryAt parametersAt prefixedOf prefixedAt namesAt rightsAt installOf lengthWrong classRight classWrong instructionWrong parametersRight parametersWrong shapeRight shapeWrong fieldOf dataWrong statusBody statusRow rowOf partFrom nextRowFrom partGiven nextRowAfter oneStatus dataResponse deletedResponse listWrong listAt listWithin listOf elementOf restAfter elementClosed readOf window
 next = writes _ _ refl refl
 
 pub listing-met : ListingMet
-unfolding joined profilesFrom step wordOf sameBytes padded isFor clash zeros placeOk seek quotas allOf anyOf countOf distinct allOff enableAt phaseOk sound tickOf lostOf confirmOf tickStep lostStep confirmStep noticeSince stepsIn ticksToCome refused accepted freshOutcome pick atMost isBelow isSame tagAt lengthAt afterLength afterTag headAt expectOf expectAt aloneAt dgiAt confirmationAt namedBy storeDataAt verificationAt deletionAt noted listedWithin listedAt tagsAt listingAt protocolsWithin protocolsAt numberAt grantOf memoryAt parametersAt prefixedOf prefixedAt namesAt rightsAt installOf lengthWrong classRight classWrong instructionWrong parametersRight parametersWrong shapeRight shapeWrong fieldOf dataWrong statusBody statusRow rowOf partFrom leftFrom partGiven leftAfter oneStatus dataResponse deletedResponse listWrong listAt listWithin listOf elementOf restOf closed readOf window
+unfolding joined profilesFrom stepBy wordOf sameBytes padded isFor clash zeros placeOk seek quotas allOf anyOf countOf distinct allOff enableAt phaseOk sound tickOf withoutNetwork confirmOf tickStep lostStep confirmStep noticeSince stepsIn ticksToCome refused accepted freshOutcome pick atMost isBelow isSame tagAt lengthAt afterLength afterTag headAt expectOf expectAt aloneAt dgiAt confirmationAt requestNamed storeDataAt verificationAt deletionAt tagNoted listedWithin listedAt tagsAt listingAt protocolsWithin protocolsAt numberAt grantOf memoryAt parametersAt prefixedOf prefixedAt namesAt rightsAt installOf lengthWrong classRight classWrong instructionWrong parametersRight parametersWrong shapeRight shapeWrong fieldOf dataWrong statusBody statusRow rowOf partFrom nextRowFrom partGiven nextRowAfter oneStatus dataResponse deletedResponse listWrong listAt listWithin listOf elementOf restAfter elementClosed readOf window
 listing-met =
     record {
       is-sound = refl;
@@ -62,7 +62,7 @@ listing-met =
     }
 
 whole-length : length (listing crowded true true) ≡ 272
-unfolding profilesFrom listingFrom rowsFrom step wordOf sameBytes padded isFor clash zeros placeOk seek quotas allOf anyOf countOf distinct allOff enableAt phaseOk sound tickOf lostOf confirmOf tickStep lostStep confirmStep noticeSince stepsIn ticksToCome refused accepted freshOutcome pick atMost isBelow isSame tagAt lengthAt afterLength afterTag headAt expectOf expectAt aloneAt dgiAt confirmationAt namedBy storeDataAt verificationAt deletionAt noted listedWithin listedAt tagsAt listingAt protocolsWithin protocolsAt numberAt grantOf memoryAt parametersAt prefixedOf prefixedAt namesAt rightsAt installOf lengthWrong classRight classWrong instructionWrong parametersRight parametersWrong shapeRight shapeWrong fieldOf dataWrong statusBody statusRow rowOf partFrom leftFrom partGiven leftAfter oneStatus dataResponse deletedResponse listWrong listAt listWithin listOf elementOf restOf closed readOf window
+unfolding profilesFrom listingFrom rowsFrom stepBy wordOf sameBytes padded isFor clash zeros placeOk seek quotas allOf anyOf countOf distinct allOff enableAt phaseOk sound tickOf withoutNetwork confirmOf tickStep lostStep confirmStep noticeSince stepsIn ticksToCome refused accepted freshOutcome pick atMost isBelow isSame tagAt lengthAt afterLength afterTag headAt expectOf expectAt aloneAt dgiAt confirmationAt requestNamed storeDataAt verificationAt deletionAt tagNoted listedWithin listedAt tagsAt listingAt protocolsWithin protocolsAt numberAt grantOf memoryAt parametersAt prefixedOf prefixedAt namesAt rightsAt installOf lengthWrong classRight classWrong instructionWrong parametersRight parametersWrong shapeRight shapeWrong fieldOf dataWrong statusBody statusRow rowOf partFrom nextRowFrom partGiven nextRowAfter oneStatus dataResponse deletedResponse listWrong listAt listWithin listOf elementOf restAfter elementClosed readOf window
 whole-length = refl
 
 -- fifteen rows and one, or fifteen and three
@@ -72,7 +72,7 @@ other place n w e f p =
     f (sym e ∙ ap length (j .the-listing) ∙ whole-length)
 
 pub listings-refuted : ListingsRefuted
-unfolding joined profilesFrom step wordOf sameBytes padded isFor clash zeros placeOk seek quotas allOf anyOf countOf distinct allOff enableAt phaseOk sound tickOf lostOf confirmOf tickStep lostStep confirmStep noticeSince stepsIn ticksToCome refused accepted freshOutcome pick atMost isBelow isSame tagAt lengthAt afterLength afterTag headAt expectOf expectAt aloneAt dgiAt confirmationAt namedBy storeDataAt verificationAt deletionAt noted listedWithin listedAt tagsAt listingAt protocolsWithin protocolsAt numberAt grantOf memoryAt parametersAt prefixedOf prefixedAt namesAt rightsAt installOf lengthWrong classRight classWrong instructionWrong parametersRight parametersWrong shapeRight shapeWrong fieldOf dataWrong statusBody statusRow rowOf partFrom leftFrom partGiven leftAfter oneStatus dataResponse deletedResponse listWrong listAt listWithin listOf elementOf restOf closed readOf window
+unfolding joined profilesFrom stepBy wordOf sameBytes padded isFor clash zeros placeOk seek quotas allOf anyOf countOf distinct allOff enableAt phaseOk sound tickOf withoutNetwork confirmOf tickStep lostStep confirmStep noticeSince stepsIn ticksToCome refused accepted freshOutcome pick atMost isBelow isSame tagAt lengthAt afterLength afterTag headAt expectOf expectAt aloneAt dgiAt confirmationAt requestNamed storeDataAt verificationAt deletionAt tagNoted listedWithin listedAt tagsAt listingAt protocolsWithin protocolsAt numberAt grantOf memoryAt parametersAt prefixedOf prefixedAt namesAt rightsAt installOf lengthWrong classRight classWrong instructionWrong parametersRight parametersWrong shapeRight shapeWrong fieldOf dataWrong statusBody statusRow rowOf partFrom nextRowFrom partGiven nextRowAfter oneStatus dataResponse deletedResponse listWrong listAt listWithin listOf elementOf restAfter elementClosed readOf window
 listings-refuted =
     record {
       skips-a-row = other suc 256 (goes-on first refl (ends next refl)) refl (λ e. omega arith);

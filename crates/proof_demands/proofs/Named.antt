@@ -19,7 +19,7 @@ use Rattle.card_record.specs.declared.Phase.{Phase}
 use Rattle.card_record.specs.declared.Phase.the-variants.{Quiet, Trial, Back, Fallen}
 use Rattle.card_record.proofs.Sounds.{parts, choose}
 use Rattle.card_places.proofs.Numbered.{only}
-use Rattle.rule_run.specs.Calls.{Call, Call.Command, Call.Keyed, Call.Stored, Call.Finished, Call.Tick, Call.Lost, Call.Policy, asked}
+use Rattle.rule_run.specs.Calls.{Call, Call.Command, Call.Keyed, Call.Stored, Call.Finished, Call.Tick, Call.Lost, Call.PolicyUpdate, asked}
 use Rattle.rule_run.specs.Step.{step, run}
 use Rattle.rule_run.proofs.Kept.{step-sound, run-sound}
 use Rattle.rule_run.specs.Runs.{enabledBytes, isTick, isConfirmation, confirms, ticksAmong}
@@ -54,7 +54,7 @@ step-named c (Stored aid n) k o e = other-named c (Stored aid n) k o refl e
 step-named c (Finished aid policy mark) k o e = other-named c (Finished aid policy mark) k o refl e
 step-named c Tick k o e = rw (tick-step c k) (tick-named c)
 step-named c Lost k o e = other-named c Lost k o refl e
-step-named c (Policy speaker s room) k o e = other-named c (Policy speaker s room) k o refl e
+step-named c (PolicyUpdate speaker s room) k o e = other-named c (PolicyUpdate speaker s room) k o refl e
 
 -- one that does closes
 quiet-case : (c : Card) (call : Call) (b r : Bool) → confirms c call ≡ b → sound c ≡ true → (not (isQuiet (step c call .card .phase)) && r) ≡ true → b ≡ false

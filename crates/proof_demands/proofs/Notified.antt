@@ -9,7 +9,7 @@ use Rattle.card_isdp.specs.LifeCycle.{enabled}
 use Rattle.card_places.specs.Places.{seek}
 use Rattle.card_record.specs.Cards.{enabledAid}
 use Rattle.card_record.specs.Sound.{sound}
-use Rattle.card_record.specs.Noticed.{JustOpened, silently, told}
+use Rattle.card_record.specs.Noticed.{JustOpened, silently, announced}
 use Rattle.card_record.specs.Answers.{Outcome}
 use Rattle.card_record.specs.declared.Card.{Card}
 use Rattle.card_record.specs.declared.Notification.{Notification}
@@ -38,7 +38,7 @@ opened-names (Fallen left number) n known o = rw (o .its-kind)
 -- what is known after an answer
 known-is : (c : Card) (o : Outcome) (known : Aid) → enabledAid c ≡ known → Notified c o → enabledAid (o .card) ≡ nowKnown (o .notification) known
 known-is c o known h (silently x) = rw (x .none) (x .same-profile ∙ h)
-known-is c o known h (told x) = sym (opened-names (o .card .phase) (o .notification) known (x .phase) ∙ x .profile)
+known-is c o known h (announced x) = sym (opened-names (o .card .phase) (o .notification) known (x .phase) ∙ x .profile)
 
 run-named : (calls : List Call) (c : Card) (known : Aid) → sound c ≡ true → enabledAid c ≡ known → enabledAid (run c calls) ≡ lastNamed known (exchanges c calls)
 unfolding run exchanges lastNamed

@@ -19,7 +19,7 @@ use Rattle.card_places.proofs.Seeks.{enabled-at, seek-below}
 use Rattle.card_places.proofs.Numbered.{only}
 use Rattle.card_record.specs.Cards.{isQuiet, placeOf, profileOf, enabledPlace, onFallback}
 use Rattle.card_record.specs.Sound.{sound}
-use Rattle.card_record.specs.Clock.{nextOf, opened, fallen, lostOf}
+use Rattle.card_record.specs.Clock.{nextNumber, opened, fallen, withoutNetwork}
 use Rattle.card_record.specs.Steps.{lostStep}
 use Rattle.card_record.specs.Answers.{accepted}
 use Rattle.card_record.specs.declared.Card.{Card}
@@ -28,7 +28,7 @@ use Rattle.rule_steps.proofs.Rows.{Passed}
 use Rattle.rule_steps.specs.Asked.{Act.enable, Act.disable, Asked.on}
 use Rattle.rule_steps.proofs.Opens as steps
 use Rattle.rule_run.specs.Calls.{Call.Lost}
-use Rattle.rule_run.specs.Step.{step, run}
+use Rattle.rule_run.specs.Step.{step, stepBy, run}
 use Rattle.rule_run.proofs.Kept.{step-sound}
 use Rattle.rule_run.specs.Runs.{enabledBytes, fallbackBytes}
 use Rattle.proof_demands.specs.Change.{Opens.enables, Opens.disables, lastTick, Change, Demand3, LostNetwork}
@@ -41,7 +41,7 @@ use Rattle.proof_demands.proofs.Named.{Named, change-named, lost-named}
 opens : (c : Card) (t : ℕ) → sound c ≡ true → at (c .places) t .life ≡ disabled → Opened t (enabledPlace c) (c .fallback) (opened c t)
 opens c t s d =
     record {
-      number = nextOf (c .last);
+      number = nextNumber (c .last);
       still = whole _ (steps.opens c t (parts c s) d);
       same = refl;
       trial = refl;
@@ -97,7 +97,7 @@ demand-3 c call _ (disables aid a e) =
 
 -- a lost network
 lost-card : (c : Card) → sound c ≡ true → isQuiet (c .phase) ≡ true → onFallback c ≡ false → step c Lost .card ≡ fallen c
-unfolding step wordOf accepted lostStep lostOf
+unfolding stepBy wordOf accepted lostStep withoutNetwork
 lost-card c s q b = rw (s, q, b)
 
 pub lost-network : LostNetwork
@@ -106,4 +106,4 @@ lost-network c s q b =
     let k : sound (fallen c) ≡ true = rw e at (step-sound c Lost s) in
     rw e
     (lost-named c (fallen c) k refl (λ i. ap (λ (p : Isdp). p .aid) (lives-at (enable-lives (c .places) (c .fallback)) i)) (c .fallback)
-    (lost-course (c .fallback) (nextOf (c .last)) (fallen c) k refl refl))
+    (lost-course (c .fallback) (nextNumber (c .last)) (fallen c) k refl refl))

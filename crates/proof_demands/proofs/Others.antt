@@ -18,7 +18,7 @@ use Rattle.card_places.proofs.Seeks.{seek-below}
 use Rattle.card_places.proofs.Lives.{Lives, Lives.ended, Lives.place, enable-lives, lives-at}
 use Rattle.card_places.proofs.Sets.{clear-at}
 use Rattle.card_record.specs.Cards.{isQuiet, placeOf, freePlace, onFallback}
-use Rattle.card_record.specs.Clock.{tickIn, tickOf, lostOf, dropped, confirmIn, confirmOf}
+use Rattle.card_record.specs.Clock.{tickIn, tickOf, withoutNetwork, dropped, confirmIn, confirmOf}
 use Rattle.card_record.specs.Steps.{tickStep, lostStep, confirmStep}
 use Rattle.card_record.specs.declared.Card.{Card}
 use Rattle.card_record.specs.declared.Phase.{Phase}
@@ -54,8 +54,8 @@ module _ (c : Card) where
   unfolding tickOf
   tick-lives = tick-case (c .phase)
 
-  pub lost-lives : From (lostOf c)
-  unfolding lostOf
+  pub lost-lives : From (withoutNetwork c)
+  unfolding withoutNetwork
   lost-lives =
       choose From (isQuiet (c .phase)) _ _
       (λ q. choose From (onFallback c) _ _ (λ e. lives-same (c .places)) (λ e. enable-lives (c .places) (c .fallback)))

@@ -118,17 +118,17 @@ module _ (c : Card) (aid : List ℕ) (t : ℕ) where
 
   inner-half : (d : Card) (x : Inner) → Half c aid t d → Half c aid t (step d (innerCall aid x) .card)
   inner-half d keyed h =
-      let law = every-call .keyed aid d (h .still-sound) .exactly t (h .bears) in
+      let law = every-call .keyed aid d (h .still-sound) .taken .exactly t (h .bears) in
       settled (Half c aid t) d (innerCall aid keyed)
       (λ e. let m = law .only-where e in loaded-half d _ _ (innerCall aid keyed) h (law .where-may m) refl (λ l. h .no-policy (rw m)))
       h
   inner-half d (stored n) h =
-      let law = every-call .stored aid n d (h .still-sound) .exactly t (h .bears) in
+      let law = every-call .stored aid n d (h .still-sound) .taken .exactly t (h .bears) in
       settled (Half c aid t) d (innerCall aid (stored n))
       (λ e. loaded-half d _ _ (innerCall aid (stored n)) h (law .where-may (law .only-where e)) refl (h .no-policy))
       h
   inner-half d (finished policy mark) h =
-      let law = every-call .finished aid policy mark d (h .still-sound) .exactly t (h .bears) in
+      let law = every-call .finished aid policy mark d (h .still-sound) .taken .exactly t (h .bears) in
       settled (Half c aid t) d (innerCall aid (finished policy mark))
       (λ e. loaded-half d _ _ (innerCall aid (finished policy mark)) h (law .where-may (law .only-where e)) refl (λ l. absurd (false≢true l)))
       h
@@ -158,7 +158,7 @@ no-room-lost c v _ _ inner (commands verdict s room long encoded) (commands verd
     let aid = v .aid in
     let creation = Command verdict s room in
     let sounds = taken-sound c creation (done-as c creation true (ap isDone done)) in
-    let law = every-call .create v c verdict s room sounds long encoded in
+    let law = every-call .create v c verdict s room sounds long encoded .taken in
     let place = law .some-place (ap isDone done) in
     let t = place .0 in
     let low = place .1 in
@@ -173,7 +173,7 @@ no-room-lost c v _ _ inner (commands verdict s room long encoded) (commands verd
     let free = vacant-is (c .capacity) (profileAt c t) (low .free) (all-at (placeOk (c .capacity)) (c .places) t (low .a-place) (parts c sounds .placed .each)) in
     let l = rw (place-is d aid t (parts d (h .still-sound)) (h .bears)) at half in
     let encodes = subst (λ (k : ℕ). Encodes k (field.deletion (field.delete aid)) s') (sym (h .beside .capacity)) encoded' in
-    let r = every-call .delete aid d verdict' s' room' (h .still-sound) long' encodes .exactly t (h .bears) .where-may (may-delete c aid t d h sounds (may .none-open) free l) in
+    let r = every-call .delete aid d verdict' s' room' (h .still-sound) long' encodes .taken .exactly t (h .bears) .where-may (may-delete c aid t d h sounds (may .none-open) free l) in
     record {
       status = r .status;
       card = undone c t d vacant _ _ _ _ (h .beside) r sounds (step-sound d (Command verdict' s' room') (h .still-sound)) (sym free);

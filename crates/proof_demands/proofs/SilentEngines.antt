@@ -12,27 +12,27 @@ use Rattle.card_isdp.specs.Aids.{bytesOf, padded}
 use Rattle.card_isdp.specs.Place.{isFor, clash, zeros, placeOk}
 use Rattle.card_places.specs.Places.{seek, quotas, allOf, anyOf, countOf, distinct, allOff, enableAt}
 use Rattle.card_record.specs.Sound.{phaseOk, sound}
-use Rattle.card_record.specs.Clock.{tickOf, lostOf, confirmOf}
+use Rattle.card_record.specs.Clock.{tickOf, withoutNetwork, confirmOf}
 use Rattle.card_record.specs.Steps.{tickStep, lostStep, confirmStep}
 use Rattle.card_record.specs.Notifications.{noticeSince, silent, codeOf}
 use Rattle.card_record.specs.Answers.{accepted}
 use Rattle.card_record.specs.Fresh.{freshOutcome}
 use Rattle.card_record.specs.declared.Notification.{Notification}
 use Rattle.card_record.specs.declared.Kind.the-variants.{Silent}
-use Rattle.card_record.specs.Noticed.{JustOpened, silently, told}
+use Rattle.card_record.specs.Noticed.{JustOpened, silently, announced}
 use Rattle.card_record.specs.declared.Phase.{Phase}
 use Rattle.card_record.specs.declared.Phase.the-variants.{Quiet, Trial, Back, Fallen}
 use Rattle.base_choice.specs.Choice.{pick, atMost, isBelow, isSame}
-use Rattle.read_tlv.specs.Lists.{listWrong, listAt, listWithin, listOf, elementOf, restOf, closed}
+use Rattle.read_tlv.specs.Lists.{listWrong, listAt, listWithin, listOf, elementOf, restAfter, elementClosed}
 use Rattle.read_tlv.specs.Tlv.{tagAt, lengthAt, afterLength, afterTag, headAt, expectOf, expectAt}
 use Rattle.read_elements.specs.Reader.{aloneAt}
-use Rattle.read_fields.specs.StoreData.{dgiAt, confirmationAt, namedBy, storeDataAt}
+use Rattle.read_fields.specs.StoreData.{dgiAt, confirmationAt, requestNamed, storeDataAt}
 use Rattle.read_install.specs.Parameters.{protocolsWithin, protocolsAt, numberAt, grantOf, memoryAt, parametersAt}
 use Rattle.read_install.specs.Install.{prefixedOf, prefixedAt, namesAt, rightsAt, installOf}
 use Rattle.read_frame.specs.Framing.{lengthWrong, classRight, classWrong, instructionWrong, parametersRight, parametersWrong, shapeRight, shapeWrong}
 use Rattle.read_command.specs.Requests.{fieldOf, dataWrong}
 use Rattle.rule_run.specs.Calls.{Call, Call.Tick, Call.Lost}
-use Rattle.rule_run.specs.Step.{step}
+use Rattle.rule_run.specs.Step.{step, stepBy}
 use Rattle.rule_run.specs.Runs.{enabledBytes, isTick}
 use Rattle.rule_run.specs.Inputs.{freshOf}
 use Rattle.rule_run.specs.Samples.{aid, inputs, enable, confirm, load, ticks}
@@ -55,7 +55,7 @@ record Runs : Type 0 where
   tick : Silence (silentOn isTick) (load 2 0 ++ enable 2 ∷ ticks 9) Tick
 
 runs : Runs
-unfolding reached remembered step wordOf sameBytes padded isFor clash zeros placeOk seek quotas allOf anyOf countOf distinct allOff enableAt phaseOk sound tickOf lostOf confirmOf tickStep lostStep confirmStep noticeSince accepted freshOutcome pick atMost isBelow isSame tagAt lengthAt afterLength afterTag headAt expectOf expectAt aloneAt dgiAt confirmationAt namedBy storeDataAt protocolsWithin protocolsAt numberAt grantOf memoryAt parametersAt prefixedOf prefixedAt namesAt rightsAt installOf lengthWrong classRight classWrong instructionWrong parametersRight parametersWrong shapeRight shapeWrong fieldOf dataWrong listWrong listAt listWithin listOf elementOf restOf closed
+unfolding reached remembered stepBy wordOf sameBytes padded isFor clash zeros placeOk seek quotas allOf anyOf countOf distinct allOff enableAt phaseOk sound tickOf withoutNetwork confirmOf tickStep lostStep confirmStep noticeSince accepted freshOutcome pick atMost isBelow isSame tagAt lengthAt afterLength afterTag headAt expectOf expectAt aloneAt dgiAt confirmationAt requestNamed storeDataAt protocolsWithin protocolsAt numberAt grantOf memoryAt parametersAt prefixedOf prefixedAt namesAt rightsAt installOf lengthWrong classRight classWrong instructionWrong parametersRight parametersWrong shapeRight shapeWrong fieldOf dataWrong listWrong listAt listWithin listOf elementOf restAfter elementClosed
 runs =
     record {
       made = refl;
@@ -74,7 +74,7 @@ hears : (e : Engine) (past : List Call) (call : Call) → Silence e past call �
 hears e past call s (silently x) =
     let q : aid 1 ≡ aid 2 = sym (s .after) ∙ ap bytesOf (x .same-profile) ∙ s .before in
     let z : _≡_ {A = ℕ} 1 2 = cc in absurd (omega arith)
-hears e past call s (told x) =
+hears e past call s (announced x) =
     opened-loud (answerAfter e inputs past call .card .phase) (answerAfter e inputs past call .notification) (x .phase) (ap (λ (n : Notification). codeOf (n .kind)) (s .silence))
 
 caught : (e : Engine) (past : List Call) (call : Call) → Silence e past call → MeetsNotified e → ⊥

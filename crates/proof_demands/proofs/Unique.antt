@@ -1,7 +1,7 @@
 -- Two answers meeting one promise are equal: each is what the promise names. Assumes nothing.
 use mathlib.Core.Path.{refl, sym, _∙_}
 use Rattle.base_bytes.specs.Put.{put}
-use Rattle.card_record.specs.Answers.{handed}
+use Rattle.card_record.specs.Answers.{asAnswer}
 use Rattle.proof_demands.specs.Unique as statement
 
 pub one-answer : statement.OneAnswer
@@ -14,4 +14,4 @@ pub unique : statement.Unique
 unique = record { one-answer = one-answer; one-outcome = one-outcome }
 
 pub promise-met : statement.PromiseMet
-promise-met o old = (handed o, (put old 0 (o .response), record { answer = refl; content = refl }))
+promise-met o old = (asAnswer o, (put old 0 (o .response), record { answer = refl; content = refl }))

@@ -15,7 +15,7 @@ use Rattle.card_record.specs.Answers.{soundRow, settle}
 use Rattle.card_record.specs.declared.Card.{Card}
 use Rattle.read_tlv.specs.Encoding.{Bytes}
 use Rattle.read_frame.specs.Framing.{lengthWrong, classWrong, parametersWrong, shapeWrong}
-use Rattle.read_operator.specs.Field.{policyOf, isWrong}
+use Rattle.read_operator.specs.Field.{policyOf, isPolicyWrong}
 use Rattle.read_operator.specs.Reading.{notStoreData, policyWrong, updateOf}
 use Rattle.read_operator.specs.Grammar.{EncodesUpdate}
 use Rattle.read_operator.specs.declared.Policy as operator
@@ -26,9 +26,9 @@ use Rattle.read_operator.proofs.Answers.{passes-done, done-read, refused-word}
 use Rattle.read_operator.proofs.UpdateGrammar.{update-back, update-written}
 use Rattle.rule_steps.specs.Asked.{Act.setPolicy, Asked}
 use Rattle.rule_steps.specs.Steps.{stepOf, responseOf, successOf, innerWork}
-use Rattle.rule_run.specs.Calls.{Call.Policy, asked}
+use Rattle.rule_run.specs.Calls.{Call.PolicyUpdate, asked}
 use Rattle.rule_run.specs.Table.{leastBuffer, updateWrong, rowsAfter}
-use Rattle.rule_run.specs.Step.{step, work}
+use Rattle.rule_run.specs.Step.{step, stepBy, work}
 use Rattle.rule_run.proofs.Kept.{rows-accepted}
 use Rattle.rule_run.proofs.Updates.{policy-refused, policy-read, asks-update}
 use Rattle.proof_demands.specs.Written as statement
@@ -40,16 +40,16 @@ past-buffer : (room : ℕ) (w : Status) → leastBuffer ≤ room → cond (ltb r
 past-buffer room w h = rw (le-ltb room leastBuffer h) refl
 
 pub update-answered : statement.UpdateAnswered
-unfolding step
+unfolding stepBy
 update-answered c speaker s room p h encoded =
-    let call = Policy speaker s room in
+    let call = PolicyUpdate speaker s room in
     let q = update-back s p encoded in
     let rows = innerWork c speaker (setPolicy p) .rows in
     let word = after-sound c (work c call .success) (rowsAfter c call) rows (policy-read c (work c call .success) speaker s room p q ∙ past-buffer room _ h) in
     ap (λ (x : Status). settle c x (stepOf c (asked c call)) (responseOf c (asked c call))) word
     ∙ ap (λ (x : Asked). settle c (wordOf (successOf c x) (soundRow c ∷ rows)) (stepOf c x) (responseOf c x)) (asks-update c speaker s room h p q)
 
-right-field : (speaker : List ℕ) (p : operator.Policy) → updateWrong speaker p ≡ false → isWrong p ≡ false
+right-field : (speaker : List ℕ) (p : operator.Policy) → updateWrong speaker p ≡ false → isPolicyWrong p ≡ false
 right-field speaker policy.Wrong e = absurd (false≢true (sym e))
 right-field speaker (policy.Found p) e = refl
 
@@ -59,7 +59,7 @@ field-right speaker s e = right-field speaker (policyOf s) e
 
 pub accepted-update : statement.AcceptedUpdate
 accepted-update c speaker s room b e =
-    let call = Policy speaker s room in
+    let call = PolicyUpdate speaker s room in
     let p = rows-accepted c call (work c call .success) (done-as c call true e) in
     let r = done-read s (passes-done s record {
       lengthRight = p .length;
@@ -72,10 +72,10 @@ accepted-update c speaker s room b e =
     (r .0, (ltb-false room leastBuffer (p .buffer), update-written s (r .0) b (r .1)))
 
 module _ (c : Card) (speaker s : List ℕ) (room : ℕ) (b : Bytes s) (e : sound c ≡ true) (h : leastBuffer ≤ room) (none : (p : ℕ) → EncodesUpdate p s → ⊥) where
-  refused-case : (x : Update) → x ≡ updateOf s → ofReading (step c (Policy speaker s room) .status) ≡ true
+  refused-case : (x : Update) → x ≡ updateOf s → ofReading (step c (PolicyUpdate speaker s room) .status) ≡ true
   refused-case (update.Read p) q = absurd (none p (update-written s p b q))
   refused-case (update.Refused w) q =
-      let call = Policy speaker s room in
+      let call = PolicyUpdate speaker s room in
       let r = refused-word s w q in
       ap ofReading (word-is c call ∙ past-sound c (work c call .success) (rowsAfter c call) e ∙ policy-refused c (work c call .success) speaker s room w q ∙ past-buffer room w h ∙ r .0)
       ∙ reading-word (lengthWrong s) (classWrong s) (notStoreData s) (parametersWrong s) (shapeWrong s) (policyWrong s) (ap isDone (sym (r .0)) ∙ r .1)

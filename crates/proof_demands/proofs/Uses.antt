@@ -12,13 +12,13 @@ use Rattle.card_isdp.specs.Place.{held, isFor}
 use Rattle.card_isdp.specs.declared.Isdp.{Isdp}
 use Rattle.card_places.specs.Places.{at, seek, isFree, countOf, allOff, enableAt}
 use Rattle.card_record.specs.Cards.{isQuiet, placeOf, enabledPlace, freePlace, onFallback, over, enabledAid}
-use Rattle.card_record.specs.Clock.{moved, dropped, tickIn, tickOf, lostOf}
+use Rattle.card_record.specs.Clock.{switched, dropped, tickIn, tickOf, withoutNetwork}
 use Rattle.card_record.specs.Ticks.{stepsIn, ticksToCome}
-use Rattle.card_record.specs.Notifications.{issued, noticeSince, kindOf}
+use Rattle.card_record.specs.Notifications.{issued, noticeSince, noticeKind}
 use Rattle.card_record.specs.declared.Card.{Card}
 use Rattle.card_record.specs.declared.Phase.{Phase}
 use Rattle.card_record.specs.declared.Phase.the-variants.{Quiet, Trial, Back, Fallen}
-use Rattle.rule_responses.specs.Responses.{attributeOf, statusBody, statusRow, rowOf, rowSize, mostResponse, partFrom, leftFrom, partGiven, leftAfter, oneStatus, dataResponse}
+use Rattle.rule_responses.specs.Responses.{attributeOf, statusBody, statusRow, rowOf, rowSize, mostResponse, partFrom, nextRowFrom, partGiven, nextRowAfter, oneStatus, dataResponse}
 
 -- the places, and the card, with u used bytes at place i
 unfoldable pub useAt : List Isdp → ℕ → ℕ → List Isdp
@@ -106,7 +106,7 @@ reuse-cond i u true x y x' y' e f = e
 reuse-cond i u false x y x' y' e f = f
 
 module _ (i u : ℕ) where
-  pub reuse-moved : (c : Card) (j : ℕ) (p : Phase) → moved (reuseAt i u c) j p ≡ reuseAt i u (moved c j p)
+  pub reuse-moved : (c : Card) (j : ℕ) (p : Phase) → switched (reuseAt i u c) j p ≡ reuseAt i u (switched c j p)
   reuse-moved c j p = rw (use-enable (c .places) i u j)
 
   pub enabled-reuse : (c : Card) → enabledPlace (reuseAt i u c) ≡ enabledPlace c
@@ -137,8 +137,8 @@ module _ (i u : ℕ) where
   unfolding tickOf
   tick-reuse c = tick-case c (c .phase)
 
-  pub lost-reuse : (c : Card) → lostOf (reuseAt i u c) ≡ reuseAt i u (lostOf c)
-  unfolding lostOf
+  pub lost-reuse : (c : Card) → withoutNetwork (reuseAt i u c) ≡ reuseAt i u (withoutNetwork c)
+  unfolding withoutNetwork
   lost-reuse c =
       reuse-cond i u (isQuiet (c .phase)) _ _ _ _
       (rw (on-reuse c) (reuse-cond i u (onFallback c) _ _ _ _ refl (reuse-moved c (c .fallback) _)))
@@ -161,7 +161,7 @@ module _ (i u : ℕ) where
       ∙ ap (λ (p : Isdp). p .aid) (use-at (c .places) i u (enabledPlace c))
 
   pub issued-reuse : (c : Card) → issued (reuseAt i u c) ≡ issued c
-  issued-reuse c = ap (λ (a : Aid). record { kind = kindOf (c .phase); number = c .last; eid = c .eid; aid = a }) (named-reuse c)
+  issued-reuse c = ap (λ (a : Aid). record { kind = noticeKind (c .phase); number = c .last; eid = c .eid; aid = a }) (named-reuse c)
 
   -- the responses
   row-reuse : (p : Isdp) (v attribute : ℕ) (life fallback : Bool) → rowOf (withUsed p v) attribute life fallback ≡ rowOf p attribute life fallback
@@ -176,8 +176,8 @@ module _ (i u : ℕ) where
     parts-reuse (p ∷ ps) zero room place = rw (row-reuse p u (attributeOf holder place) life fallback)
     parts-reuse (p ∷ ps) (suc j) room place = rw (parts-reuse ps j (room - rowSize p life fallback) (suc place))
 
-    lefts-reuse : (l : List Isdp) (j room place : ℕ) → leftFrom room holder place life fallback (useAt l j u) ≡ leftFrom room holder place life fallback l
-    unfolding leftFrom useAt
+    lefts-reuse : (l : List Isdp) (j room place : ℕ) → nextRowFrom room holder place life fallback (useAt l j u) ≡ nextRowFrom room holder place life fallback l
+    unfolding nextRowFrom useAt
     lefts-reuse [] j room place = refl
     lefts-reuse (p ∷ ps) zero room place = refl
     lefts-reuse (p ∷ ps) (suc j) room place = rw (lefts-reuse ps j (room - rowSize p life fallback) (suc place))
@@ -195,10 +195,10 @@ module _ (i u : ℕ) where
   part-reuse c from life fallback =
       from-reuse (List ℕ) (partFrom mostResponse (c .fallback) from life fallback) (λ l j. parts-reuse (c .fallback) life fallback l j mostResponse from) (c .places) i from
 
-  pub left-reuse : (c : Card) (from : ℕ) (life fallback : Bool) → leftAfter (reuseAt i u c) from life fallback ≡ leftAfter c from life fallback
-  unfolding leftAfter
+  pub left-reuse : (c : Card) (from : ℕ) (life fallback : Bool) → nextRowAfter (reuseAt i u c) from life fallback ≡ nextRowAfter c from life fallback
+  unfolding nextRowAfter
   left-reuse c from life fallback =
-      from-reuse ℕ (leftFrom mostResponse (c .fallback) from life fallback) (λ l j. lefts-reuse (c .fallback) life fallback l j mostResponse from) (c .places) i from
+      from-reuse ℕ (nextRowFrom mostResponse (c .fallback) from life fallback) (λ l j. lefts-reuse (c .fallback) life fallback l j mostResponse from) (c .places) i from
 
   pub one-reuse : (c : Card) (j : ℕ) (life fallback : Bool) → oneStatus (reuseAt i u c) j life fallback ≡ oneStatus c j life fallback
   unfolding oneStatus

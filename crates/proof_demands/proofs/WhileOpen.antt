@@ -12,10 +12,10 @@ use Rattle.card_record.specs.declared.Phase.the-variants.{Quiet}
 use Rattle.card_record.proofs.Sounds.{parts, whole}
 use Rattle.read_frame.specs.Framing.{lengthWrong, classWrong, parametersWrong, shapeWrong}
 use Rattle.rule_steps.specs.Asked.{Act.status, Act.keyed, Act.stored, Act.finished, Asked, Asked.on, Asked.statusOfAll, Asked.getData, Asked.tick, Asked.lost}
-use Rattle.rule_responses.specs.Responses.{leftAfter}
+use Rattle.rule_responses.specs.Responses.{nextRowAfter}
 use Rattle.rule_steps.specs.Conditions.{cardRows}
 use Rattle.rule_steps.specs.Steps.{goesOnAt, partWord, successOf}
-use Rattle.rule_run.specs.Calls.{Call, Call.Command, Call.Keyed, Call.Stored, Call.Finished, Call.Tick, Call.Lost, Call.Policy}
+use Rattle.rule_run.specs.Calls.{Call, Call.Command, Call.Keyed, Call.Stored, Call.Finished, Call.Tick, Call.Lost, Call.PolicyUpdate}
 use Rattle.rule_run.specs.Table.{bufferShort, inCommand, instructionUnknown, valuesWrong, table}
 use Rattle.proof_demands.specs.WhileOpen as statement
 use Rattle.rule_run.proofs.Words.{word-is}
@@ -28,7 +28,7 @@ values-same c (Stored aid n) = refl
 values-same c (Finished aid policy mark) = refl
 values-same c Tick = refl
 values-same c Lost = refl
-values-same c (Policy speaker s room) = refl
+values-same c (PolicyUpdate speaker s room) = refl
 
 quiet-sound : (c : Card) → sound c ≡ true → sound (inPhase c Quiet) ≡ true
 quiet-sound c s =
@@ -73,7 +73,7 @@ status-same a f g c call s e =
 
 -- what is left of a listing asks nothing of the phase
 part-in-quiet : (c : Card) (next life fallback : Bool) → partWord (goesOnAt c next life fallback) ≡ partWord (goesOnAt (inPhase c Quiet) next life fallback)
-unfolding leftAfter
+unfolding nextRowAfter
 part-in-quiet c next life fallback = refl
 
 pub allowed-while-open : statement.AllowedWhileOpen

@@ -42,7 +42,7 @@ use Rattle.rule_steps.specs.Steps.{stepOf, responseOf, askedWork, successOf}
 use Rattle.rule_run.proofs.Kept.{part-ok, rows-accepted}
 use Rattle.rule_run.specs.Calls.{Call.Command, requestAsks, asked}
 use Rattle.rule_run.specs.Table.{leastBuffer, rowsAfter}
-use Rattle.rule_run.specs.Step.{step, work}
+use Rattle.rule_run.specs.Step.{step, stepBy, work}
 use Rattle.rule_run.proofs.Readings.{not-read, asks-read, word-read}
 use Rattle.proof_demands.specs.Written as statement
 use Rattle.proof_demands.specs.Written.{listedAsks, wantedAsks, ofReading}
@@ -85,7 +85,7 @@ unfolding wordOf
 past-sound c success rows e = rw e
 
 pub written-answered : statement.WrittenAnswered
-unfolding step
+unfolding stepBy
 written-answered c verdict s room w h encoded =
     let r = read-some s (readOf s (c .capacity)) w (command-back s (c .capacity) w encoded) in
     let a : asked c (Command verdict s room) ≡ wantedAsks verdict w =

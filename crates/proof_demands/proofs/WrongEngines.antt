@@ -20,33 +20,33 @@ use Rattle.card_record.specs.declared.Card.{Card}
 use Rattle.card_record.proofs.Counts.{steps-are, steps-unique}
 use Rattle.card_record.proofs.Freshness.{fresh-sound}
 use Rattle.card_record.specs.Sound.{phaseOk, sound}
-use Rattle.card_record.specs.Clock.{tickOf, lostOf, confirmOf}
+use Rattle.card_record.specs.Clock.{tickOf, withoutNetwork, confirmOf}
 use Rattle.card_record.specs.Steps.{tickStep, lostStep, confirmStep}
 use Rattle.card_record.specs.Notifications.{noticeSince}
 use Rattle.card_record.specs.Ticks.{stepsIn, ticksToCome}
 use Rattle.card_record.specs.Answers.{Outcome, refused, accepted}
 use Rattle.card_record.specs.Fresh.{freshOutcome}
 use Rattle.base_choice.specs.Choice.{pick, atMost, isBelow, isSame}
-use Rattle.read_tlv.specs.Lists.{listWrong, listAt, listWithin, listOf, elementOf, restOf, closed}
+use Rattle.read_tlv.specs.Lists.{listWrong, listAt, listWithin, listOf, elementOf, restAfter, elementClosed}
 use Rattle.read_tlv.specs.Tlv.{tagAt, lengthAt, afterLength, afterTag, headAt, expectOf, expectAt}
 use Rattle.read_elements.specs.Reader.{aloneAt}
-use Rattle.read_fields.specs.StoreData.{dgiAt, confirmationAt, namedBy, storeDataAt}
+use Rattle.read_fields.specs.StoreData.{dgiAt, confirmationAt, requestNamed, storeDataAt}
 use Rattle.read_fields.specs.Delete.{verificationAt, deletionAt}
-use Rattle.read_fields.specs.GetStatus.{noted, listedWithin, listedAt, tagsAt, listingAt}
+use Rattle.read_fields.specs.GetStatus.{tagNoted, listedWithin, listedAt, tagsAt, listingAt}
 use Rattle.read_install.specs.Parameters.{protocolsWithin, protocolsAt, numberAt, grantOf, memoryAt, parametersAt}
 use Rattle.read_install.specs.Install.{prefixedOf, prefixedAt, namesAt, rightsAt, installOf}
 use Rattle.read_frame.specs.Framing.{lengthWrong, classRight, classWrong, instructionWrong, parametersRight, parametersWrong, shapeRight, shapeWrong}
 use Rattle.read_command.specs.Requests.{fieldOf, dataWrong}
-use Rattle.rule_responses.specs.Responses.{statusBody, statusRow, rowOf, partFrom, leftFrom, partGiven, leftAfter, oneStatus, dataResponse, deletedResponse}
+use Rattle.rule_responses.specs.Responses.{statusBody, statusRow, rowOf, partFrom, nextRowFrom, partGiven, nextRowAfter, oneStatus, dataResponse, deletedResponse}
 use Rattle.rule_run.specs.Calls.{Call, Call.Keyed}
 use Rattle.rule_run.proofs.Kept.{step-sound, run-sound}
-use Rattle.rule_run.specs.Step.{step, run}
+use Rattle.rule_run.specs.Step.{step, stepBy, run}
 use Rattle.rule_run.specs.Runs.{isTick, confirms, ticksAmong}
 use Rattle.proof_demands.specs.Change.{staysOpen, Opens, Opens.enables}
 use Rattle.rule_run.specs.Inputs.{freshOf}
 use Rattle.rule_run.specs.Samples.{aid, inputs, getStatus, setFallBack, enable, confirm, create, loadWith, load, ticks}
 use Rattle.proof_demands.specs.Engines.{Engine, reached, remembered, cardAfter, answerAfter, Answered, MeetsDemand3}
-use Rattle.proof_demands.specs.WrongEngines.{Refuted, refusesAll, fixedAnswer, leavesEveryCard, Along, larger, Exemplary, RefusesAll, FixedAnswer, LeavesEveryCard, isCommand, firstThen, FirstThenOnly9000, idle, NotTheSecondChange, inventsTicks, OnlyTheCount, thirtyWhileOpen, rollBackAsksPolicy, previousDeletedAtEnable, secondEnableRestartsWait, lateConfirmationTaken, ignoresMark, IgnoringMark, Caught}
+use Rattle.proof_demands.specs.WrongEngines.{Refuted, refusesAll, fixedAnswer, leavesEveryCard, Along, larger, Exemplary, RefusesAll, FixedAnswer, LeavesEveryCard, isCommand, firstThen, FirstThenOnly9000, idleAnswer, NotTheSecondChange, inventsTicks, OnlyTheCount, thirtyWhileOpen, rollBackAsksPolicy, previousDeletedAtEnable, secondEnableRestartsWait, lateConfirmationTaken, ignoresMark, IgnoringMark, Caught}
 use Rattle.rule_run.proofs.Taken.{hands-back}
 
 -- a change that this engine opens, and calls after each of which it is still open
@@ -76,7 +76,7 @@ record Runs : Type 0 where
   more-room : step (freshOf larger .card) getStatus .card .capacity ≡ 2000
   made-larger : isDone (freshOf larger .status) ≡ true
   second-quiet : isQuiet (run (freshOf inputs .card) firstChange .phase) ≡ true
-  second-left : leftAfter (run (freshOf inputs .card) firstChange) 0 true true ≡ noPlace
+  second-left : nextRowAfter (run (freshOf inputs .card) firstChange) 0 true true ≡ noPlace
   second-kept : run (freshOf inputs .card) firstChange .kept ≡ noPlace
   second-opens : Opens (run (freshOf inputs .card) firstChange) (enable 3) (aid 3)
   invented : thirtyWhileOpen (answerAfter (inventsTicks thirtyWhileOpen) inputs (load 2 0) (enable 2) .card) ≡ 30
@@ -95,7 +95,7 @@ record Runs : Type 0 where
   unmarked-refused : step (cardAfter ignoresMark inputs (loadWith 2 0 0)) (setFallBack 2) .status ≡ StateWrong
 
 runs : Runs
-unfolding reached remembered ticksAmong staysOpen step run wordOf sameBytes padded isFor clash zeros placeOk seek quotas allOf anyOf countOf distinct allOff enableAt phaseOk sound tickOf lostOf confirmOf tickStep lostStep confirmStep noticeSince stepsIn ticksToCome refused accepted freshOutcome pick atMost isBelow isSame tagAt lengthAt afterLength afterTag headAt expectOf expectAt aloneAt dgiAt confirmationAt namedBy storeDataAt verificationAt deletionAt noted listedWithin listedAt tagsAt listingAt protocolsWithin protocolsAt numberAt grantOf memoryAt parametersAt prefixedOf prefixedAt namesAt rightsAt installOf lengthWrong classRight classWrong instructionWrong parametersRight parametersWrong shapeRight shapeWrong fieldOf dataWrong statusBody statusRow rowOf partFrom leftFrom partGiven leftAfter oneStatus dataResponse deletedResponse listWrong listAt listWithin listOf elementOf restOf closed
+unfolding reached remembered ticksAmong staysOpen stepBy run wordOf sameBytes padded isFor clash zeros placeOk seek quotas allOf anyOf countOf distinct allOff enableAt phaseOk sound tickOf withoutNetwork confirmOf tickStep lostStep confirmStep noticeSince stepsIn ticksToCome refused accepted freshOutcome pick atMost isBelow isSame tagAt lengthAt afterLength afterTag headAt expectOf expectAt aloneAt dgiAt confirmationAt requestNamed storeDataAt verificationAt deletionAt tagNoted listedWithin listedAt tagsAt listingAt protocolsWithin protocolsAt numberAt grantOf memoryAt parametersAt prefixedOf prefixedAt namesAt rightsAt installOf lengthWrong classRight classWrong instructionWrong parametersRight parametersWrong shapeRight shapeWrong fieldOf dataWrong statusBody statusRow rowOf partFrom nextRowFrom partGiven nextRowAfter oneStatus dataResponse deletedResponse listWrong listAt listWithin listOf elementOf restAfter elementClosed
 runs =
     record {
       made = refl;
@@ -236,10 +236,10 @@ tally k later (call ∷ calls) m c =
     tally k later calls (cond (isCommand call) (suc m) m) _ ∙ tallied (isCommand call) (commandsAmong calls) m
 
 -- GET STATUS leaves a card that keeps no place where it leaves no row
-listed-card : (c : Card) → leftAfter c 0 true true ≡ noPlace → c .kept ≡ noPlace → step c getStatus .card ≡ c
-unfolding fieldOf pick isSame listingAt tagsAt aloneAt expectAt expectOf headAt afterTag afterLength tagAt lengthAt atMost isBelow listWrong listAt listWithin listOf elementOf restOf closed
+listed-card : (c : Card) → nextRowAfter c 0 true true ≡ noPlace → c .kept ≡ noPlace → step c getStatus .card ≡ c
+unfolding fieldOf pick isSame listingAt tagsAt aloneAt expectAt expectOf headAt afterTag afterLength tagAt lengthAt atMost isBelow listWrong listAt listWithin listOf elementOf restAfter elementClosed
 listed-card c e k =
-    let same : keeping c (leftAfter c 0 true true) ≡ c = ap (keeping c) (e ∙ sym k) in
+    let same : keeping c (nextRowAfter c 0 true true) ≡ c = ap (keeping c) (e ∙ sym k) in
     hands-back c getStatus (λ d. d ≡ c) (λ done. same) refl
 
 -- a run of GET STATUS, where one leaves the card
@@ -282,11 +282,11 @@ not-the-second-change n d =
     let k = n + 4 in
     let past = firstChange ++ replicate n getStatus in
     let count = listings-count n in
-    let there : cardAfter (firstThen k idle) inputs past ≡ run c firstChange = worked k idle past 0 c (omega arith) ∙ listings-leave n (run c firstChange) (listed-card (run c firstChange) (runs .second-left) (runs .second-kept)) in
-    let number = tally k idle past 0 c in
+    let there : cardAfter (firstThen k idleAnswer) inputs past ≡ run c firstChange = worked k idleAnswer past 0 c (omega arith) ∙ listings-leave n (run c firstChange) (listed-card (run c firstChange) (runs .second-left) (runs .second-kept)) in
+    let number = tally k idleAnswer past 0 c in
     let opens = coe 1 0 (i. Opens (there i) (enable 3) (aid 3)) (runs .second-opens) in
     let quiet = ap (λ (e : Card). isQuiet (e .phase)) there ∙ runs .second-quiet in
-    let after = reached-last (firstThen k idle) past (enable 3) 0 c ∙ ap (λ (o : Outcome). o .card) (late-answer k (remembered (firstThen k idle) 0 c past) (idle (cardAfter (firstThen k idle) inputs past) (enable 3)) (step (cardAfter (firstThen k idle) inputs past) (enable 3)) (omega arith)) in
+    let after = reached-last (firstThen k idleAnswer) past (enable 3) 0 c ∙ ap (λ (o : Outcome). o .card) (late-answer k (remembered (firstThen k idleAnswer) 0 c past) (idleAnswer (cardAfter (firstThen k idleAnswer) inputs past) (enable 3)) (step (cardAfter (firstThen k idleAnswer) inputs past) (enable 3)) (omega arith)) in
     false≢true (sym (d inputs (runs .made) past (enable 3) (aid 3) opens .opens) ∙ ap (λ (e : Card). isQuiet (e .phase)) after ∙ quiet)
 
 -- the figure alone differs, so the cards reached are the manager's

@@ -1,5 +1,6 @@
--- Document 01, 'Steps': a law for each call, over what the manager answers. A command is told by what the grammar of its bytes writes, in a
--- buffer that is long enough; what each law says stands in rule_steps/specs/Laws, one file a heading.
+-- Document 01, 'Steps' and 'Status words': a law for each call, over what the manager answers, with the word of each refusal. A command is told by
+-- what the grammar of its bytes writes, in a buffer that is long enough, so that the rows of reading are passed; what each law says stands in
+-- rule_steps/specs/Laws, one file a heading.
 use Prim.Native.Nat.{ℕ, _≤_}
 use mathlib.Core.Path.{_≡_}
 use mathlib.Core.List.{List, [], _∷_}
@@ -23,7 +24,7 @@ use Rattle.rule_steps.specs.Laws.Confirmation.{ConfirmationAnswers}
 use Rattle.rule_steps.specs.Laws.Clock.{TickAnswers, LostAnswers}
 use Rattle.rule_steps.specs.Laws.Policy.{SetPolicyAnswers}
 use Rattle.rule_steps.specs.Laws.Reports.{StatusOfAllAnswers, StatusOfNextAnswers, StatusOfOneAnswers, GetDataAnswers}
-use Rattle.rule_run.specs.Calls.{Call, Call.Command, Call.Keyed, Call.Stored, Call.Finished, Call.Tick, Call.Lost, Call.Policy}
+use Rattle.rule_run.specs.Calls.{Call, Call.Command, Call.Keyed, Call.Stored, Call.Finished, Call.Tick, Call.Lost, Call.PolicyUpdate}
 use Rattle.rule_run.specs.Inputs.{Inputs, freshOf}
 use Rattle.rule_run.specs.Table.{leastBuffer}
 use Rattle.rule_run.specs.Step.{step}
@@ -48,7 +49,7 @@ UpdateLaw speaker policy Answered =
     → sound c ≡ true
     → leastBuffer ≤ room
     → EncodesUpdate policy s
-    → Answered c (step c (Policy speaker s room))
+    → Answered c (step c (PolicyUpdate speaker s room))
 
 pub record EveryCall : Type 0 where
   pub fresh : (x : Inputs) → FreshAnswers (x .eid) (x .aid) (x .capacity) (x .quota) (x .used) (x .volatile) (freshOf x)
@@ -60,11 +61,11 @@ pub record EveryCall : Type 0 where
   pub set-fall-back : (aid : List ℕ) → WrittenLaw (field.storeData (field.setFallBack aid)) (λ c verdict. SetFallBackAnswers c aid)
   pub confirmation : (number : ℕ) → WrittenLaw (field.storeData (field.confirmation number)) (λ c verdict. ConfirmationAnswers c number)
   -- 4F is empty
-  pub status-of-all : (life attribute : Bool) → WrittenLaw (field.getStatus (field.asked false [] life attribute)) (λ c verdict. StatusOfAllAnswers c life attribute)
+  pub status-of-all : (life attribute : Bool) → WrittenLaw (field.getStatus (field.inquiry false [] life attribute)) (λ c verdict. StatusOfAllAnswers c life attribute)
   -- and P2 is 03
-  pub status-of-next : (life attribute : Bool) → WrittenLaw (field.getStatus (field.asked true [] life attribute)) (λ c verdict. StatusOfNextAnswers c life attribute)
+  pub status-of-next : (life attribute : Bool) → WrittenLaw (field.getStatus (field.inquiry true [] life attribute)) (λ c verdict. StatusOfNextAnswers c life attribute)
   -- 4F is an AID
-  pub status-of-one : (first : ℕ) (rest : List ℕ) (life attribute : Bool) → WrittenLaw (field.getStatus (field.asked false (first ∷ rest) life attribute)) (λ c verdict. StatusOfOneAnswers c (first ∷ rest) life attribute)
+  pub status-of-one : (first : ℕ) (rest : List ℕ) (life attribute : Bool) → WrittenLaw (field.getStatus (field.inquiry false (first ∷ rest) life attribute)) (λ c verdict. StatusOfOneAnswers c (first ∷ rest) life attribute)
   pub get-data : WrittenLaw field.getData (λ c verdict. GetDataAnswers c)
   pub keyed : (aid : List ℕ) → CallLaw (Keyed aid) (λ c. KeyedAnswers c aid)
   pub stored : (aid : List ℕ) (n : ℕ) → CallLaw (Stored aid n) (λ c. StoredAnswers c aid n)
@@ -94,8 +95,8 @@ pub record EveryCallMet : Type 0 where
   pub master-delete : IsWritten (field.deletion (field.masterDelete (aidEnding 2)))
   pub set-fall-back : IsWritten (field.storeData (field.setFallBack (aidEnding 2)))
   pub confirmation : IsWritten (field.storeData (field.confirmation 1))
-  pub status-of-all : IsWritten (field.getStatus (field.asked false [] true true))
-  pub status-of-next : IsWritten (field.getStatus (field.asked true [] true true))
-  pub status-of-one : IsWritten (field.getStatus (field.asked false (aidEnding 2) true true))
+  pub status-of-all : IsWritten (field.getStatus (field.inquiry false [] true true))
+  pub status-of-next : IsWritten (field.getStatus (field.inquiry true [] true true))
+  pub status-of-one : IsWritten (field.getStatus (field.inquiry false (aidEnding 2) true true))
   pub get-data : IsWritten field.getData
   pub set-policy : (s : List ℕ) × EncodesUpdate 2 s

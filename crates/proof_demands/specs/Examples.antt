@@ -18,7 +18,7 @@ use Rattle.card_record.specs.declared.Notification.{Notification}
 use Rattle.card_record.specs.declared.Phase.the-variants.{Quiet, Trial, Back, Fallen}
 use Rattle.rule_run.specs.Calls.{Call, Call.Tick, Call.Lost}
 use Rattle.rule_run.specs.Step.{step, run}
-use Rattle.rule_run.specs.Samples.{aid, command, getStatus, setFallBack, enable, disable, confirm, delete, create, creates, fresh, loadWith, load, cardWith, alone, twoWith, two, created, cardOfTwo, ticks}
+use Rattle.rule_run.specs.Samples.{aid, command, getStatus, setFallBack, enable, disable, confirm, delete, create, creates, fresh, loadWith, load, exampleCard, alone, twoWith, two, created, cardOfTwo, ticks}
 
 -- a notification with its kind by the code of 000 (4.1.1.11): 02 changed, 03 rolled back, 05 fallen back, 00 none
 pub record Notice : Type 0 where
@@ -54,30 +54,30 @@ pub record Example : Type 0 where
 
 abbrev pub examples : List Example
 examples =
-    record { number = 1; start = fresh; before = []; call = getStatus; word = 0x9000; response = 0xE3 ∷ 0x0E ∷ 0x4F ∷ 0x05 ∷ 0xA0 ∷ 0x00 ∷ 0x00 ∷ 0x00 ∷ 0x01 ∷ 0x9F ∷ 0x70 ∷ 0x01 ∷ 0x3F ∷ 0x53 ∷ 0x01 ∷ 0x01 ∷ []; notification = none; ticks = 0; card = cardWith alone 0 0 Quiet }
-    ∷ record { number = 2; start = fresh; before = load 2 0; call = setFallBack 2; word = 0x9000; response = []; notification = none; ticks = 0; card = cardWith (two enabled disabled) 0 1 Quiet }
-    ∷ record { number = 2; start = fresh; before = loadWith 2 0 0; call = setFallBack 2; word = 0x6985; response = []; notification = none; ticks = 0; card = cardWith (twoWith 0 enabled disabled) 0 0 Quiet }
-    ∷ record { number = 2; start = fresh; before = []; call = setFallBack 2; word = 0x6A88; response = []; notification = none; ticks = 0; card = cardWith alone 0 0 Quiet }
-    ∷ record { number = 3; start = fresh; before = load 2 0; call = command (0x80 ∷ 0xE2 ∷ 0x87 ∷ 0x00 ∷ 0x0A ∷ 0x3A ∷ 0x05 ∷ 0x07 ∷ 0x4F ∷ 0x05 ∷ aid 2); word = 0x6A86; response = []; notification = none; ticks = 0; card = cardWith (two enabled disabled) 0 0 Quiet }
-    ∷ record { number = 3; start = fresh; before = load 2 0; call = command (0x80 ∷ 0xE2 ∷ 0x88 ∷ 0x00 ∷ 0x09 ∷ 0x3A ∷ 0x05 ∷ 0x07 ∷ 0x4F ∷ 0x05 ∷ aid 2); word = 0x6700; response = []; notification = none; ticks = 0; card = cardWith (two enabled disabled) 0 0 Quiet }
-    ∷ record { number = 4; start = fresh; before = load 2 0; call = command (0x80 ∷ 0xE2 ∷ 0x88 ∷ 0x00 ∷ 0x09 ∷ 0x3A ∷ 0x05 ∷ 0x06 ∷ 0x4F ∷ 0x04 ∷ 0xA0 ∷ 0x00 ∷ 0x00 ∷ 0x00 ∷ []); word = 0x6A80; response = []; notification = none; ticks = 0; card = cardWith (two enabled disabled) 0 0 Quiet }
-    ∷ record { number = 5; start = fresh; before = []; call = create 2 900; word = 0x9000; response = 0x00 ∷ []; notification = none; ticks = 0; card = cardWith (alone ++ profile (named (aid 2)) selectable 900 0 0 0 ∷ []) 0 0 Quiet }
-    ∷ record { number = 5; start = fresh; before = []; call = create 2 901; word = 0x6A84; response = []; notification = none; ticks = 0; card = cardWith alone 0 0 Quiet }
-    ∷ record { number = 6; start = fresh; before = load 2 0 ++ creates 3 29; call = create 32 1; word = 0x9000; response = 0x00 ∷ []; notification = none; ticks = 0; card = cardWith (two enabled disabled ++ created 3 30) 0 0 Quiet }
-    ∷ record { number = 6; start = fresh; before = load 2 0 ++ creates 3 30; call = create 33 1; word = 0x6A84; response = []; notification = none; ticks = 0; card = cardWith (two enabled disabled ++ created 3 30) 0 0 Quiet }
-    ∷ record { number = 6; start = fresh; before = load 2 0 ++ creates 3 30; call = delete 2; word = 0x9000; response = 0x00 ∷ []; notification = none; ticks = 0; card = cardWith (alone ++ vacant ∷ created 3 30) 0 0 Quiet }
-    ∷ record { number = 6; start = fresh; before = load 2 0 ++ creates 3 30 ++ delete 2 ∷ []; call = create 33 1; word = 0x9000; response = 0x00 ∷ []; notification = none; ticks = 0; card = cardWith (alone ++ profile (named (aid 33)) selectable 1 0 0 0 ∷ created 3 30) 0 0 Quiet }
-    ∷ record { number = 7; start = fresh; before = load 2 0; call = enable 2; word = 0x9000; response = []; notification = notice 0x02 1 2; ticks = 20; card = cardWith (two disabled enabled) 1 0 (Trial 0 10 1) }
-    ∷ record { number = 7; start = fresh; before = load 2 0 ++ enable 2 ∷ ticks 9; call = confirm 1; word = 0x9000; response = []; notification = none; ticks = 0; card = cardWith (two disabled enabled) 1 0 Quiet }
-    ∷ record { number = 8; start = fresh; before = load 2 0 ++ enable 2 ∷ ticks 9; call = Tick; word = 0x9000; response = []; notification = notice 0x03 2 1; ticks = 10; card = cardWith (two enabled disabled) 2 0 (Back 10 2) }
-    ∷ record { number = 8; start = fresh; before = load 2 0 ++ enable 2 ∷ ticks 10; call = confirm 1; word = 0x6A88; response = []; notification = none; ticks = 10; card = cardWith (two enabled disabled) 2 0 (Back 10 2) }
-    ∷ record { number = 9; start = fresh; before = load 2 0 ++ enable 2 ∷ ticks 19; call = Tick; word = 0x9000; response = []; notification = none; ticks = 0; card = cardWith (two enabled disabled) 2 0 Quiet }
-    ∷ record { number = 10; start = cardOfTwo disabled enabled 0; before = []; call = disable 2; word = 0x9000; response = []; notification = notice 0x02 1 1; ticks = 30; card = cardWith (two enabled disabled) 1 0 (Trial 1 10 1) }
-    ∷ record { number = 10; start = cardOfTwo disabled enabled 0; before = disable 2 ∷ ticks 9; call = Tick; word = 0x9000; response = []; notification = notice 0x03 2 2; ticks = 20; card = cardWith (two disabled enabled) 2 0 (Back 10 2) }
-    ∷ record { number = 10; start = cardOfTwo disabled enabled 0; before = disable 2 ∷ ticks 19; call = Tick; word = 0x9000; response = []; notification = notice 0x05 3 1; ticks = 10; card = cardWith (two enabled disabled) 3 0 (Fallen 10 3) }
-    ∷ record { number = 10; start = cardOfTwo disabled enabled 0; before = disable 2 ∷ ticks 29; call = Tick; word = 0x9000; response = []; notification = none; ticks = 0; card = cardWith (two enabled disabled) 3 0 Quiet }
-    ∷ record { number = 11; start = cardOfTwo enabled disabled 65535; before = []; call = enable 2; word = 0x9000; response = []; notification = notice 0x02 0 2; ticks = 20; card = cardWith (two disabled enabled) 0 0 (Trial 0 10 0) }
-    ∷ record { number = 12; start = fresh; before = []; call = Lost; word = 0x9000; response = []; notification = none; ticks = 0; card = cardWith alone 0 0 Quiet }
+    record { number = 1; start = fresh; before = []; call = getStatus; word = 0x9000; response = 0xE3 ∷ 0x0E ∷ 0x4F ∷ 0x05 ∷ 0xA0 ∷ 0x00 ∷ 0x00 ∷ 0x00 ∷ 0x01 ∷ 0x9F ∷ 0x70 ∷ 0x01 ∷ 0x3F ∷ 0x53 ∷ 0x01 ∷ 0x01 ∷ []; notification = none; ticks = 0; card = exampleCard alone 0 0 Quiet }
+    ∷ record { number = 2; start = fresh; before = load 2 0; call = setFallBack 2; word = 0x9000; response = []; notification = none; ticks = 0; card = exampleCard (two enabled disabled) 0 1 Quiet }
+    ∷ record { number = 2; start = fresh; before = loadWith 2 0 0; call = setFallBack 2; word = 0x6985; response = []; notification = none; ticks = 0; card = exampleCard (twoWith 0 enabled disabled) 0 0 Quiet }
+    ∷ record { number = 2; start = fresh; before = []; call = setFallBack 2; word = 0x6A88; response = []; notification = none; ticks = 0; card = exampleCard alone 0 0 Quiet }
+    ∷ record { number = 3; start = fresh; before = load 2 0; call = command (0x80 ∷ 0xE2 ∷ 0x87 ∷ 0x00 ∷ 0x0A ∷ 0x3A ∷ 0x05 ∷ 0x07 ∷ 0x4F ∷ 0x05 ∷ aid 2); word = 0x6A86; response = []; notification = none; ticks = 0; card = exampleCard (two enabled disabled) 0 0 Quiet }
+    ∷ record { number = 3; start = fresh; before = load 2 0; call = command (0x80 ∷ 0xE2 ∷ 0x88 ∷ 0x00 ∷ 0x09 ∷ 0x3A ∷ 0x05 ∷ 0x07 ∷ 0x4F ∷ 0x05 ∷ aid 2); word = 0x6700; response = []; notification = none; ticks = 0; card = exampleCard (two enabled disabled) 0 0 Quiet }
+    ∷ record { number = 4; start = fresh; before = load 2 0; call = command (0x80 ∷ 0xE2 ∷ 0x88 ∷ 0x00 ∷ 0x09 ∷ 0x3A ∷ 0x05 ∷ 0x06 ∷ 0x4F ∷ 0x04 ∷ 0xA0 ∷ 0x00 ∷ 0x00 ∷ 0x00 ∷ []); word = 0x6A80; response = []; notification = none; ticks = 0; card = exampleCard (two enabled disabled) 0 0 Quiet }
+    ∷ record { number = 5; start = fresh; before = []; call = create 2 900; word = 0x9000; response = 0x00 ∷ []; notification = none; ticks = 0; card = exampleCard (alone ++ profile (named (aid 2)) selectable 900 0 0 0 ∷ []) 0 0 Quiet }
+    ∷ record { number = 5; start = fresh; before = []; call = create 2 901; word = 0x6A84; response = []; notification = none; ticks = 0; card = exampleCard alone 0 0 Quiet }
+    ∷ record { number = 6; start = fresh; before = load 2 0 ++ creates 3 29; call = create 32 1; word = 0x9000; response = 0x00 ∷ []; notification = none; ticks = 0; card = exampleCard (two enabled disabled ++ created 3 30) 0 0 Quiet }
+    ∷ record { number = 6; start = fresh; before = load 2 0 ++ creates 3 30; call = create 33 1; word = 0x6A84; response = []; notification = none; ticks = 0; card = exampleCard (two enabled disabled ++ created 3 30) 0 0 Quiet }
+    ∷ record { number = 6; start = fresh; before = load 2 0 ++ creates 3 30; call = delete 2; word = 0x9000; response = 0x00 ∷ []; notification = none; ticks = 0; card = exampleCard (alone ++ vacant ∷ created 3 30) 0 0 Quiet }
+    ∷ record { number = 6; start = fresh; before = load 2 0 ++ creates 3 30 ++ delete 2 ∷ []; call = create 33 1; word = 0x9000; response = 0x00 ∷ []; notification = none; ticks = 0; card = exampleCard (alone ++ profile (named (aid 33)) selectable 1 0 0 0 ∷ created 3 30) 0 0 Quiet }
+    ∷ record { number = 7; start = fresh; before = load 2 0; call = enable 2; word = 0x9000; response = []; notification = notice 0x02 1 2; ticks = 20; card = exampleCard (two disabled enabled) 1 0 (Trial 0 10 1) }
+    ∷ record { number = 7; start = fresh; before = load 2 0 ++ enable 2 ∷ ticks 9; call = confirm 1; word = 0x9000; response = []; notification = none; ticks = 0; card = exampleCard (two disabled enabled) 1 0 Quiet }
+    ∷ record { number = 8; start = fresh; before = load 2 0 ++ enable 2 ∷ ticks 9; call = Tick; word = 0x9000; response = []; notification = notice 0x03 2 1; ticks = 10; card = exampleCard (two enabled disabled) 2 0 (Back 10 2) }
+    ∷ record { number = 8; start = fresh; before = load 2 0 ++ enable 2 ∷ ticks 10; call = confirm 1; word = 0x6A88; response = []; notification = none; ticks = 10; card = exampleCard (two enabled disabled) 2 0 (Back 10 2) }
+    ∷ record { number = 9; start = fresh; before = load 2 0 ++ enable 2 ∷ ticks 19; call = Tick; word = 0x9000; response = []; notification = none; ticks = 0; card = exampleCard (two enabled disabled) 2 0 Quiet }
+    ∷ record { number = 10; start = cardOfTwo disabled enabled 0; before = []; call = disable 2; word = 0x9000; response = []; notification = notice 0x02 1 1; ticks = 30; card = exampleCard (two enabled disabled) 1 0 (Trial 1 10 1) }
+    ∷ record { number = 10; start = cardOfTwo disabled enabled 0; before = disable 2 ∷ ticks 9; call = Tick; word = 0x9000; response = []; notification = notice 0x03 2 2; ticks = 20; card = exampleCard (two disabled enabled) 2 0 (Back 10 2) }
+    ∷ record { number = 10; start = cardOfTwo disabled enabled 0; before = disable 2 ∷ ticks 19; call = Tick; word = 0x9000; response = []; notification = notice 0x05 3 1; ticks = 10; card = exampleCard (two enabled disabled) 3 0 (Fallen 10 3) }
+    ∷ record { number = 10; start = cardOfTwo disabled enabled 0; before = disable 2 ∷ ticks 29; call = Tick; word = 0x9000; response = []; notification = none; ticks = 0; card = exampleCard (two enabled disabled) 3 0 Quiet }
+    ∷ record { number = 11; start = cardOfTwo enabled disabled 65535; before = []; call = enable 2; word = 0x9000; response = []; notification = notice 0x02 0 2; ticks = 20; card = exampleCard (two disabled enabled) 0 0 (Trial 0 10 0) }
+    ∷ record { number = 12; start = fresh; before = []; call = Lost; word = 0x9000; response = []; notification = none; ticks = 0; card = exampleCard alone 0 0 Quiet }
     ∷ []
 
 -- the word by its number, the notification with its kind by its code, and the rest of an answer as it is

@@ -12,7 +12,7 @@ use Rattle.card_record.specs.declared.Card.{Card}
 use Rattle.read_tlv.specs.Encoding.{Bytes}
 use Rattle.read_frame.specs.Classes.{isAmong}
 use Rattle.read_frame.specs.Headers.{printedInstructions, Header, storeDataHeaders, printedHeaders, framingWord}
-use Rattle.rule_run.specs.Calls.{Call.Command, Call.Policy}
+use Rattle.rule_run.specs.Calls.{Call.Command, Call.PolicyUpdate}
 use Rattle.rule_run.specs.Step.{step}
 
 -- the words of the rows after the length shape, and of success: none of them is a word of framing
@@ -33,4 +33,4 @@ pub record FramingAnswered : Type 0 where
   pub update :
       (c : Card) (speaker s : List ℕ) (room : ℕ)
       → Bytes s
-      → FirstRows c (0xE2 ∷ []) (storeDataHeaders []) s room (step c (Policy speaker s room))
+      → FirstRows c (0xE2 ∷ []) (storeDataHeaders []) s room (step c (PolicyUpdate speaker s room))

@@ -10,7 +10,7 @@ use Rattle.card_isdp.specs.LifeCycle.{withUsed}
 use Rattle.card_record.specs.Cards.{placeOf, profileOf, over}
 use Rattle.card_record.specs.Sound.{sound}
 use Rattle.card_record.specs.declared.Card.{Card}
-use Rattle.rule_run.specs.Calls.{Call, Call.Command, Call.Keyed, Call.Stored, Call.Finished, Call.Tick, Call.Lost, Call.Policy}
+use Rattle.rule_run.specs.Calls.{Call, Call.Command, Call.Keyed, Call.Stored, Call.Finished, Call.Tick, Call.Lost, Call.PolicyUpdate}
 use Rattle.rule_run.specs.Step.{run}
 use Rattle.proof_demands.specs.Said.{exchanges}
 use Rattle.rule_run.specs.Samples.{aid, create, confirm}
@@ -32,7 +32,7 @@ fills name (Stored other n) = sameBytes other name
 fills name (Finished other policy mark) = sameBytes other name
 fills name Tick = false
 fills name Lost = false
-fills name (Policy speaker s room) = false
+fills name (PolicyUpdate speaker s room) = false
 
 unfoldable pub noneFills : List ℕ → List Call → Bool
 noneFills name [] = true

@@ -26,7 +26,7 @@ use Rattle.proof_demands.specs.WrongEngines.{withCard}
 
 -- a call for rows of all profiles with these tags: the first ones, or the next
 abbrev pub Lists : Bool → Bool → Bool → Card → Call → Type 0
-Lists next life shown c call = Writes (c .capacity) (field.getStatus (field.asked next [] life shown)) call
+Lists next life shown c call = Writes (c .capacity) (field.getStatus (field.inquiry next [] life shown)) call
 
 -- a whole listing: GET STATUS of all, then P2 03 for the same tags until 90 00; refused calls may stand between (decision B77)
 pub data Whole (answer : Card → Call → Outcome) (life shown : Bool) : Bool → Card → List Call → Type 0 where
@@ -79,14 +79,14 @@ abbrev pub getNext : Call
 getNext = Command 0 (0x80 ∷ 0xF2 ∷ 0x40 ∷ 0x03 ∷ 0x02 ∷ 0x4F ∷ 0x00 ∷ 0x00 ∷ []) 256
 
 -- a command of no byte, which is refused
-abbrev pub empty : Call
-empty = Command 0 [] 256
+abbrev pub refusedCommand : Call
+refusedCommand = Command 0 [] 256
 
 pub record ListingMet : Type 0 where
   pub is-sound : sound crowded ≡ true
   -- fifteen rows, a refused call, and the other two
-  pub whole : Whole step true true false crowded (getFirst ∷ empty ∷ getNext ∷ [])
-  pub bytes : length (joined step crowded (getFirst ∷ empty ∷ getNext ∷ [])) ≡ 272
+  pub whole : Whole step true true false crowded (getFirst ∷ refusedCommand ∷ getNext ∷ [])
+  pub bytes : length (joined step crowded (getFirst ∷ refusedCommand ∷ getNext ∷ [])) ≡ 272
 
 -- the manager, but for the place that a part leaves
 abbrev pub goingOnAt : (ℕ → ℕ) → Card → Call → Outcome

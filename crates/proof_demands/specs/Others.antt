@@ -17,7 +17,7 @@ use Rattle.rule_steps.specs.Asked.{Asked, Asked.unread, Asked.create, Asked.on,
 use Rattle.rule_run.specs.Calls.{Call, asked}
 use Rattle.rule_run.specs.Step.{step}
 use Rattle.rule_run.specs.Samples as sample
-use Rattle.proof_demands.specs.SampleRun.{loaded, changed}
+use Rattle.proof_demands.specs.SampleRun.{loaded, afterChange}
 
 -- AID, quota, used, policy and mark are as they were; the life cycle is not spoken of (decision 68)
 pub record AsItWas (before after : Isdp) : Type 0 where
@@ -70,4 +70,4 @@ pub record OthersMet : Type 0 where
   pub target : targets loaded (asked loaded (sample.enable 3)) 2 ≡ true
   pub other : targets loaded (asked loaded (sample.enable 3)) 0 ≡ false
   pub stays : deletesAt loaded (sample.enable 3) 0 ≡ false
-  pub goes : deletesAt changed (sample.confirm 2) 1 ≡ true
+  pub goes : deletesAt afterChange (sample.confirm 2) 1 ≡ true

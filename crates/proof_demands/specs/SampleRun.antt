@@ -15,5 +15,5 @@ changing = enable 2 ∷ confirm 1 ∷ Tick ∷ enable 3 ∷ Tick ∷ []
 abbrev pub loaded : Card
 loaded = run fresh loading
 
-abbrev pub changed : Card
-changed = run loaded changing
+abbrev pub afterChange : Card
+afterChange = run loaded changing

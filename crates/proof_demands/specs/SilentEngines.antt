@@ -3,7 +3,7 @@
 use mathlib.Core.Bool.{Bool, true, false, cond}
 use Rattle.card_record.specs.Notifications.{silent}
 use Rattle.card_record.specs.Answers.{Outcome}
-use Rattle.rule_run.specs.Calls.{Call, Call.Command, Call.Keyed, Call.Stored, Call.Finished, Call.Tick, Call.Lost, Call.Policy}
+use Rattle.rule_run.specs.Calls.{Call, Call.Command, Call.Keyed, Call.Stored, Call.Finished, Call.Tick, Call.Lost, Call.PolicyUpdate}
 use Rattle.rule_run.specs.Step.{step}
 use Rattle.rule_run.specs.Runs.{isTick}
 use Rattle.proof_demands.specs.Engines.{Engine, plain, manager}
@@ -16,7 +16,7 @@ isLost (Stored aid n) = false
 isLost (Finished aid policy mark) = false
 isLost Tick = false
 isLost Lost = true
-isLost (Policy speaker s room) = false
+isLost (PolicyUpdate speaker s room) = false
 
 -- an answer with its notification left out
 abbrev pub hushed : Outcome → Outcome

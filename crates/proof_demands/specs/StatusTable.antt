@@ -20,7 +20,7 @@ use Rattle.card_record.specs.declared.Phase.the-variants.{Quiet}
 use Rattle.rule_run.specs.Calls.{Call, Call.Command, Call.Keyed, Call.Stored, Call.Finished, Call.Tick, Call.Lost}
 use Rattle.rule_run.specs.Table.{table}
 use Rattle.rule_run.specs.Step.{step, run}
-use Rattle.rule_run.specs.Samples.{aid, command, getStatus, setFallBack, enable, disable, confirm, delete, create, creates, fresh, loadWith, load, cardWith, cardOfTwo}
+use Rattle.rule_run.specs.Samples.{aid, command, getStatus, setFallBack, enable, disable, confirm, delete, create, creates, fresh, loadWith, load, exampleCard, cardOfTwo}
 
 -- the number of the first row that holds, counted from 1; 16 where none of the fifteen does
 unfoldable pub rowMet : List Row → ℕ
@@ -36,19 +36,19 @@ pub record Case : Type 0 where
   pub call : Call
 
 -- GET STATUS of all, with this class and this last byte
-abbrev pub listing : ℕ → ℕ → List ℕ
-listing class le = class ∷ 0xF2 ∷ 0x40 ∷ 0x02 ∷ 0x02 ∷ 0x4F ∷ 0x00 ∷ le ∷ []
+abbrev pub listingBytes : ℕ → ℕ → List ℕ
+listingBytes class le = class ∷ 0xF2 ∷ 0x40 ∷ 0x02 ∷ 0x02 ∷ 0x4F ∷ 0x00 ∷ le ∷ []
 
 -- GET STATUS of the next rows; the same with an AID named
 abbrev pub next : List ℕ
 next = 0x80 ∷ 0xF2 ∷ 0x40 ∷ 0x03 ∷ 0x02 ∷ 0x4F ∷ 0x00 ∷ 0x00 ∷ []
 
-abbrev pub nextOf : ℕ → Call
-nextOf n = command (0x80 ∷ 0xF2 ∷ 0x40 ∷ 0x03 ∷ 0x07 ∷ 0x4F ∷ 0x05 ∷ aid n)
+abbrev pub nextPartOf : ℕ → Call
+nextPartOf n = command (0x80 ∷ 0xF2 ∷ 0x40 ∷ 0x03 ∷ 0x07 ∷ 0x4F ∷ 0x05 ∷ aid n)
 
 -- a command of no byte
-abbrev pub empty : Call
-empty = command []
+abbrev pub noBytes : Call
+noBytes = command []
 
 -- set fall-back of 02, with this P1
 abbrev pub marking : ℕ → Call
@@ -67,8 +67,8 @@ masterDelete verdict n =
     256
 
 -- a card handed in: F, which is enabled and the fall-back, with this mark, and beside it this place
-abbrev pub handedIn : ℕ → Isdp → Card
-handedIn mark other = cardWith (withMark (made (aid 1) enabled 100 10) mark ∷ other ∷ []) 0 0 Quiet
+abbrev pub startsOn : ℕ → Isdp → Card
+startsOn mark other = exampleCard (withMark (made (aid 1) enabled 100 10) mark ∷ other ∷ []) 0 0 Quiet
 
 -- F is enabled and the fall-back, 02 is DISABLED; the same in Trial, to 02
 abbrev pub quiet : Card
@@ -92,25 +92,25 @@ case row word start before call = record { row = row; word = word; start = start
 abbrev pub cases : List Case
 cases =
     -- 6F 00, also before 6F 02
-    case 1 0x6F00 zeroCard [] (Command 0 (listing 0x80 0) 255)
+    case 1 0x6F00 zeroCard [] (Command 0 (listingBytes 0x80 0) 255)
     ∷ case 1 0x6F00 zeroCard [] Tick
     -- for a fall-back with no mark, a mark of 2, and a mark in a place not held; a profile of any state may be marked or not
-    ∷ case 1 0x6F00 (handedIn 0 vacant) [] Tick
-    ∷ case 1 0x6F00 (handedIn 2 vacant) [] Tick
-    ∷ case 1 0x6F00 (handedIn 1 (withMark (made (aid 2) disabled 50 5) 2)) [] Tick
-    ∷ case 1 0x6F00 (handedIn 1 (withMark vacant 1)) [] Tick
-    ∷ case 16 0x9000 (handedIn 1 (withMark (made (aid 2) selectable 50 0) 1)) [] Tick
-    ∷ case 16 0x9000 (handedIn 1 (made (aid 2) disabled 50 5)) [] Tick
+    ∷ case 1 0x6F00 (startsOn 0 vacant) [] Tick
+    ∷ case 1 0x6F00 (startsOn 2 vacant) [] Tick
+    ∷ case 1 0x6F00 (startsOn 1 (withMark (made (aid 2) disabled 50 5) 2)) [] Tick
+    ∷ case 1 0x6F00 (startsOn 1 (withMark vacant 1)) [] Tick
+    ∷ case 16 0x9000 (startsOn 1 (withMark (made (aid 2) selectable 50 0) 1)) [] Tick
+    ∷ case 16 0x9000 (startsOn 1 (made (aid 2) disabled 50 5)) [] Tick
     ∷ case 16 0x9000 fresh [] Tick
     -- request 2026-04: for a number kept for free that is not what the quotas leave, and for quotas over the capacity; also before 6F 02
     ∷ case 1 0x6F00 (withFree fresh 899) [] Tick
     ∷ case 1 0x6F00 (withFree fresh 901) [] Lost
     ∷ case 1 0x6F00 (withFree fresh 0) [] (create 2 1)
     ∷ case 1 0x6F00 (withFree fresh 1000) [] getStatus
-    ∷ case 1 0x6F00 (withFree fresh 4294967295) [] (Command 0 (listing 0x80 0) 255)
-    ∷ case 1 0x6F00 (handedIn 1 (made (aid 2) disabled 901 5)) [] Tick
+    ∷ case 1 0x6F00 (withFree fresh 4294967295) [] (Command 0 (listingBytes 0x80 0) 255)
+    ∷ case 1 0x6F00 (startsOn 1 (made (aid 2) disabled 901 5)) [] Tick
     ∷ case 16 0x9000 (withFree fresh 900) [] Tick
-    ∷ case 16 0x9000 (handedIn 1 (made (aid 2) disabled 900 5)) [] Tick
+    ∷ case 16 0x9000 (startsOn 1 (made (aid 2) disabled 900 5)) [] Tick
     -- request 2026-05: for a kept place that is not held, the last of them, and past the last
     ∷ case 1 0x6F00 (keeping fresh 1) [] Tick
     ∷ case 1 0x6F00 (keeping fresh 31) [] getStatus
@@ -121,19 +121,19 @@ cases =
     ∷ case 6 0x6A86 (keeping fresh 0) [] (command (0x80 ∷ 0xF2 ∷ 0x40 ∷ 0x01 ∷ 0x02 ∷ 0x4F ∷ 0x00 ∷ []))
     ∷ case 6 0x6A86 (keeping fresh 0) [] (command (0x80 ∷ 0xF2 ∷ 0x40 ∷ 0x04 ∷ 0x02 ∷ 0x4F ∷ 0x00 ∷ []))
     ∷ case 7 0x6700 (keeping fresh 0) [] (command (0x80 ∷ 0xF2 ∷ 0x40 ∷ 0x03 ∷ []))
-    ∷ case 8 0x6A80 (keeping fresh 0) [] (nextOf 1)
-    ∷ case 8 0x6A80 fresh [] (nextOf 1)
-    ∷ case 8 0x6A80 fresh [] (nextOf 9)
+    ∷ case 8 0x6A80 (keeping fresh 0) [] (nextPartOf 1)
+    ∷ case 8 0x6A80 fresh [] (nextPartOf 1)
+    ∷ case 8 0x6A80 fresh [] (nextPartOf 9)
     ∷ case 10 0x6A88 fresh [] (command next)
     ∷ case 10 0x6A88 quiet opening (command next)
     ∷ case 16 0x9000 (keeping fresh 0) [] (command next)
     ∷ case 10 0x6A88 (keeping fresh 0) (command next ∷ []) (command next)
-    ∷ case 16 0x9000 (keeping fresh 0) (empty ∷ nextOf 1 ∷ []) (command next)
+    ∷ case 16 0x9000 (keeping fresh 0) (noBytes ∷ nextPartOf 1 ∷ []) (command next)
     ∷ case 10 0x6A88 (keeping fresh 0) (Tick ∷ []) (command next)
     -- 6F 02, also before 67 00
     ∷ case 2 0x6F02 fresh [] (Command 0 (0x80 ∷ 0xF2 ∷ 0x40 ∷ []) 255)
-    ∷ case 2 0x6F02 fresh [] (Command 0 (listing 0x80 0) 255)
-    ∷ case 16 0x9000 fresh [] (Command 0 (listing 0x80 0) 256)
+    ∷ case 2 0x6F02 fresh [] (Command 0 (listingBytes 0x80 0) 255)
+    ∷ case 16 0x9000 fresh [] (Command 0 (listingBytes 0x80 0) 256)
     -- 67 00 for 3 and for 262 bytes, also before 6E 00; 4 and 261 bytes pass
     ∷ case 3 0x6700 fresh [] (command (0x00 ∷ 0xF2 ∷ 0x40 ∷ []))
     ∷ case 3 0x6700 fresh [] (command (0x00 ∷ replicate 261 0))
@@ -142,17 +142,17 @@ cases =
     ∷ case 16 0x9000 fresh [] (command (0x80 ∷ 0xF2 ∷ 0x40 ∷ 0x02 ∷ 0xFF ∷ 0x4F ∷ 0x00 ∷ 0x5C ∷ 0x81 ∷ 0xFA ∷ (replicate 250 0x53 ++ 0x00 ∷ [])))
     -- 6E 00, also before 6D 00; the bounds of the three ranges
     ∷ case 4 0x6E00 fresh [] (command (0x90 ∷ 0xAA ∷ 0x40 ∷ 0x02 ∷ []))
-    ∷ case 4 0x6E00 fresh [] (command (listing 0x7F 0))
-    ∷ case 16 0x9000 fresh [] (command (listing 0x8F 0))
-    ∷ case 4 0x6E00 fresh [] (command (listing 0x90 0))
-    ∷ case 4 0x6E00 fresh [] (command (listing 0xBF 0))
-    ∷ case 16 0x9000 fresh [] (command (listing 0xC0 0))
-    ∷ case 16 0x9000 fresh [] (command (listing 0xCF 0))
-    ∷ case 4 0x6E00 fresh [] (command (listing 0xD0 0))
-    ∷ case 4 0x6E00 fresh [] (command (listing 0xDF 0))
-    ∷ case 16 0x9000 fresh [] (command (listing 0xE0 0))
-    ∷ case 16 0x9000 fresh [] (command (listing 0xEF 0))
-    ∷ case 4 0x6E00 fresh [] (command (listing 0xF0 0))
+    ∷ case 4 0x6E00 fresh [] (command (listingBytes 0x7F 0))
+    ∷ case 16 0x9000 fresh [] (command (listingBytes 0x8F 0))
+    ∷ case 4 0x6E00 fresh [] (command (listingBytes 0x90 0))
+    ∷ case 4 0x6E00 fresh [] (command (listingBytes 0xBF 0))
+    ∷ case 16 0x9000 fresh [] (command (listingBytes 0xC0 0))
+    ∷ case 16 0x9000 fresh [] (command (listingBytes 0xCF 0))
+    ∷ case 4 0x6E00 fresh [] (command (listingBytes 0xD0 0))
+    ∷ case 4 0x6E00 fresh [] (command (listingBytes 0xDF 0))
+    ∷ case 16 0x9000 fresh [] (command (listingBytes 0xE0 0))
+    ∷ case 16 0x9000 fresh [] (command (listingBytes 0xEF 0))
+    ∷ case 4 0x6E00 fresh [] (command (listingBytes 0xF0 0))
     -- 6D 00, always before 6A 86
     ∷ case 5 0x6D00 fresh [] (command (0x80 ∷ 0xAA ∷ 0x40 ∷ 0x02 ∷ []))
     -- 6A 86, also before 67 00; the bounds of P1
@@ -163,7 +163,7 @@ cases =
     ∷ case 6 0x6A86 quiet [] (marking 0x90)
     -- 67 00 for the length shape, also before 6A 80
     ∷ case 7 0x6700 quiet [] (command (0x80 ∷ 0xE2 ∷ 0x88 ∷ 0x00 ∷ 0x09 ∷ 0x3A ∷ 0x05 ∷ 0x07 ∷ 0x4F ∷ 0x05 ∷ aid 2))
-    ∷ case 7 0x6700 fresh [] (command (listing 0x80 1))
+    ∷ case 7 0x6700 fresh [] (command (listingBytes 0x80 1))
     ∷ case 7 0x6700 fresh [] (command (0x80 ∷ 0xCA ∷ 0xFF ∷ 0x21 ∷ 0x01 ∷ []))
     ∷ case 16 0x9000 fresh [] (command (0x80 ∷ 0xCA ∷ 0xFF ∷ 0x21 ∷ 0x00 ∷ []))
     -- 6A 80 for the data field and for the values of an inner call, also in an open change and for an AID not held
@@ -233,9 +233,9 @@ cases =
     -- 69 E1, of a record handed in also where the profile is SELECTABLE or PERSONALIZED
     ∷ case 13 0x69E1 fresh (load 2 2) (delete 2)
     ∷ case 16 0x9000 fresh (load 2 1) (delete 2)
-    ∷ case 13 0x69E1 (handedIn 1 (withPolicy (made (aid 2) selectable 50 0) 2)) [] (delete 2)
-    ∷ case 13 0x69E1 (handedIn 1 (withPolicy (made (aid 2) personalized 50 5) 3)) [] (delete 2)
-    ∷ case 16 0x9000 (handedIn 1 (withPolicy (made (aid 2) personalized 50 5) 4)) [] (delete 2)
+    ∷ case 13 0x69E1 (startsOn 1 (withPolicy (made (aid 2) selectable 50 0) 2)) [] (delete 2)
+    ∷ case 13 0x69E1 (startsOn 1 (withPolicy (made (aid 2) personalized 50 5) 3)) [] (delete 2)
+    ∷ case 16 0x9000 (startsOn 1 (withPolicy (made (aid 2) personalized 50 5) 4)) [] (delete 2)
     ∷ case 13 0x69E1 fresh (onto 1) (disable 2)
     ∷ case 16 0x9000 fresh (onto 2) (disable 2)
     ∷ case 13 0x69E1 fresh (onto 1 ++ load 3 0) (enable 3)
@@ -264,17 +264,17 @@ cases =
     ∷ []
 
 -- the row that answers, and the word
-pub record Told : Type 0 where
+pub record RowAndWord : Type 0 where
   pub row : ℕ
   pub word : ℕ
 
-unfoldable pub allTold : List Case → List Told
+unfoldable pub allTold : List Case → List RowAndWord
 allTold [] = []
 allTold (x ∷ rest) =
     record { row = rowMet (table (run (x .start) (x .before)) (x .call)); word = numberOf (step (run (x .start) (x .before)) (x .call) .status) }
     ∷ allTold rest
 
-unfoldable pub allMeant : List Case → List Told
+unfoldable pub allMeant : List Case → List RowAndWord
 allMeant [] = []
 allMeant (x ∷ rest) = record { row = x .row; word = x .word } ∷ allMeant rest
 

@@ -7,7 +7,7 @@ use mathlib.Core.List.{List, [], _∷_, _++_}
 use lib.ListN.{replicate}
 use Rattle.card_record.specs.Cards.{keeping}
 use Rattle.card_record.specs.Fresh.{zeroCard}
-use Rattle.rule_run.specs.Calls.{Call, Call.Keyed, Call.Lost, Call.Policy}
+use Rattle.rule_run.specs.Calls.{Call, Call.Keyed, Call.Lost, Call.PolicyUpdate}
 use Rattle.rule_run.specs.Samples.{aid, command, enable, disable, confirm, delete, fresh, ticks}
 use Rattle.proof_demands.specs.StatusTable.{Case, case, next, quiet, opening, begun, onto, allTold, allMeant}
 
@@ -17,25 +17,25 @@ storing p1 policy = 0x80 ∷ 0xE2 ∷ p1 ∷ 0x00 ∷ 0x06 ∷ 0x3A ∷ 0x06 ∷
 
 -- the domain of F speaks
 abbrev pub sent : List ℕ → Call
-sent s = Policy (aid 1) s 256
+sent s = PolicyUpdate (aid 1) s 256
 
 -- the domain of this profile sets this policy
 abbrev pub policy : ℕ → ℕ → Call
-policy n p = Policy (aid n) (storing 0x88 p) 256
+policy n p = PolicyUpdate (aid n) (storing 0x88 p) 256
 
 -- a lost network: Fallen, F enabled
-abbrev pub fallen : List Call
-fallen = onto 0 ++ Lost ∷ []
+abbrev pub lostCalls : List Call
+lostCalls = onto 0 ++ Lost ∷ []
 
 abbrev pub updates : List Case
 updates =
     -- 6F 00, also before 6F 02
     case 1 0x6F00 zeroCard [] (policy 1 2)
-    ∷ case 1 0x6F00 zeroCard [] (Policy [] [] 255)
+    ∷ case 1 0x6F00 zeroCard [] (PolicyUpdate [] [] 255)
     -- 6F 02, also before 67 00
-    ∷ case 2 0x6F02 fresh [] (Policy (aid 1) [] 255)
-    ∷ case 2 0x6F02 fresh [] (Policy (aid 1) (storing 0x88 2) 255)
-    ∷ case 16 0x9000 fresh [] (Policy (aid 1) (storing 0x88 2) 256)
+    ∷ case 2 0x6F02 fresh [] (PolicyUpdate (aid 1) [] 255)
+    ∷ case 2 0x6F02 fresh [] (PolicyUpdate (aid 1) (storing 0x88 2) 255)
+    ∷ case 16 0x9000 fresh [] (PolicyUpdate (aid 1) (storing 0x88 2) 256)
     -- 67 00, also before 6E 00
     ∷ case 3 0x6700 fresh [] (sent (0x00 ∷ 0xE2 ∷ 0x88 ∷ []))
     ∷ case 3 0x6700 fresh [] (sent (0x00 ∷ replicate 261 0))
@@ -55,14 +55,14 @@ updates =
     ∷ case 16 0x9000 fresh [] (sent (storing 0x8F 2))
     ∷ case 6 0x6A86 fresh [] (sent (storing 0x90 2))
     -- 67 00 for the length shape, also before 6A 80
-    ∷ case 7 0x6700 fresh [] (Policy [] (0x80 ∷ 0xE2 ∷ 0x88 ∷ 0x00 ∷ 0x05 ∷ 0x3A ∷ 0x06 ∷ 0x03 ∷ 0x81 ∷ 0x01 ∷ 0x02 ∷ []) 256)
+    ∷ case 7 0x6700 fresh [] (PolicyUpdate [] (0x80 ∷ 0xE2 ∷ 0x88 ∷ 0x00 ∷ 0x05 ∷ 0x3A ∷ 0x06 ∷ 0x03 ∷ 0x81 ∷ 0x01 ∷ 0x02 ∷ []) 256)
     ∷ case 7 0x6700 fresh [] (sent (0x80 ∷ 0xE2 ∷ 0x88 ∷ 0x00 ∷ 0x06 ∷ 0x3A ∷ 0x06 ∷ 0x03 ∷ 0x81 ∷ 0x01 ∷ 0x02 ∷ 0x01 ∷ []))
     -- 6A 80: the speaker's length, also in an open change
-    ∷ case 8 0x6A80 fresh [] (Policy [] (storing 0x88 2) 256)
-    ∷ case 8 0x6A80 quiet opening (Policy (replicate 4 0xA0) (storing 0x88 2) 256)
-    ∷ case 10 0x6A88 fresh [] (Policy (replicate 5 0xA0) (storing 0x88 2) 256)
-    ∷ case 10 0x6A88 fresh [] (Policy (replicate 16 0xA0) (storing 0x88 2) 256)
-    ∷ case 8 0x6A80 fresh [] (Policy (replicate 17 0xA0) (storing 0x88 2) 256)
+    ∷ case 8 0x6A80 fresh [] (PolicyUpdate [] (storing 0x88 2) 256)
+    ∷ case 8 0x6A80 quiet opening (PolicyUpdate (replicate 4 0xA0) (storing 0x88 2) 256)
+    ∷ case 10 0x6A88 fresh [] (PolicyUpdate (replicate 5 0xA0) (storing 0x88 2) 256)
+    ∷ case 10 0x6A88 fresh [] (PolicyUpdate (replicate 16 0xA0) (storing 0x88 2) 256)
+    ∷ case 8 0x6A80 fresh [] (PolicyUpdate (replicate 17 0xA0) (storing 0x88 2) 256)
     -- the DGI and what it holds: those of the root domain, 81 of no byte and of two, a second element; at the root domain 3A06 is no DGI
     ∷ case 8 0x6A80 fresh [] (sent (0x80 ∷ 0xE2 ∷ 0x88 ∷ 0x00 ∷ 0x0A ∷ 0x3A ∷ 0x05 ∷ 0x07 ∷ 0x4F ∷ 0x05 ∷ aid 1))
     ∷ case 8 0x6A80 fresh [] (sent (0x80 ∷ 0xE2 ∷ 0x88 ∷ 0x00 ∷ 0x06 ∷ 0x3A ∷ 0x05 ∷ 0x03 ∷ 0x81 ∷ 0x01 ∷ 0x02 ∷ []))
@@ -87,11 +87,11 @@ updates =
     ∷ case 9 0x6985 quiet opening (policy 1 2)
     ∷ case 9 0x6985 quiet opening (policy 2 2)
     ∷ case 9 0x6985 quiet (opening ++ ticks 10) (policy 1 2)
-    ∷ case 9 0x6985 fresh fallen (policy 1 2)
+    ∷ case 9 0x6985 fresh lostCalls (policy 1 2)
     ∷ case 16 0x9000 quiet (opening ++ confirm 1 ∷ []) (policy 2 2)
     -- 6A 88; an AID is told by its length too
     ∷ case 10 0x6A88 quiet [] (policy 9 2)
-    ∷ case 10 0x6A88 quiet [] (Policy (aid 1 ++ 0x00 ∷ []) (storing 0x88 2) 256)
+    ∷ case 10 0x6A88 quiet [] (PolicyUpdate (aid 1 ++ 0x00 ∷ []) (storing 0x88 2) 256)
     -- 69 85 for a profile that is not enabled: DISABLED, SELECTABLE, PERSONALIZED
     ∷ case 12 0x6985 quiet [] (policy 2 2)
     ∷ case 12 0x6985 fresh begun (policy 2 2)

@@ -17,7 +17,7 @@ use Rattle.read_command.specs.Grammar.{Encodes}
 use Rattle.read_operator.specs.Grammar.{EncodesUpdate}
 use Rattle.rule_steps.specs.Asked.{Act.enable, Act.disable, Act.delete, Act.masterDelete, Act.setFallBack, Act.status, Act.setPolicy, Asked, Asked.create, Asked.on, Asked.confirm, Asked.statusOfAll, Asked.getData}
 use Rattle.rule_steps.specs.Steps.{askedWork, innerWork}
-use Rattle.rule_run.specs.Calls.{Call.Command, Call.Policy}
+use Rattle.rule_run.specs.Calls.{Call.Command, Call.PolicyUpdate}
 use Rattle.rule_run.specs.Table.{leastBuffer}
 use Rattle.rule_run.specs.Step.{step}
 
@@ -28,7 +28,7 @@ storedAsks (field.setFallBack aid) = on aid setFallBack
 storedAsks (field.confirmation number) = confirm number
 
 -- the token verdict is handed in beside the bytes
-abbrev pub deletedAsks : ℕ → field.Deleted → Asked
+abbrev pub deletedAsks : ℕ → field.Deletion → Asked
 deletedAsks verdict (field.delete aid) = on aid delete
 deletedAsks verdict (field.masterDelete aid) = on aid (masterDelete verdict)
 
@@ -99,13 +99,13 @@ UpdateAnswered =
     (c : Card) (speaker s : List ℕ) (room policy : ℕ)
     → leastBuffer ≤ room
     → EncodesUpdate policy s
-    → step c (Policy speaker s room) ≡ outcome c (innerWork c speaker (setPolicy policy))
+    → step c (PolicyUpdate speaker s room) ≡ outcome c (innerWork c speaker (setPolicy policy))
 
 abbrev pub AcceptedUpdate : Type 0
 AcceptedUpdate =
     (c : Card) (speaker s : List ℕ) (room : ℕ)
     → Bytes s
-    → isDone (step c (Policy speaker s room) .status) ≡ true
+    → isDone (step c (PolicyUpdate speaker s room) .status) ≡ true
     → (policy : ℕ) × ((leastBuffer ≤ room) × EncodesUpdate policy s)
 
 abbrev pub UnwrittenUpdate : Type 0
@@ -115,7 +115,7 @@ UnwrittenUpdate =
     → sound c ≡ true
     → leastBuffer ≤ room
     → ((policy : ℕ) → EncodesUpdate policy s → ⊥)
-    → ofReading (step c (Policy speaker s room) .status) ≡ true
+    → ofReading (step c (PolicyUpdate speaker s room) .status) ≡ true
 
 abbrev pub OnePolicy : Type 0
 OnePolicy = (s : List ℕ) (p q : ℕ) → EncodesUpdate p s → EncodesUpdate q s → p ≡ q

@@ -16,7 +16,7 @@ use Rattle.card_isdp.specs.LifeCycle.{isFinished}
 use Rattle.card_places.specs.Places.{at}
 use Rattle.card_record.specs.Cards.{isQuiet, placeOf, profileOf, enabledPlace, withPhase, cleared, withFallback}
 use Rattle.card_record.specs.Sound.{sound}
-use Rattle.card_record.specs.Clock.{nextOf, outstanding, dropped}
+use Rattle.card_record.specs.Clock.{nextNumber, outstanding, dropped}
 use Rattle.card_record.specs.Steps.{stepTo, confirmStep}
 use Rattle.card_record.specs.Ticks.{ticksToCome}
 use Rattle.card_record.specs.Answers.{Outcome, refused, accepted}
@@ -24,7 +24,7 @@ use Rattle.card_record.specs.declared.Card.{Card}
 use Rattle.card_record.specs.declared.Phase.{Phase}
 use Rattle.card_record.specs.declared.Phase.the-variants.{Quiet, Trial, Back, Fallen}
 use Rattle.rule_steps.specs.Asked.{Act.enable, Act.setFallBack, Asked, Asked.unread, Asked.create, Asked.on, Asked.confirm, Asked.statusOfAll, Asked.getData, Asked.tick, Asked.lost, sameAct, onTarget}
-use Rattle.rule_run.specs.Calls.{Call, Call.Command, Call.Keyed, Call.Stored, Call.Finished, Call.Tick, Call.Lost, Call.Policy, asked}
+use Rattle.rule_run.specs.Calls.{Call, Call.Command, Call.Keyed, Call.Stored, Call.Finished, Call.Tick, Call.Lost, Call.PolicyUpdate, asked}
 use Rattle.rule_run.specs.Step.{step}
 use Rattle.rule_run.specs.Runs.{taken, isTick}
 use Rattle.rule_run.specs.Inputs.{Inputs, freshOf}
@@ -111,7 +111,7 @@ isCommand (Stored aid n) = false
 isCommand (Finished aid policy mark) = false
 isCommand Tick = false
 isCommand Lost = false
-isCommand (Policy speaker s room) = false
+isCommand (PolicyUpdate speaker s room) = false
 
 -- it works on the first so many, and answers every later one so
 abbrev pub firstThen : ℕ → (Card → Call → Outcome) → Engine
@@ -130,13 +130,13 @@ FirstThenOnly9000 =
     (n : ℕ) (later : Card → Call → Outcome) → ((c : Card) (call : Call) → later c call .status ≡ Done) → MeetsDemand2 (firstThen n later) → ⊥
 
 -- 90 00 and nothing done
-abbrev pub idle : Card → Call → Outcome
-idle c call = accepted Done (stepTo c c noAid) []
+abbrev pub idleAnswer : Card → Call → Outcome
+idleAnswer c call = accepted Done (stepTo c c noAid) []
 
 -- by demand 3 from the second change on: the first takes four commands (two creations, the enable and its confirmation), and it may work
 -- on any number more (decision B41)
 abbrev pub NotTheSecondChange : Type 0
-NotTheSecondChange = (n : ℕ) → MeetsDemand3 (firstThen (n + 4) idle) → ⊥
+NotTheSecondChange = (n : ℕ) → MeetsDemand3 (firstThen (n + 4) idleAnswer) → ⊥
 
 -- "one that invents its ticks-left figure", from the card handed back
 abbrev pub inventsTicks : (Card → ℕ) → Engine
@@ -198,7 +198,7 @@ abbrev pub isLate : Phase → Asked → Bool
 isLate phase unread = false
 isLate phase (create aid quota) = false
 isLate phase (on aid act) = false
-isLate phase (confirm number) = outstanding phase (nextOf number)
+isLate phase (confirm number) = outstanding phase (nextNumber number)
 isLate phase (statusOfAll next life fallback) = false
 isLate phase getData = false
 isLate phase tick = false

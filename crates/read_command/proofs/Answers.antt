@@ -17,18 +17,18 @@ use Rattle.read_command.specs.declared.Reading.the-variants as reading
 use Rattle.read_frame.specs.Framing.{lengthWrong, classWrong, instructionWrong, parametersWrong, shapeWrong}
 use Rattle.read_frame.proofs.Rows as rows
 use Rattle.read_frame.proofs.Answers as answers
-use Rattle.read_command.specs.Requests.{fieldOf, dataWrong, isWrong}
-use Rattle.read_command.specs.Reading.{readingRows, accepted, readOf}
+use Rattle.read_command.specs.Requests.{fieldOf, dataWrong, isFieldWrong}
+use Rattle.read_command.specs.Reading.{readingRows, requestRead, readOf}
 
 -- no row's condition holds
 abbrev pub Passes : List ℕ → ℕ → Type 0
 Passes s capacity = rows.Passes (lengthWrong s) (classWrong s) (instructionWrong s) (parametersWrong s) (shapeWrong s) (dataWrong s capacity)
 
-request-taken : (f : Field) (r : Request) → reading.Read r ≡ accepted f → field.Found r ≡ f
+request-taken : (f : Field) (r : Request) → reading.Read r ≡ requestRead f → field.Found r ≡ f
 request-taken field.Wrong r q = let z : _≡_ {A = ℕ} 0 1 = cc in absurd (omega arith)
 request-taken (field.Found t) r q = cc
 
-request-given : (f : Field) → isWrong f ≡ false → (r : Request) × (reading.Read r ≡ accepted f)
+request-given : (f : Field) → isFieldWrong f ≡ false → (r : Request) × (reading.Read r ≡ requestRead f)
 request-given field.Wrong h = absurd (false≢true (sym h))
 request-given (field.Found r) h = (r, refl)
 
@@ -45,8 +45,8 @@ requests =
       Field = Field;
       Answer = Reading;
       found = λ r. field.Found r;
-      isWrong = isWrong;
-      accepted = accepted;
+      isWrong = isFieldWrong;
+      accepted = requestRead;
       read = λ r. reading.Read r;
       refused = λ w. reading.Refused w;
       taken = request-taken;
@@ -84,6 +84,6 @@ module _ (s : List ℕ) (capacity : ℕ) where
   unfolding readOf dataWrong
   read-passes = answers.read-passes requests (lengthWrong s) (classWrong s) (instructionWrong s) (parametersWrong s) (shapeWrong s) (fieldOf s capacity)
 
-  pub passes-answer : Passes s capacity → accepted (fieldOf s capacity) ≡ readOf s capacity
+  pub passes-answer : Passes s capacity → requestRead (fieldOf s capacity) ≡ readOf s capacity
   unfolding readOf dataWrong
   passes-answer = answers.passes-answer requests (lengthWrong s) (classWrong s) (instructionWrong s) (parametersWrong s) (shapeWrong s) (fieldOf s capacity)

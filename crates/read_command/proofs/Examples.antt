@@ -7,11 +7,11 @@ use Rattle.base_status.specs.Rows.{wordOf}
 use Rattle.base_status.specs.declared.Status.the-variants as status
 use Rattle.base_choice.specs.Choice.{pick, atMost, isBelow, isSame}
 use Rattle.read_tlv.specs.Tlv.{tagAt, lengthAt, afterLength, afterTag, headAt, expectOf, expectAt}
-use Rattle.read_tlv.specs.Lists.{listWrong, listAt, listWithin, listOf, elementOf, restOf, closed}
+use Rattle.read_tlv.specs.Lists.{listWrong, listAt, listWithin, listOf, elementOf, restAfter, elementClosed}
 use Rattle.read_elements.specs.Reader.{aloneAt}
-use Rattle.read_fields.specs.StoreData.{dgiAt, confirmationAt, namedBy, storeDataAt}
+use Rattle.read_fields.specs.StoreData.{dgiAt, confirmationAt, requestNamed, storeDataAt}
 use Rattle.read_fields.specs.Delete.{verificationAt, deletionAt}
-use Rattle.read_fields.specs.GetStatus.{noted, listedWithin, listedAt, tagsAt, listingAt}
+use Rattle.read_fields.specs.GetStatus.{tagNoted, listedWithin, listedAt, tagsAt, listingAt}
 use Rattle.read_install.specs.Parameters.{protocolsWithin, protocolsAt, numberAt, grantOf, memoryAt, parametersAt}
 use Rattle.read_install.specs.Install.{prefixedOf, prefixedAt, namesAt, rightsAt, installOf}
 use Rattle.read_fields.specs.declared.request.Request.the-variants as request
@@ -56,5 +56,5 @@ examples =
     ∷ []
 
 worked : map (λ (e : Example). readOf (e .bytes) 1000) examples ≡ map (λ (e : Example). e .answer) examples
-unfolding readOf wordOf lengthWrong classRight classWrong instructionWrong parametersRight parametersWrong shapeRight shapeWrong fieldOf dataWrong pick atMost isBelow isSame listWrong listAt listWithin listOf elementOf restOf closed tagAt lengthAt afterLength afterTag headAt expectOf expectAt aloneAt dgiAt confirmationAt namedBy storeDataAt verificationAt deletionAt noted listedWithin listedAt tagsAt listingAt protocolsWithin protocolsAt numberAt grantOf memoryAt parametersAt prefixedOf prefixedAt namesAt rightsAt installOf
+unfolding readOf wordOf lengthWrong classRight classWrong instructionWrong parametersRight parametersWrong shapeRight shapeWrong fieldOf dataWrong pick atMost isBelow isSame listWrong listAt listWithin listOf elementOf restAfter elementClosed tagAt lengthAt afterLength afterTag headAt expectOf expectAt aloneAt dgiAt confirmationAt requestNamed storeDataAt verificationAt deletionAt tagNoted listedWithin listedAt tagsAt listingAt protocolsWithin protocolsAt numberAt grantOf memoryAt parametersAt prefixedOf prefixedAt namesAt rightsAt installOf
 worked = refl

@@ -16,16 +16,16 @@ use Rattle.read_fields.specs.declared.request.Request.the-variants as request
 use Rattle.read_fields.specs.declared.request.Field.{Field}
 use Rattle.read_fields.specs.declared.request.Field.the-variants as field
 use Rattle.read_frame.specs.Framing.{dataEnd}
-use Rattle.read_command.specs.Requests.{goesOn, fieldOf, isWrong}
-use Rattle.read_command.specs.Reading.{accepted}
+use Rattle.read_command.specs.Requests.{goesOn, fieldOf, isFieldWrong}
+use Rattle.read_command.specs.Reading.{requestRead}
 use Rattle.read_command.specs.Grammar.{readAs}
 
 module _ (s : List ℕ) where
-  pub accepted-as : (f : Field) → readAs s (accepted f) ≡ foundAs s f
+  pub accepted-as : (f : Field) → readAs s (requestRead f) ≡ foundAs s f
   accepted-as field.Wrong = refl
   accepted-as (field.Found r) = refl
 
-  pub right-as : (f : Field) (v : Wanted) → foundAs s f ≡ some v → isWrong f ≡ false
+  pub right-as : (f : Field) (v : Wanted) → foundAs s f ≡ some v → isFieldWrong f ≡ false
   right-as field.Wrong v q = let z : _≡_ {A = ℕ} 0 1 = cc in absurd (omega arith)
   right-as (field.Found r) v q = refl
 

@@ -6,14 +6,14 @@ use mathlib.Core.List.{List, []}
 use mathlib.Core.Bool.{Bool, true, false}
 use lib.ListN.{length}
 use Rattle.read_tlv.specs.Encoding.{window}
-use Rattle.read_fields.specs.Grammar.{asked, getStatus, all, EncodesListed}
+use Rattle.read_fields.specs.Grammar.{inquiry, getStatus, all, EncodesListed}
 use Rattle.read_frame.specs.Framing.{classRight, parametersRight, dataEnd}
 use Rattle.read_command.specs.Grammar.{secondOf, listingOf, Listing, SameTags}
 use Rattle.read_frame.proofs.Framed.{field-window}
 use Rattle.read_command.proofs.ReadBack.{command-back}
 use Rattle.read_command.proofs.Written.{command-written}
 
-encodes-alike : (next next′ life shown : Bool) (bytes : List ℕ) → EncodesListed (asked next [] life shown) bytes → EncodesListed (asked next′ [] life shown) bytes
+encodes-alike : (next next′ life shown : Bool) (bytes : List ℕ) → EncodesListed (inquiry next [] life shown) bytes → EncodesListed (inquiry next′ [] life shown) bytes
 encodes-alike next next′ life shown bytes e =
     record { tags = e .tags; sought = all; short = e .short; lifeAsked = e .lifeAsked; fallBackAsked = e .fallBackAsked; written = e .written }
 
@@ -23,8 +23,8 @@ second-right false = refl
 second-right true = refl
 
 module _ (next next′ : Bool) (class class′ : ℕ) (withLe withLe′ : Bool) (field : List ℕ) (life shown : Bool) where
-  listing-alike : Listing (asked next [] life shown) (listingOf class next field withLe) → classRight class′ ≡ true
-      → Listing (asked next′ [] life shown) (listingOf class′ next′ field withLe′)
+  listing-alike : Listing (inquiry next [] life shown) (listingOf class next field withLe) → classRight class′ ≡ true
+      → Listing (inquiry next′ [] life shown) (listingOf class′ next′ field withLe′)
   listing-alike e right =
       let f = e .command in
       let same : f .field ≡ field =
@@ -42,7 +42,7 @@ module _ (next next′ : Bool) (class class′ : ℕ) (withLe withLe′ : Bool) 
           rightParameters = second-right next′;
           least = subst (λ (z : List ℕ). 1 ≤ length z) same (f .least);
           most = subst (λ (z : List ℕ). length z ≤ 255) same (f .most);
-          encoded = encodes-alike next next′ life shown field (subst (EncodesListed (asked next [] life shown)) same (f .encoded));
+          encoded = encodes-alike next next′ life shown field (subst (EncodesListed (inquiry next [] life shown)) same (f .encoded));
           written = refl;
         };
         second = refl;
@@ -50,6 +50,6 @@ module _ (next next′ : Bool) (class class′ : ℕ) (withLe withLe′ : Bool) 
 
 pub same-tags : SameTags
 same-tags next next′ class class′ withLe withLe′ field capacity life shown b q right =
-    command-back (listingOf class′ next′ field withLe′) capacity (getStatus (asked next′ [] life shown))
+    command-back (listingOf class′ next′ field withLe′) capacity (getStatus (inquiry next′ [] life shown))
     (listing-alike next next′ class class′ withLe withLe′ field life shown
-    (command-written (listingOf class next field withLe) capacity (getStatus (asked next [] life shown)) b q) right)
+    (command-written (listingOf class next field withLe) capacity (getStatus (inquiry next [] life shown)) b q) right)

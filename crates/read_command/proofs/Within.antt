@@ -12,7 +12,7 @@ use Rattle.base_choice.proofs.Branches.{each, each-eq, each-lt}
 use Rattle.read_tlv.proofs.Inside.{Expected, expect-parts}
 use Rattle.read_tlv.specs.Lists.{listWrong}
 use Rattle.read_elements.specs.Reader.{aloneAt}
-use Rattle.read_fields.specs.StoreData.{dgiAt, confirmationAt, namedBy, storeDataAt}
+use Rattle.read_fields.specs.StoreData.{dgiAt, confirmationAt, requestNamed, storeDataAt}
 use Rattle.read_fields.specs.Delete.{verificationAt, deletionAt}
 use Rattle.read_fields.specs.GetStatus.{tagsAt, listingAt}
 use Rattle.read_elements.proofs.Alone.{alone-expected}
@@ -31,7 +31,7 @@ module _ (s : List ℕ) (capacity at end : ℕ) where
 
 module _ (s : List ℕ) (capacity end : ℕ) where
   store-data-in : FieldIn s capacity (storeDataAt s 5 end)
-  unfolding storeDataAt confirmationAt namedBy
+  unfolding storeDataAt confirmationAt requestNamed
   store-data-in = each-dgi (FieldIn s capacity) (dgiAt s 5 end) tt λ n contents _.
       each (FieldIn s capacity) (listWrong s contents end) (λ _. tt) λ _. each-eq (FieldIn s capacity) (λ _. each-found (FieldIn s capacity) (aloneAt s contents end 0x4E 2 2) tt (λ k e q. tt))
       (λ _. each-found (FieldIn s capacity) (aloneAt s contents end 0x4F 5 16) tt (λ k e q.

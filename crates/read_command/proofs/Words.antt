@@ -13,11 +13,11 @@ use Rattle.read_frame.specs.Framing.{lengthWrong, classWrong, instructionWrong,
 use Rattle.read_frame.proofs.Rows as rows
 use Rattle.read_frame.proofs.Headers.{framing-words}
 use Rattle.read_command.specs.declared.Reading.the-variants as reading
-use Rattle.read_command.specs.Requests.{fieldOf, dataWrong, isWrong}
-use Rattle.read_command.specs.Reading.{readingRows, accepted, readOf, readingWord}
+use Rattle.read_command.specs.Requests.{fieldOf, dataWrong, isFieldWrong}
+use Rattle.read_command.specs.Reading.{readingRows, requestRead, readOf, readingWord}
 use Rattle.read_command.specs.Words.{ReadingWords}
 
-word-case : (f : Field) (w : Status) (b : Bool) → (b ≡ true → (isWrong f ≡ false) × (w ≡ status.Done)) → readingWord (cond b (accepted f) (reading.Refused w)) ≡ w
+word-case : (f : Field) (w : Status) (b : Bool) → (b ≡ true → (isFieldWrong f ≡ false) × (w ≡ status.Done)) → readingWord (cond b (requestRead f) (reading.Refused w)) ≡ w
 word-case f w false h = refl
 word-case (field.Found r) w true h = sym (h refl .1)
 word-case field.Wrong w true h = absurd (false≢true (sym (h refl .0)))

@@ -12,7 +12,7 @@ use borrow.Author.Tests.{eqb-true, ne-eqb, eq-eqb, not-false}
 use Rattle.base_bytes.specs.Bytes.{byte}
 use Rattle.read_tlv.specs.Encoding.{window, Bytes}
 use Rattle.base_choice.proofs.Branches.{each-eq}
-use Rattle.read_fields.specs.Grammar.{Asked, Wanted, getData, wantedOf, foundAs, EncodesListed, EncodesNext}
+use Rattle.read_fields.specs.Grammar.{Inquiry, Wanted, getData, wantedOf, foundAs, EncodesListed, EncodesNext}
 use Rattle.read_fields.proofs.StoreDataGrammar.{store-data-written}
 use Rattle.read_fields.proofs.DeletionGrammar.{deletion-written}
 use Rattle.read_fields.proofs.ListingGrammar.{listing-written}
@@ -81,7 +81,7 @@ second-of i p1 p2 false e h q =
     let m : (eqb p1 0x40 && (eqb p2 0x02 || eqb p2 0x03)) ≡ true = or-none _ (rw e at h) in
     eqb-true p2 0x02 (or-none (eqb p2 0x02) (rw (← q) at (and-r (eqb p1 0x40) _ m)))
 
-listing-framed : (s : List ℕ) (capacity : ℕ) → Passes s capacity → Bytes s → byte s 1 ≡ 0xF2 → (v : Asked) → EncodesNext (goesOn s) v (window s 5 (dataEnd s)) → Listing v s
+listing-framed : (s : List ℕ) (capacity : ℕ) → Passes s capacity → Bytes s → byte s 1 ≡ 0xF2 → (v : Inquiry) → EncodesNext (goesOn s) v (window s 5 (dataEnd s)) → Listing v s
 listing-framed s capacity p b i v e =
     let f = passes-framed s p 0xF2 (EncodesListed v) b i (omega arith) (e .1) in
     record { command = f .0; second = f .1 ∙ second-of (byte s 1) (byte s 2) (byte s 3) (v .next) i (parameters-right s p) (e .0) }

@@ -7,7 +7,7 @@ use mathlib.Core.Option.{Option, none, some}
 use mathlib.Core.Bool.{Bool, true, false}
 use Rattle.read_tlv.specs.Encoding.{Bytes}
 use Rattle.read_fields.specs.Places.{RequestIn}
-use Rattle.read_fields.specs.Grammar.{EncodesStored, EncodesDeleted, EncodesListed, Asked, asked, Wanted, create, storeData, deletion, getStatus, getData, wantedOf}
+use Rattle.read_fields.specs.Grammar.{EncodesStored, EncodesDeleted, EncodesListed, Inquiry, inquiry, Wanted, create, storeData, deletion, getStatus, getData, wantedOf}
 use Rattle.read_install.specs.Grammar.{EncodesCreated}
 use Rattle.read_fields.specs.declared.request.Request.{Request}
 use Rattle.read_command.specs.declared.Reading.{Reading}
@@ -34,7 +34,7 @@ abbrev pub listingOf : ℕ → Bool → List ℕ → Bool → List ℕ
 listingOf class next field withLe = framed class 0xF2 0x40 (secondOf next) field withLe
 
 -- a GET STATUS says by its P2 whether it goes on from the kept place: request 2026-05
-pub record Listing (v : Asked) (s : List ℕ) : Type 0 where
+pub record Listing (v : Inquiry) (s : List ℕ) : Type 0 where
   pub command : Framed 0xF2 (EncodesListed v) s
   pub second : command .p2 ≡ secondOf (v .next)
 
@@ -58,9 +58,9 @@ CommandWritten = (s : List ℕ) (capacity : ℕ) (v : Wanted) → Bytes s → re
 abbrev pub SameTags : Type 0
 SameTags = (next next′ : Bool) (class class′ : ℕ) (withLe withLe′ : Bool) (field : List ℕ) (capacity : ℕ) (life shown : Bool)
     → Bytes (listingOf class next field withLe)
-    → readAs (listingOf class next field withLe) (readOf (listingOf class next field withLe) capacity) ≡ some (getStatus (asked next [] life shown))
+    → readAs (listingOf class next field withLe) (readOf (listingOf class next field withLe) capacity) ≡ some (getStatus (inquiry next [] life shown))
     → classRight class′ ≡ true
-    → readAs (listingOf class′ next′ field withLe′) (readOf (listingOf class′ next′ field withLe′) capacity) ≡ some (getStatus (asked next′ [] life shown))
+    → readAs (listingOf class′ next′ field withLe′) (readOf (listingOf class′ next′ field withLe′) capacity) ≡ some (getStatus (inquiry next′ [] life shown))
 
 -- what an accepted command names stands in it
 abbrev pub ReadInside : Type 0

@@ -19,14 +19,14 @@ readingRows s capacity =
     rowsBy (lengthWrong s) (classWrong s) (instructionWrong s) (parametersWrong s) (shapeWrong s) (dataWrong s capacity)
 
 -- the request of a field that no row refuses; a wrong one never comes here
-abbrev pub accepted : Field → Reading
-accepted field.Wrong = reading.Refused status.DataWrong
-accepted (field.Found r) = reading.Read r
+abbrev pub requestRead : Field → Reading
+requestRead field.Wrong = reading.Refused status.DataWrong
+requestRead (field.Found r) = reading.Read r
 
 -- the word of the first row whose condition holds, otherwise the request
 unfoldable pub readOf : List ℕ → ℕ → Reading
 readOf s capacity =
-    cond (isDone (wordOf status.Done (readingRows s capacity))) (accepted (fieldOf s capacity)) (reading.Refused (wordOf status.Done (readingRows s capacity)))
+    cond (isDone (wordOf status.Done (readingRows s capacity))) (requestRead (fieldOf s capacity)) (reading.Refused (wordOf status.Done (readingRows s capacity)))
 
 -- the word of a refusal; 90 00 where the command was read (decision B18)
 abbrev pub readingWord : Reading → Status

@@ -28,10 +28,10 @@ fieldOf s capacity =
     (pick (isSame (byte s 1) 0xF2) (listingAt (goesOn s) s 5 (dataEnd s))
     (field.Found request.GetData))))
 
-abbrev pub isWrong : Field → Bool
-isWrong field.Wrong = true
-isWrong (field.Found r) = false
+abbrev pub isFieldWrong : Field → Bool
+isFieldWrong field.Wrong = true
+isFieldWrong (field.Found r) = false
 
 -- 6A 80: data field or DGI wrong
 unfoldable pub dataWrong : List ℕ → ℕ → Bool
-dataWrong s capacity = isWrong (fieldOf s capacity)
+dataWrong s capacity = isFieldWrong (fieldOf s capacity)

@@ -26,7 +26,7 @@ use Rattle.read_fields.specs.declared.request.Field.{Field}
 use Rattle.read_fields.specs.declared.request.Field.the-variants as field
 use Rattle.read_elements.specs.Reader.{aloneAt}
 use Rattle.read_fields.specs.Delete.{verificationAt, deletionAt}
-use Rattle.read_fields.specs.Grammar.{Named, delete, masterDelete, Wanted, deletion, foundAs, Written, Verified, Given, encodeVerification, LegalVerified, encodeMasterDelete, EncodesDeleted, DeletionBack, DeletionWritten, DeletionFilled}
+use Rattle.read_fields.specs.Grammar.{Named, delete, masterDelete, Wanted, deletion, foundAs, ReadFrom, Verified, Given, encodeVerification, LegalVerified, encodeMasterDelete, EncodesDeleted, DeletionBack, DeletionWritten, DeletionFilled}
 use Rattle.read_elements.proofs.Alone.{alone-expected, alone-written, alone-back}
 use Rattle.read_fields.proofs.Parts.{part-named}
 use Rattle.read_fields.proofs.Cases.{each-filled, same-value, no-value}
@@ -112,7 +112,7 @@ module _ (s : List ℕ) (b : Bytes s) where
 
 module _ (s : List ℕ) (at end : ℕ) (w : Wanted) (b : Bytes s) where
   abbrev Encoded : Wanted → Type 0
-  Encoded z = Written deletion EncodesDeleted s at end z
+  Encoded z = ReadFrom deletion EncodesDeleted s at end z
 
   abbrev Accepted : Field → Type 0
   Accepted z = foundAs s z ≡ some w → Encoded w

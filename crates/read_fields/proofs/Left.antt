@@ -9,7 +9,7 @@ use Rattle.read_tlv.specs.Tlv.{tagAt}
 use Rattle.read_tlv.specs.declared.TagRead.the-variants as tag
 use Rattle.read_fields.specs.declared.Tags.{Tags}
 use Rattle.read_fields.specs.declared.Tags.the-variants as tags
-use Rattle.read_fields.specs.GetStatus.{noted, listedWithin, listedAt}
+use Rattle.read_fields.specs.GetStatus.{tagNoted, listedWithin, listedAt}
 
 unfoldable pub Left : Tags → List ℕ → ℕ → ℕ → Bool → Bool → Type 0
 Left o s at end life fallBack = (n : ℕ) × ((end - at ≤ n) × (o ≡ listedWithin n s at end life fallBack))
@@ -31,12 +31,12 @@ module _ (s : List ℕ) (end : ℕ) where
     left-no-tag h e (suc n, q) = rw (q .1) (nle! _ h (rw (← e) refl))
 
     module _ (t : ℕ) (b : Bool) (next : ℕ) (h : at < end) (e : tag.Tag t b next ≡ tagAt s at end) where
-      pub left-unknown : tags.Wrong ≡ noted t life fallBack → Left o s at end life fallBack → tags.Wrong ≡ o
+      pub left-unknown : tags.Wrong ≡ tagNoted t life fallBack → Left o s at end life fallBack → tags.Wrong ≡ o
       unfolding Left listedWithin
       left-unknown u (zero, q) = absurd (omega arith)
       left-unknown u (suc n, q) = rw (q .1) (nle! _ h (rw (← e) (rw (← u) refl)))
 
-      pub left-next : (l f : Bool) → tags.Shown l f ≡ noted t life fallBack → at < next → Left o s at end life fallBack → Left o s next end l f
+      pub left-next : (l f : Bool) → tags.Shown l f ≡ tagNoted t life fallBack → at < next → Left o s at end life fallBack → Left o s next end l f
       unfolding Left listedWithin
       left-next l f u j (zero, q) = absurd (omega arith)
       left-next l f u j (suc n, q) = (n, (omega arith, q .1 ∙ sym (nle! _ h (rw (← e) (rw (← u) refl)))))

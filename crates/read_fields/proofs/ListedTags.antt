@@ -17,7 +17,7 @@ use Rattle.read_tlv.specs.Grammar.{LegalTag, one, two}
 use Rattle.read_tlv.proofs.ReadBack.{tag-back}
 use Rattle.read_fields.specs.declared.Tags.{Tags}
 use Rattle.read_fields.specs.declared.Tags.the-variants as tags
-use Rattle.read_fields.specs.GetStatus.{noted, onTag, onShown, listedWithin, listedAt}
+use Rattle.read_fields.specs.GetStatus.{tagNoted, onTag, onShown, listedWithin, listedAt}
 use Rattle.read_fields.specs.Grammar.{ListedTag, aid, lifeCycle, fallBack, tagNumber, encodeTags, listsLife, listsFallBack}
 use Rattle.read_fields.proofs.Cases.{each-tag}
 
@@ -63,8 +63,8 @@ legal aid = one {t = 0x4F} (omega arith) (omega arith)
 legal lifeCycle = two {t = 0x9F70} (omega arith) (omega arith) (omega arith)
 legal fallBack = one {t = 0x53} (omega arith) (omega arith)
 
-noted-tag : (t : ListedTag) (l f : Bool) → tags.Shown (seesLife l (t ∷ [])) (seesFallBack f (t ∷ [])) ≡ noted (tagNumber t) l f
-unfolding noted
+noted-tag : (t : ListedTag) (l f : Bool) → tags.Shown (seesLife l (t ∷ [])) (seesFallBack f (t ∷ [])) ≡ tagNoted (tagNumber t) l f
+unfolding tagNoted
 noted-tag aid l f = eq! _ refl refl
 noted-tag lifeCycle l f = ne! _ (omega arith) (eq! _ refl refl)
 noted-tag fallBack l f = ne! _ (omega arith) (ne! _ (omega arith) (eq! _ refl refl))
@@ -132,9 +132,9 @@ module _ (s : List ℕ) (end : ℕ) (b : Bytes s) (life shown : Bool) where
 
   module _ (n at : ℕ) (l f : Bool)
       (onward : (next : ℕ) (l′ f′ : Bool) → at < next → next ≤ end → tags.Shown life shown ≡ listedWithin n s next end l′ f′ → TagsWritten s next end l′ f′ life shown) where
-    tag-first : tags.Shown life shown ≡ onTag (tagAt s at end) tags.Wrong (λ t next. onShown (noted t l f) tags.Wrong (λ l′ f′. listedWithin n s next end l′ f′))
+    tag-first : tags.Shown life shown ≡ onTag (tagAt s at end) tags.Wrong (λ t next. onShown (tagNoted t l f) tags.Wrong (λ l′ f′. listedWithin n s next end l′ f′))
         → TagsWritten s at end l f life shown
-    unfolding noted
+    unfolding tagNoted
     tag-first =
         let Q : Tags → Type 0 = λ z. tags.Shown life shown ≡ z → TagsWritten s at end l f life shown in
         let none : Q tags.Wrong = λ q. let z : _≡_ {A = ℕ} 0 1 = cc in absurd (omega arith) in

@@ -26,7 +26,7 @@ use Rattle.read_fields.specs.declared.request.Field.{Field}
 use Rattle.read_fields.specs.declared.request.Field.the-variants as field
 use Rattle.read_elements.specs.Reader.{aloneAt}
 use Rattle.read_fields.specs.GetStatus.{rowsOf, tagsAt, listingAt}
-use Rattle.read_fields.specs.Grammar.{Named, ListedTag, asked, Wanted, getStatus, foundAs, Written, Sought, all, one, Short, encodeTags, encodeList, showsLife, showsFallBack, EncodesNext, ListingBack, ListingWritten, ListingFilled}
+use Rattle.read_fields.specs.Grammar.{Named, ListedTag, inquiry, Wanted, getStatus, foundAs, ReadFrom, Sought, all, one, Short, encodeTags, encodeList, showsLife, showsFallBack, EncodesNext, ListingBack, ListingWritten, ListingFilled}
 use Rattle.read_elements.proofs.Alone.{alone-expected, alone-written, alone-back}
 use Rattle.read_fields.proofs.Parts.{part-named}
 use Rattle.read_fields.proofs.ListedTags.{listed-back, listed-written}
@@ -57,7 +57,7 @@ sought-most (one named) = named .most
 module _ (s : List ℕ) (life shown : Bool) where
   -- the rows for a value of 4F that is `who`
   who-back : (next : Bool) (who : List ℕ) → Sought next who → (start stop : ℕ) → stop ≡ start + length who → window s start stop ≡ who
-      → foundAs s (rowsOf next start stop life shown) ≡ some (getStatus (asked next who life shown))
+      → foundAs s (rowsOf next start stop life shown) ≡ some (getStatus (inquiry next who life shown))
   who-back next who all start stop l q =
       let r : field.Found (request.GetStatusOfAll next life shown) ≡ rowsOf next start stop life shown = eq! _ (omega arith) refl in
       rw (← r) refl
@@ -65,7 +65,7 @@ module _ (s : List ℕ) (life shown : Bool) where
       let k = named .least in
       let r : field.Found (request.GetStatusOfOne (between start stop) life shown) ≡ rowsOf false start stop life shown =
       ne! _ (omega arith) (no! _ refl (nlt! _ (omega arith) refl)) in
-      rw (← r) (ap (λ (a : List ℕ). some (getStatus (asked false a life shown))) (window-part s start stop (omega arith) ∙ q))
+      rw (← r) (ap (λ (a : List ℕ). some (getStatus (inquiry false a life shown))) (window-part s start stop (omega arith) ∙ q))
 
 pub listing-back : ListingBack
 unfolding listingAt
@@ -109,21 +109,21 @@ tags-written s at end life shown b =
 
 module _ (next : Bool) (s : List ℕ) (at end : ℕ) (w : Wanted) (b : Bytes s) where
   abbrev Encoded : Wanted → Type 0
-  Encoded z = Written getStatus (EncodesNext next) s at end z
+  Encoded z = ReadFrom getStatus (EncodesNext next) s at end z
 
   abbrev Accepted : Field → Type 0
   Accepted z = foundAs s z ≡ some w → Encoded w
 
   module _ (start stop : ℕ) (q : element.Found start stop ≡ expectAt s at end 0x4F 0 16) where
     who-written : (who : List ℕ) (life shown : Bool) → Sought next who → window s start stop ≡ who → tags.Shown life shown ≡ tagsAt s stop end
-        → Encoded (getStatus (asked next who life shown))
+        → Encoded (getStatus (inquiry next who life shown))
     who-written who life shown sought e t =
         let i = expect-inside s at end 0x4F 0 16 start stop q in
         let l = tags-written s stop end life shown b t in
         record {
           ordered = omega arith;
           held = omega arith;
-          value = asked next who life shown;
+          value = inquiry next who life shown;
           meant = refl;
           encoded = (
             refl,
@@ -151,12 +151,12 @@ module _ (next : Bool) (s : List ℕ) (at end : ℕ) (w : Wanted) (b : Bytes s) 
       each-eq Accepted
       (λ h.
       let m : start ≡ stop = omega arith in
-      same-value Encoded (getStatus (asked next [] life shown)) w
+      same-value Encoded (getStatus (inquiry next [] life shown)) w
       (who-written start stop q [] life shown all (ap (λ (n : ℕ). window s n stop) m ∙ window-none s stop) g))
       (λ _. each Accepted _ (λ _. no-value (Encoded w) w) λ anew. each-lt Accepted (λ _. no-value (Encoded w) w) (λ (k : 5 ≤ stop - start).
       let named : Named (partOf s (between start stop)) = subst Named (sym p) (part-named s start stop (i .ordered) (omega arith) (omega arith) (x .most)) in
-      same-value Encoded (getStatus (asked false (partOf s (between start stop)) life shown)) w
-      (subst (λ (n : Bool). Encoded (getStatus (asked n (partOf s (between start stop)) life shown))) anew
+      same-value Encoded (getStatus (inquiry false (partOf s (between start stop)) life shown)) w
+      (subst (λ (n : Bool). Encoded (getStatus (inquiry n (partOf s (between start stop)) life shown))) anew
       (who-written start stop q (partOf s (between start stop)) life shown (subst (λ (n : Bool). Sought n (partOf s (between start stop))) (sym anew) (one named)) (sym p) g))))
 
 pub listing-written : ListingWritten

@@ -20,8 +20,8 @@ use Rattle.read_fields.specs.declared.request.Request.the-variants as re
 use Rattle.read_fields.specs.declared.request.Field.{Field}
 use Rattle.read_fields.specs.declared.request.Field.the-variants as field
 use Rattle.read_elements.specs.Reader.{aloneAt}
-use Rattle.read_fields.specs.StoreData.{dgiAt, confirmationAt, namedBy, storeDataAt}
-use Rattle.read_fields.specs.Grammar.{Named, enable, disable, setFallBack, confirmation, Wanted, storeData, foundAs, Written, encodeDgi, EncodesStored, StoreDataBack, StoreDataWritten, StoreDataFilled}
+use Rattle.read_fields.specs.StoreData.{dgiAt, confirmationAt, requestNamed, storeDataAt}
+use Rattle.read_fields.specs.Grammar.{Named, enable, disable, setFallBack, confirmation, Wanted, storeData, foundAs, ReadFrom, encodeDgi, EncodesStored, StoreDataBack, StoreDataWritten, StoreDataFilled}
 use Rattle.read_elements.proofs.Alone.{alone-expected, alone-parts}
 use Rattle.read_fields.proofs.Parts.{dgi-parts, dgi-filled, lone-back, lone-written, part-named}
 use Rattle.read_fields.proofs.Cases.{each-dgi, same-value, no-value}
@@ -32,7 +32,7 @@ use Rattle.read_tlv.proofs.Branches.{each-found}
 module _ (s : List ℕ) (at end : ℕ) (ordered : at ≤ end) (held : end ≤ length s) where
   pub record AidBack (number : ℕ) (aid : List ℕ) : Type 0 where
     pub part : Part
-    pub read : namedBy number part ≡ storeDataAt s at end
+    pub read : requestNamed number part ≡ storeDataAt s at end
     pub bytes : partOf s part ≡ aid
 
   aid-back : (number : ℕ) (aid : List ℕ) → (number ≡ 0x3A08 → ⊥) → Named aid → window s at end ≡ encodeDgi number (encodeElement 0x4F aid)
@@ -60,18 +60,18 @@ module _ (s : List ℕ) (at end : ℕ) (ordered : at ≤ end) (held : end ≤ le
       rw (← a .opened) (no! _ (a .listed) (eq! _ refl (rw (← a .found) (ap (λ (n : ℕ). field.Found (request.Confirm n)) e))))
 
 pub store-data-back : StoreDataBack
-unfolding namedBy
+unfolding requestNamed
 store-data-back s at end (enable aid) ordered held (named, q) =
     let a = aid-back s at end ordered held 0x3A03 aid (omega arith) named q in
-    let r : field.Found (request.Enable (a .part)) ≡ namedBy 0x3A03 (a .part) = eq! _ refl refl in
+    let r : field.Found (request.Enable (a .part)) ≡ requestNamed 0x3A03 (a .part) = eq! _ refl refl in
     rw (← a .read) (rw (← r) (ap (λ (l : List ℕ). some (storeData (enable l))) (a .bytes)))
 store-data-back s at end (disable aid) ordered held (named, q) =
     let a = aid-back s at end ordered held 0x3A04 aid (omega arith) named q in
-    let r : field.Found (request.Disable (a .part)) ≡ namedBy 0x3A04 (a .part) = ne! _ (omega arith) (eq! _ refl refl) in
+    let r : field.Found (request.Disable (a .part)) ≡ requestNamed 0x3A04 (a .part) = ne! _ (omega arith) (eq! _ refl refl) in
     rw (← a .read) (rw (← r) (ap (λ (l : List ℕ). some (storeData (disable l))) (a .bytes)))
 store-data-back s at end (setFallBack aid) ordered held (named, q) =
     let a = aid-back s at end ordered held 0x3A05 aid (omega arith) named q in
-    let r : field.Found (request.SetFallBack (a .part)) ≡ namedBy 0x3A05 (a .part) = ne! _ (omega arith) (ne! _ (omega arith) (eq! _ refl refl)) in
+    let r : field.Found (request.SetFallBack (a .part)) ≡ requestNamed 0x3A05 (a .part) = ne! _ (omega arith) (ne! _ (omega arith) (eq! _ refl refl)) in
     rw (← a .read) (rw (← r) (ap (λ (l : List ℕ). some (storeData (setFallBack l))) (a .bytes)))
 store-data-back s at end (confirmation number) ordered held (legal, q) = rw (← number-back s at end ordered held number q) refl
 
@@ -79,14 +79,14 @@ store-data-back s at end (confirmation number) ordered held (legal, q) = rw (←
 
 module _ (s : List ℕ) (at end : ℕ) (w : Wanted) (b : Bytes s) where
   abbrev Encoded : Wanted → Type 0
-  Encoded z = Written storeData EncodesStored s at end z
+  Encoded z = ReadFrom storeData EncodesStored s at end z
 
   abbrev Accepted : Field → Type 0
   Accepted z = foundAs s z ≡ some w → Encoded w
 
   module _ (number contents : ℕ) (d : dgi.Found number contents ≡ dgiAt s at end) (start stop : ℕ) where
-    aid-written : element.Found start stop ≡ aloneAt s contents end 0x4F 5 16 → Accepted (namedBy number (between start stop))
-    unfolding namedBy
+    aid-written : element.Found start stop ≡ aloneAt s contents end 0x4F 5 16 → Accepted (requestNamed number (between start stop))
+    unfolding requestNamed
     aid-written g =
         let p = dgi-parts s at end number contents d in
         let x = alone-expected s contents end 0x4F 5 16 start stop g in

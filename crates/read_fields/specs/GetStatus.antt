@@ -18,8 +18,8 @@ use Rattle.read_fields.specs.declared.request.Field.{Field}
 use Rattle.read_fields.specs.declared.request.Field.the-variants as field
 
 -- one more listed tag; "Repeats count once" (decision 30)
-unfoldable pub noted : ℕ → Bool → Bool → Tags
-noted t life fallBack =
+unfoldable pub tagNoted : ℕ → Bool → Bool → Tags
+tagNoted t life fallBack =
     pick (isSame t 0x4F) (tags.Shown life fallBack)
     (pick (isSame t 0x9F70) (tags.Shown true fallBack)
     (pick (isSame t 0x53) (tags.Shown life true)
@@ -39,7 +39,7 @@ listedWithin zero s at end life fallBack = tags.Shown life fallBack
 listedWithin (suc n) s at end life fallBack =
     pick (atMost end at) (tags.Shown life fallBack)
     (onTag (tagAt s at end) tags.Wrong λ t next.
-    onShown (noted t life fallBack) tags.Wrong λ l f.
+    onShown (tagNoted t life fallBack) tags.Wrong λ l f.
     listedWithin n s next end l f)
 
 unfoldable pub listedAt : List ℕ → ℕ → ℕ → Tags

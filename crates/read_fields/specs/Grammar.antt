@@ -30,25 +30,25 @@ pub data Stored : Type 0 where
   setFallBack : List ℕ → Stored
   confirmation : ℕ → Stored
 
-pub data Deleted : Type 0 where
-  delete : List ℕ → Deleted
-  masterDelete : List ℕ → Deleted
+pub data Deletion : Type 0 where
+  delete : List ℕ → Deletion
+  masterDelete : List ℕ → Deletion
 
 -- whether a GET STATUS goes on from the kept place, whom it asks for, and which optional tags
-pub record Asked : Type 0 where
+pub record Inquiry : Type 0 where
   pub next : Bool
   pub who : List ℕ
   pub life : Bool
   pub fallBackShown : Bool
 
-abbrev pub asked : Bool → List ℕ → Bool → Bool → Asked
-asked next who life shown = record { next = next; who = who; life = life; fallBackShown = shown }
+abbrev pub inquiry : Bool → List ℕ → Bool → Bool → Inquiry
+inquiry next who life shown = record { next = next; who = who; life = life; fallBackShown = shown }
 
 pub data Wanted : Type 0 where
   create : Created → Wanted
   storeData : Stored → Wanted
-  deletion : Deleted → Wanted
-  getStatus : Asked → Wanted
+  deletion : Deletion → Wanted
+  getStatus : Inquiry → Wanted
   getData : Wanted
 
 abbrev pub wantedOf : List ℕ → Request → Wanted
@@ -59,8 +59,8 @@ wantedOf s (request.SetFallBack part) = storeData (setFallBack (partOf s part))
 wantedOf s (request.Confirm number) = storeData (confirmation number)
 wantedOf s (request.Delete part) = deletion (delete (partOf s part))
 wantedOf s (request.MasterDelete part) = deletion (masterDelete (partOf s part))
-wantedOf s (request.GetStatusOfAll next life fallBack) = getStatus (asked next [] life fallBack)
-wantedOf s (request.GetStatusOfOne part life fallBack) = getStatus (asked false (partOf s part) life fallBack)
+wantedOf s (request.GetStatusOfAll next life fallBack) = getStatus (inquiry next [] life fallBack)
+wantedOf s (request.GetStatusOfOne part life fallBack) = getStatus (inquiry false (partOf s part) life fallBack)
 wantedOf s request.GetData = getData
 
 abbrev pub foundAs : List ℕ → Field → Option Wanted
@@ -68,7 +68,7 @@ foundAs s (field.Found r) = some (wantedOf s r)
 foundAs s field.Wrong = none
 
 -- what was read is a value of its kind, and the window holds the bytes of that
-pub record Written {Kind : Type 0} (means : Kind → Wanted) (Encoded : Kind → List ℕ → Type 0) (s : List ℕ) (at end : ℕ) (w : Wanted) : Type 0 where
+pub record ReadFrom {Kind : Type 0} (means : Kind → Wanted) (Encoded : Kind → List ℕ → Type 0) (s : List ℕ) (at end : ℕ) (w : Wanted) : Type 0 where
   pub ordered : at ≤ end
   pub held : end ≤ length s
   pub value : Kind
@@ -99,7 +99,7 @@ StoreDataBack = (s : List ℕ) (at end : ℕ) (v : Stored) → at ≤ end → en
 -- whatever is accepted is the encoding of what was read
 abbrev pub StoreDataWritten : Type 0
 StoreDataWritten = (s : List ℕ) (at end : ℕ) (w : Wanted) → Bytes s → foundAs s (storeDataAt s at end) ≡ some w
-    → Written storeData EncodesStored s at end w
+    → ReadFrom storeData EncodesStored s at end w
 
 -- what is accepted is, after its DGI, a list of elements
 abbrev pub StoreDataFilled : Type 0
@@ -139,17 +139,17 @@ abbrev pub encodeMasterDelete : List ℕ → Verified → List ℕ
 encodeMasterDelete aid v = encodeElement 0x4F aid ++ (encodeElement 0xB6 (encodeVerification v) ++ encodeElement 0x9E (v .of9E))
 
 -- a master delete is encoded in as many ways as there are values beside the AID
-abbrev pub EncodesDeleted : Deleted → List ℕ → Type 0
+abbrev pub EncodesDeleted : Deletion → List ℕ → Type 0
 EncodesDeleted (delete aid) bytes = Named aid × (bytes ≡ encodeElement 0x4F aid)
 EncodesDeleted (masterDelete aid) bytes = (v : Verified) × (Named aid × (LegalVerified v × (bytes ≡ encodeMasterDelete aid v)))
 
 abbrev pub DeletionBack : Type 0
-DeletionBack = (s : List ℕ) (at end : ℕ) (v : Deleted) → at ≤ end → end ≤ length s → EncodesDeleted v (window s at end)
+DeletionBack = (s : List ℕ) (at end : ℕ) (v : Deletion) → at ≤ end → end ≤ length s → EncodesDeleted v (window s at end)
     → foundAs s (deletionAt s at end) ≡ some (deletion v)
 
 abbrev pub DeletionWritten : Type 0
 DeletionWritten = (s : List ℕ) (at end : ℕ) (w : Wanted) → Bytes s → foundAs s (deletionAt s at end) ≡ some w
-    → Written deletion EncodesDeleted s at end w
+    → ReadFrom deletion EncodesDeleted s at end w
 
 abbrev pub DeletionFilled : Type 0
 DeletionFilled = (s : List ℕ) (at end : ℕ) (r : Request) → field.Found r ≡ deletionAt s at end → Filled s 1 at end
@@ -207,7 +207,7 @@ pub data Sought : Bool → List ℕ → Type 0 where
   one : {who : List ℕ} → Named who → Sought false who
 
 -- a GET STATUS is encoded in as many ways as there are lists that show the same tags
-pub record EncodesListed (v : Asked) (bytes : List ℕ) : Type 0 where
+pub record EncodesListed (v : Inquiry) (bytes : List ℕ) : Type 0 where
   pub tags : Option (List ListedTag)
   pub sought : Sought (v .next) (v .who)
   pub short : Short tags
@@ -216,16 +216,16 @@ pub record EncodesListed (v : Asked) (bytes : List ℕ) : Type 0 where
   pub written : bytes ≡ encodeElement 0x4F (v .who) ++ encodeList tags
 
 -- P2 says whether the listing goes on, the data field says the rest
-abbrev pub EncodesNext : Bool → Asked → List ℕ → Type 0
+abbrev pub EncodesNext : Bool → Inquiry → List ℕ → Type 0
 EncodesNext next v bytes = (v .next ≡ next) × EncodesListed v bytes
 
 abbrev pub ListingBack : Type 0
-ListingBack = (s : List ℕ) (at end : ℕ) (v : Asked) → at ≤ end → end ≤ length s → EncodesListed v (window s at end)
+ListingBack = (s : List ℕ) (at end : ℕ) (v : Inquiry) → at ≤ end → end ≤ length s → EncodesListed v (window s at end)
     → foundAs s (listingAt (v .next) s at end) ≡ some (getStatus v)
 
 abbrev pub ListingWritten : Type 0
 ListingWritten = (next : Bool) (s : List ℕ) (at end : ℕ) (w : Wanted) → Bytes s → foundAs s (listingAt next s at end) ≡ some w
-    → Written getStatus (EncodesNext next) s at end w
+    → ReadFrom getStatus (EncodesNext next) s at end w
 
 abbrev pub ListingFilled : Type 0
 ListingFilled = (next : Bool) (s : List ℕ) (at end : ℕ) (r : Request) → field.Found r ≡ listingAt next s at end → Filled s 1 at end

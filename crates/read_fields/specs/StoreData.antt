@@ -36,8 +36,8 @@ confirmationAt s at end =
     field.Found (request.Confirm (pairAt s start))
 
 -- the command that a DGI names, on an AID; 3A06 and 3A07 of 000 are not bought (decision 6)
-unfoldable pub namedBy : ℕ → Part → Field
-namedBy number aid =
+unfoldable pub requestNamed : ℕ → Part → Field
+requestNamed number aid =
     pick (isSame number 0x3A03) (field.Found (request.Enable aid))
     (pick (isSame number 0x3A04) (field.Found (request.Disable aid))
     (pick (isSame number 0x3A05) (field.Found (request.SetFallBack aid))
@@ -50,4 +50,4 @@ storeDataAt s at end =
     pick (listWrong s contents end) field.Wrong
     (pick (isSame number 0x3A08) (confirmationAt s contents end)
     (onFound (aloneAt s contents end 0x4F 5 16) field.Wrong λ start stop.
-    namedBy number (between start stop)))
+    requestNamed number (between start stop)))

@@ -19,7 +19,7 @@ ghost use Prim.Native.Nat.{ℕ, _+_, _≤_, _<_};
 ghost use lib.ListN.{length};
 ghost use Rattle.read_fields.specs.StoreData.{dgiAt, confirmationAt, storeDataAt};
 ghost use Rattle.read_fields.specs.Delete.{verificationAt, deletionAt};
-ghost use Rattle.read_fields.specs.GetStatus.{noted, listedAt, tagsAt, listingAt};
+ghost use Rattle.read_fields.specs.GetStatus.{tagNoted, listedAt, tagsAt, listingAt};
 
 // A DGI that fills the window: its number, and where its contents start.
 pub enum Dgi {
@@ -178,7 +178,7 @@ pub enum Tags {
 }
 
 fn note(tag: u16, life: bool, fall_back: bool) -> Tags
-    ensures { λ r. ⌜ r ≡ noted tag life «fall_back» ⌝ }
+    ensures { λ r. ⌜ r ≡ tagNoted tag life «fall_back» ⌝ }
 {
     if tag == 0x4F {
         return Tags::Shown { life, fall_back };

@@ -20,7 +20,7 @@ use Rattle.read_tlv.proofs.Windows.{window-none, window-length, window-part, wi
 use Rattle.read_tlv.proofs.Written.{length-written, element-written}
 use Rattle.read_tlv.specs.Filled.{Filled}
 use Rattle.read_tlv.proofs.Fills.{right-filled}
-use Rattle.read_fields.specs.Grammar.{Created, Wanted, create, foundAs, Written}
+use Rattle.read_fields.specs.Grammar.{Created, Wanted, create, foundAs, ReadFrom}
 use Rattle.read_fields.specs.declared.request.Field.{Field}
 use Rattle.read_fields.specs.declared.request.Field.the-variants as field
 use Rattle.read_fields.proofs.Cases.{same-value}
@@ -274,7 +274,7 @@ module _ (s : List ℕ) (at end capacity start stop from to number : ℕ) where
 pub install-written : InstallWritten
 unfolding installOf
 install-written s at end capacity w b =
-    let Encoded : Wanted → Type 0 = λ z. Written create (EncodesCreated capacity) s at end z in
+    let Encoded : Wanted → Type 0 = λ z. ReadFrom create (EncodesCreated capacity) s at end z in
     let P : Field → Type 0 = λ z. foundAs s z ≡ some w → Encoded w in
     let none : P field.Wrong = λ q. let z : _≡_ {A = ℕ} 0 1 = cc in absurd (omega arith) in
     each-found P (namesAt s at end) none λ start stop c. each-found P (rightsAt s stop end) none λ from to d.

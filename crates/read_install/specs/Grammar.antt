@@ -7,7 +7,7 @@ use mathlib.Core.Option.{some}
 use lib.ListN.{length}
 use Rattle.read_tlv.specs.Encoding.{window, Bytes, encodeLength, encodeElement}
 use Rattle.read_tlv.specs.Filled.{Filled}
-use Rattle.read_fields.specs.Grammar.{Created, Wanted, create, foundAs, Written}
+use Rattle.read_fields.specs.Grammar.{Created, Wanted, create, foundAs, ReadFrom}
 use Rattle.read_install.specs.declared.Quota.the-variants as quota
 use Rattle.read_install.specs.Parameters.{parametersAt}
 use Rattle.read_install.specs.Install.{installOf}
@@ -94,7 +94,7 @@ InstallBack = (s : List ℕ) (at end capacity : ℕ) (v : Created) → at ≤ en
 -- whatever is accepted is the encoding of what was read
 abbrev pub InstallWritten : Type 0
 InstallWritten = (s : List ℕ) (at end capacity : ℕ) (w : Wanted) → Bytes s → foundAs s (installOf s at end capacity) ≡ some w
-    → Written create (EncodesCreated capacity) s at end w
+    → ReadFrom create (EncodesCreated capacity) s at end w
 
 -- accepted install parameters are a list of elements
 abbrev pub ParametersFilled : Type 0

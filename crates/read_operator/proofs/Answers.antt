@@ -17,18 +17,18 @@ use Rattle.read_operator.specs.declared.Policy.{Policy}
 use Rattle.read_operator.specs.declared.Policy.the-variants as policy
 use Rattle.read_operator.specs.declared.Update.{Update}
 use Rattle.read_operator.specs.declared.Update.the-variants as update
-use Rattle.read_operator.specs.Field.{policyOf, isWrong}
-use Rattle.read_operator.specs.Reading.{notStoreData, policyWrong, updateRows, accepted, updateOf}
+use Rattle.read_operator.specs.Field.{policyOf, isPolicyWrong}
+use Rattle.read_operator.specs.Reading.{notStoreData, policyWrong, updateRows, updateRead, updateOf}
 
 -- no row's condition holds
 abbrev pub Passes : List ℕ → Type 0
 Passes s = rows.Passes (lengthWrong s) (classWrong s) (notStoreData s) (parametersWrong s) (shapeWrong s) (policyWrong s)
 
-policy-taken : (f : Policy) (p : ℕ) → update.Read p ≡ accepted f → policy.Found p ≡ f
+policy-taken : (f : Policy) (p : ℕ) → update.Read p ≡ updateRead f → policy.Found p ≡ f
 policy-taken policy.Wrong p q = let z : _≡_ {A = ℕ} 0 1 = cc in absurd (omega arith)
 policy-taken (policy.Found t) p q = cc
 
-policy-given : (f : Policy) → isWrong f ≡ false → (p : ℕ) × (update.Read p ≡ accepted f)
+policy-given : (f : Policy) → isPolicyWrong f ≡ false → (p : ℕ) × (update.Read p ≡ updateRead f)
 policy-given policy.Wrong h = absurd (false≢true (sym h))
 policy-given (policy.Found p) h = (p, refl)
 
@@ -45,8 +45,8 @@ policies =
       Field = Policy;
       Answer = Update;
       found = λ p. policy.Found p;
-      isWrong = isWrong;
-      accepted = accepted;
+      isWrong = isPolicyWrong;
+      accepted = updateRead;
       read = λ p. update.Read p;
       refused = λ w. update.Refused w;
       taken = policy-taken;
@@ -82,6 +82,6 @@ module _ (s : List ℕ) where
   unfolding updateOf policyWrong
   read-passes = answers.read-passes policies (lengthWrong s) (classWrong s) (notStoreData s) (parametersWrong s) (shapeWrong s) (policyOf s)
 
-  pub passes-answer : Passes s → accepted (policyOf s) ≡ updateOf s
+  pub passes-answer : Passes s → updateRead (policyOf s) ≡ updateOf s
   unfolding updateOf policyWrong
   passes-answer = answers.passes-answer policies (lengthWrong s) (classWrong s) (notStoreData s) (parametersWrong s) (shapeWrong s) (policyOf s)

@@ -8,7 +8,7 @@ use Rattle.base_status.specs.declared.Status.{Status}
 use Rattle.base_status.specs.declared.Status.the-variants as status
 use Rattle.base_choice.specs.Choice.{pick, atMost, isBelow, isSame}
 use Rattle.read_tlv.specs.Tlv.{tagAt, lengthAt, afterLength, afterTag, headAt, expectOf, expectAt}
-use Rattle.read_tlv.specs.Lists.{listWrong, listAt, listWithin, listOf, elementOf, restOf, closed}
+use Rattle.read_tlv.specs.Lists.{listWrong, listAt, listWithin, listOf, elementOf, restAfter, elementClosed}
 use Rattle.read_elements.specs.Reader.{aloneAt}
 use Rattle.read_fields.specs.StoreData.{dgiAt}
 use Rattle.read_frame.specs.Framing.{lengthWrong, classRight, classWrong, parametersRight, parametersWrong, shapeRight, shapeWrong}
@@ -105,5 +105,5 @@ examples =
     ∷ map (λ (bytes : List ℕ). refuses status.DataWrong (storing bytes)) wrongFields)
 
 worked : map (λ (e : Example). updateOf (e .bytes)) examples ≡ map (λ (e : Example). e .answer) examples
-unfolding updateOf wordOf lengthWrong classRight classWrong notStoreData parametersRight parametersWrong shapeRight shapeWrong policyOf policyAt policyWrong pick atMost isBelow isSame listWrong listAt listWithin listOf elementOf restOf closed tagAt lengthAt afterLength afterTag headAt expectOf expectAt aloneAt dgiAt
+unfolding updateOf wordOf lengthWrong classRight classWrong notStoreData parametersRight parametersWrong shapeRight shapeWrong policyOf policyAt policyWrong pick atMost isBelow isSame listWrong listAt listWithin listOf elementOf restAfter elementClosed tagAt lengthAt afterLength afterTag headAt expectOf expectAt aloneAt dgiAt
 worked = refl

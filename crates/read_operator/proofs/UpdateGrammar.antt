@@ -27,8 +27,8 @@ use Rattle.read_fields.proofs.Parts.{dgi-filled, lone-back, lone-written}
 use Rattle.read_operator.specs.declared.Policy.{Policy}
 use Rattle.read_operator.specs.declared.Policy.the-variants as policy
 use Rattle.read_operator.specs.declared.Update.the-variants as update
-use Rattle.read_operator.specs.Field.{policyAt, policyOf, isWrong}
-use Rattle.read_operator.specs.Reading.{notStoreData, policyWrong, accepted, updateOf}
+use Rattle.read_operator.specs.Field.{policyAt, policyOf, isPolicyWrong}
+use Rattle.read_operator.specs.Reading.{notStoreData, policyWrong, updateRead, updateOf}
 use Rattle.read_operator.specs.Grammar.{encodePolicy, UpdateBack, UpdateWritten, UpdateFilled}
 use Rattle.read_operator.proofs.Answers.{Passes, read-done, read-passes, passes-answer}
 
@@ -101,5 +101,5 @@ unfolding notStoreData policyWrong policyOf
 update-back s p f =
     let t = stands s 0xE2 (λ field. field ≡ encodePolicy p) (omega arith) f in
     let q = policy-back s 5 (dataEnd s) (t .ordered) (t .held) p (t .encoded) in
-    ap accepted q
-    ∙ passes-answer s (stands-passes s 0xE2 (f .p2) (λ field. field ≡ encodePolicy p) (notStoreData s) (policyWrong s) t (rw (t .instructed) refl) (ap isWrong (sym q)))
+    ap updateRead q
+    ∙ passes-answer s (stands-passes s 0xE2 (f .p2) (λ field. field ≡ encodePolicy p) (notStoreData s) (policyWrong s) t (rw (t .instructed) refl) (ap isPolicyWrong (sym q)))

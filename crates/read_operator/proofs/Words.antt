@@ -18,11 +18,11 @@ use Rattle.read_frame.proofs.Headers as headers
 use Rattle.read_operator.specs.declared.Policy.{Policy}
 use Rattle.read_operator.specs.declared.Policy.the-variants as policy
 use Rattle.read_operator.specs.declared.Update.the-variants as update
-use Rattle.read_operator.specs.Field.{policyOf, isWrong}
-use Rattle.read_operator.specs.Reading.{notStoreData, policyWrong, updateRows, accepted, updateOf, updateWord}
+use Rattle.read_operator.specs.Field.{policyOf, isPolicyWrong}
+use Rattle.read_operator.specs.Reading.{notStoreData, policyWrong, updateRows, updateRead, updateOf, updateWord}
 use Rattle.read_operator.specs.Words.{UpdateWords}
 
-word-case : (f : Policy) (w : Status) (b : Bool) → (b ≡ true → (isWrong f ≡ false) × (w ≡ status.Done)) → updateWord (cond b (accepted f) (update.Refused w)) ≡ w
+word-case : (f : Policy) (w : Status) (b : Bool) → (b ≡ true → (isPolicyWrong f ≡ false) × (w ≡ status.Done)) → updateWord (cond b (updateRead f) (update.Refused w)) ≡ w
 word-case f w false h = refl
 word-case (policy.Found p) w true h = sym (h refl .1)
 word-case policy.Wrong w true h = absurd (false≢true (sym (h refl .0)))

@@ -26,6 +26,6 @@ policyAt s at end =
 unfoldable pub policyOf : List ℕ → Policy
 policyOf s = policyAt s 5 (dataEnd s)
 
-abbrev pub isWrong : Policy → Bool
-isWrong policy.Wrong = true
-isWrong (policy.Found p) = false
+abbrev pub isPolicyWrong : Policy → Bool
+isPolicyWrong policy.Wrong = true
+isPolicyWrong (policy.Found p) = false

@@ -12,7 +12,7 @@ use Rattle.read_tlv.specs.declared.ListRead.{ListRead}
 use Rattle.read_tlv.specs.declared.ListRead.the-variants as list
 use Rattle.base_choice.specs.Choice.{pick}
 use Rattle.read_tlv.specs.Tlv.{headAt}
-use Rattle.read_tlv.specs.Lists.{closed, elementOf, restOf, listOf, listWithin, listAt, elementAt}
+use Rattle.read_tlv.specs.Lists.{elementClosed, elementOf, restAfter, listOf, listWithin, listAt, elementAt}
 use Rattle.base_choice.proofs.Branches.{each-lt, each-eq, lt!, nlt!, eq!, ne! }
 use Rattle.read_tlv.proofs.Inside.{head-inside, element-of}
 
@@ -31,11 +31,11 @@ module _ (s : List ℕ) (at end level : ℕ) where
   element-of-same p q head.Wrong g f = refl
   element-of-same p q (head.Head t b start stop) g f =
       let i = head-inside s at end t b start stop g in
-      ap (λ (l : ListRead). pick b (closed stop l) (read.Next stop)) (f start stop (i .past) (i .within))
+      ap (λ (l : ListRead). pick b (elementClosed stop l) (read.Next stop)) (f start stop (i .past) (i .within))
 
   rest-of-same : (p q : ℕ → ListRead) (inner : ℕ → ℕ → ListRead) (r : ElementRead) → r ≡ elementOf inner (headAt s at end)
-      → ((next : ℕ) → at < next → p next ≡ q next) → restOf p r ≡ restOf q r
-  unfolding restOf
+      → ((next : ℕ) → at < next → p next ≡ q next) → restAfter p r ≡ restAfter q r
+  unfolding restAfter
   rest-of-same p q inner read.Wrong g f = refl
   rest-of-same p q inner (read.Next next) g f = f next (element-of s at end inner next (headAt s at end) refl g .past)
 
@@ -43,11 +43,11 @@ module _ (s : List ℕ) (at end level : ℕ) where
   list-agrees : (p q : ℕ → ListRead) (inner inner′ : ℕ → ℕ → ListRead)
       → (at < end → (next : ℕ) → at < next → p next ≡ q next)
       → (at < end → (start stop : ℕ) → at < start → stop ≤ end → inner start stop ≡ inner′ start stop)
-      → listOf s at end level (restOf p (elementOf inner (headAt s at end)))
-      ≡ listOf s at end level (restOf q (elementOf inner′ (headAt s at end)))
+      → listOf s at end level (restAfter p (elementOf inner (headAt s at end)))
+      ≡ listOf s at end level (restAfter q (elementOf inner′ (headAt s at end)))
   list-agrees p q inner inner′ f g = list-of-same _ _ (λ h.
       rest-of-same p q inner (elementOf inner (headAt s at end)) refl (f h)
-      ∙ ap (restOf q) (element-of-same inner inner′ (headAt s at end) refl (g h)))
+      ∙ ap (restAfter q) (element-of-same inner inner′ (headAt s at end) refl (g h)))
 
 pub list-same : (f g : ℕ) (s : List ℕ) (at end level : ℕ) → end - at ≤ f → end - at ≤ g
     → listWithin f s at end level ≡ listWithin g s at end level
@@ -60,7 +60,7 @@ list-same (suc f) (suc g) s at end level i j = list-agrees s at end level _ _ _ 
     (λ h start stop k l. list-same f g s start stop (level + 1) (omega arith) (omega arith))
 
 abbrev onward : List ℕ → ℕ → ℕ → ℕ → ListRead
-onward s at end level = listOf s at end level (restOf (λ next. listAt s next end level) (elementAt s at end level))
+onward s at end level = listOf s at end level (restAfter (λ next. listAt s next end level) (elementAt s at end level))
 
 within-onward : (f : ℕ) (s : List ℕ) (at end level : ℕ) → end - at ≤ f → listWithin f s at end level ≡ onward s at end level
 unfolding listWithin listAt elementAt
@@ -70,6 +70,6 @@ within-onward (suc f) s at end level i = list-agrees s at end level _ _ _ _
     (λ h start stop k l. list-same f (stop - start) s start stop (level + 1) (omega arith) (omega arith))
 
 pub list-onward : (s : List ℕ) (at end level : ℕ) (r : ListRead)
-    → r ≡ listOf s at end level (restOf (λ next. listAt s next end level) (elementAt s at end level)) → r ≡ listAt s at end level
+    → r ≡ listOf s at end level (restAfter (λ next. listAt s next end level) (elementAt s at end level)) → r ≡ listAt s at end level
 unfolding listAt
 list-onward s at end level r q = q ∙ sym (within-onward (end - at) s at end level (omega arith))

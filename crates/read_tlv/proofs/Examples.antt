@@ -8,23 +8,23 @@ use Rattle.read_tlv.specs.declared.Element.the-variants as element
 use Rattle.read_tlv.specs.declared.ListRead.the-variants as list
 use Rattle.base_choice.specs.Choice.{pick, atMost, isBelow, isSame}
 use Rattle.read_tlv.specs.Tlv.{tagAt, lengthAt, headAt, afterTag, afterLength, expectAt, expectOf}
-use Rattle.read_tlv.specs.Lists.{listAt, listWithin, listOf, elementOf, restOf, closed}
+use Rattle.read_tlv.specs.Lists.{listAt, listWithin, listOf, elementOf, restAfter, elementClosed}
 
 four-levels : listAt (0x70 ∷ 6 ∷ 0x70 ∷ 4 ∷ 0x70 ∷ 2 ∷ 0x4F ∷ 0 ∷ []) 0 8 1 ≡ list.Filled
-unfolding listAt listWithin listOf elementOf restOf closed headAt afterTag afterLength tagAt lengthAt pick atMost isBelow isSame
+unfolding listAt listWithin listOf elementOf restAfter elementClosed headAt afterTag afterLength tagAt lengthAt pick atMost isBelow isSame
 four-levels = refl
 
 five-levels : listAt (0x70 ∷ 8 ∷ 0x70 ∷ 6 ∷ 0x70 ∷ 4 ∷ 0x70 ∷ 2 ∷ 0x4F ∷ 0 ∷ []) 0 10 1 ≡ list.Wrong
-unfolding listAt listWithin listOf elementOf restOf closed headAt afterTag afterLength tagAt lengthAt pick atMost isBelow isSame
+unfolding listAt listWithin listOf elementOf restAfter elementClosed headAt afterTag afterLength tagAt lengthAt pick atMost isBelow isSame
 five-levels = refl
 
 -- the level that counts is the list's, so an empty list at level 5 is wrong too
 empty-fifth : listAt (0x70 ∷ 6 ∷ 0x70 ∷ 4 ∷ 0x70 ∷ 2 ∷ 0x70 ∷ 0 ∷ []) 0 8 1 ≡ list.Wrong
-unfolding listAt listWithin listOf elementOf restOf closed headAt afterTag afterLength tagAt lengthAt pick atMost isBelow isSame
+unfolding listAt listWithin listOf elementOf restAfter elementClosed headAt afterTag afterLength tagAt lengthAt pick atMost isBelow isSame
 empty-fifth = refl
 
 stray-byte : listAt (0x4F ∷ 1 ∷ 0xAA ∷ 0x00 ∷ []) 0 4 1 ≡ list.Wrong
-unfolding listAt listWithin listOf elementOf restOf closed headAt afterTag afterLength tagAt lengthAt pick atMost isBelow isSame
+unfolding listAt listWithin listOf elementOf restAfter elementClosed headAt afterTag afterLength tagAt lengthAt pick atMost isBelow isSame
 stray-byte = refl
 
 two-bytes : tagAt (0x9F ∷ 0x70 ∷ []) 0 2 ≡ tag.Tag 0x9F70 false 2

@@ -12,23 +12,23 @@ use Rattle.read_tlv.specs.declared.ListRead.{ListRead}
 use Rattle.read_tlv.specs.declared.ListRead.the-variants as list
 use Rattle.base_choice.specs.Choice.{pick}
 use Rattle.read_tlv.specs.Tlv.{headAt}
-use Rattle.read_tlv.specs.Lists.{closed, elementOf, restOf, listOf, listWithin, listAt, elementAt, isWrong, listWrong}
+use Rattle.read_tlv.specs.Lists.{elementClosed, elementOf, restAfter, listOf, listWithin, listAt, elementAt, isListWrong, listWrong}
 use Rattle.read_tlv.specs.Filled.{Level, Filled, ended, primitive, constructed}
 use Rattle.read_tlv.specs.Grammar.{ListFilled, FilledList, RightFilled}
 use Rattle.base_choice.proofs.Branches.{each-lt, each-eq, nlt!, eq!, ne! }
 use Rattle.read_tlv.proofs.Inside.{head-inside}
 use Rattle.read_tlv.proofs.Counts.{list-onward}
 
-closed-both : (rest : ℕ → ListRead) (stop : ℕ) (r : ListRead) → list.Filled ≡ restOf rest (closed stop r) → (list.Filled ≡ r) × (list.Filled ≡ rest stop)
-unfolding closed restOf
+closed-both : (rest : ℕ → ListRead) (stop : ℕ) (r : ListRead) → list.Filled ≡ restAfter rest (elementClosed stop r) → (list.Filled ≡ r) × (list.Filled ≡ rest stop)
+unfolding elementClosed restAfter
 closed-both rest stop list.Filled q = (refl, q)
 closed-both rest stop list.Wrong q = let z : _≡_ {A = ℕ} 0 1 = cc in absurd (omega arith)
 
 module _ (s : List ℕ) (at end level : ℕ) (l : Level level) (rest : ℕ → ListRead) (inner : ℕ → ℕ → ListRead)
     (goes : (next : ℕ) → list.Filled ≡ rest next → Filled s level next end)
     (holds : (start stop : ℕ) → list.Filled ≡ inner start stop → Filled s (level + 1) start stop) where
-  element-fills : (r : HeadRead) → r ≡ headAt s at end → list.Filled ≡ restOf rest (elementOf inner r) → Filled s level at end
-  unfolding elementOf restOf pick
+  element-fills : (r : HeadRead) → r ≡ headAt s at end → list.Filled ≡ restAfter rest (elementOf inner r) → Filled s level at end
+  unfolding elementOf restAfter pick
   element-fills head.Wrong g q = let z : _≡_ {A = ℕ} 0 1 = cc in absurd (omega arith)
   element-fills (head.Head t true start stop) g q =
       let b = closed-both rest stop (inner start stop) q in constructed l g (holds start stop (b .0)) (goes stop (b .1))
@@ -55,7 +55,7 @@ unfolding listAt
 list-filled s at end level = within-fills (end - at) s at end level
 
 fills : {s : List ℕ} {level at end : ℕ} → Filled s level at end → list.Filled ≡ listAt s at end level
-unfolding listOf restOf elementAt elementOf closed pick
+unfolding listOf restAfter elementAt elementOf elementClosed pick
 fills {s} {level} {at} {end} (ended l h) = list-onward s at at level _
     (nlt! _ (omega arith) (nlt! _ (omega arith) (nlt! _ (omega arith) (nlt! _ (omega arith) (eq! _ refl refl)))))
 fills {s} {level} {at} {end} (primitive {t} {start} {stop} l g r) =
@@ -70,7 +70,7 @@ fills {s} {level} {at} {end} (constructed {t} {start} {stop} l g n r) =
 pub filled-list : FilledList
 filled-list s at end level f = fills f
 
-right-read : (r : ListRead) → isWrong r ≡ false → list.Filled ≡ r
+right-read : (r : ListRead) → isListWrong r ≡ false → list.Filled ≡ r
 right-read list.Filled e = refl
 right-read list.Wrong e = absurd (false≢true (sym e))
 

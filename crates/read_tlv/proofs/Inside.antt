@@ -19,7 +19,7 @@ use Rattle.read_tlv.specs.declared.ElementRead.the-variants as read
 use Rattle.read_tlv.specs.declared.ListRead.{ListRead}
 use Rattle.read_tlv.specs.declared.ListRead.the-variants as list
 use Rattle.read_tlv.specs.Tlv.{tagAt, lengthAt, headAt, afterTag, afterLength, expectAt, expectOf}
-use Rattle.read_tlv.specs.Lists.{elementOf, closed, elementAt}
+use Rattle.read_tlv.specs.Lists.{elementOf, elementClosed, elementAt}
 use Rattle.base_choice.proofs.Branches.{each, each-le, each-lt, each-eq}
 
 -- something read from `at` on, with the next place `next`
@@ -121,8 +121,8 @@ module _ (s : List ℕ) (at end t low high start stop : ℕ) where
   pub expect-inside : element.Found start stop ≡ expectAt s at end t low high → Inside s at start stop end
   expect-inside q = expect-parts q .inside
 
-closed-next : (next stop : ℕ) (r : ListRead) → read.Next next ≡ closed stop r → read.Next next ≡ read.Next stop
-unfolding closed
+closed-next : (next stop : ℕ) (r : ListRead) → read.Next next ≡ elementClosed stop r → read.Next next ≡ read.Next stop
+unfolding elementClosed
 closed-next next stop list.Filled q = q
 closed-next next stop list.Wrong q = let z : _≡_ {A = ℕ} 0 1 = cc in absurd (omega arith)
 

@@ -15,21 +15,21 @@ use Rattle.read_tlv.specs.Tlv.{headAt}
 use Rattle.base_choice.specs.Choice.{pick, isBelow, isSame}
 
 -- the element that stops at `stop`, where its inner list is filled
-unfoldable pub closed : ℕ → ListRead → ElementRead
-closed stop list.Filled = element.Next stop
-closed stop list.Wrong = element.Wrong
+unfoldable pub elementClosed : ℕ → ListRead → ElementRead
+elementClosed stop list.Filled = element.Next stop
+elementClosed stop list.Wrong = element.Wrong
 
 -- an element; `inner` reads the list that a constructed one holds
 unfoldable pub elementOf : (ℕ → ℕ → ListRead) → HeadRead → ElementRead
-unfolding closed
+unfolding elementClosed
 elementOf inner head.Wrong = element.Wrong
 elementOf inner (head.Head t constructed start stop) =
-    pick constructed (closed stop (inner start stop)) (element.Next stop)
+    pick constructed (elementClosed stop (inner start stop)) (element.Next stop)
 
 -- the rest of a list after an element
-unfoldable pub restOf : (ℕ → ListRead) → ElementRead → ListRead
-restOf rest element.Wrong = list.Wrong
-restOf rest (element.Next next) = rest next
+unfoldable pub restAfter : (ℕ → ListRead) → ElementRead → ListRead
+restAfter rest element.Wrong = list.Wrong
+restAfter rest (element.Next next) = rest next
 
 -- a list: its window lies in the bytes, its level is 1 to 4, and it is at its end or `elements` says what stands there (decision 31)
 unfoldable pub listOf : List ℕ → ℕ → ℕ → ℕ → ListRead → ListRead
@@ -41,11 +41,11 @@ listOf s at end level elements =
     (pick (isSame at end) list.Filled elements))))
 
 unfoldable pub listWithin : ℕ → List ℕ → ℕ → ℕ → ℕ → ListRead
-unfolding listOf elementOf restOf
+unfolding listOf elementOf restAfter
 listWithin zero s at end level = listOf s at end level list.Wrong
 listWithin (suc f) s at end level =
     listOf s at end level
-    (restOf (λ next. listWithin f s next end level)
+    (restAfter (λ next. listWithin f s next end level)
     (elementOf (λ start stop. listWithin f s start stop (level + 1)) (headAt s at end)))
 
 -- the elements from `at` up to `end`, at a level
@@ -58,10 +58,10 @@ unfoldable pub elementAt : List ℕ → ℕ → ℕ → ℕ → ElementRead
 unfolding elementOf listAt
 elementAt s at end level = elementOf (λ start stop. listAt s start stop (level + 1)) (headAt s at end)
 
-abbrev pub isWrong : ListRead → Bool
-isWrong list.Filled = false
-isWrong list.Wrong = true
+abbrev pub isListWrong : ListRead → Bool
+isListWrong list.Filled = false
+isListWrong list.Wrong = true
 
 -- the window is no list of elements, at the outermost level; no answer hangs on it, as each table asks for more (decision B19)
 unfoldable pub listWrong : List ℕ → ℕ → ℕ → Bool
-listWrong s at end = isWrong (listAt s at end 1)
+listWrong s at end = isListWrong (listAt s at end 1)

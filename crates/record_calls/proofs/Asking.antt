@@ -21,7 +21,7 @@ use Rattle.card_places.specs.declared.Found.the-variants.{At, Nothing}
 use Rattle.card_record.specs.Cards.{placeOf, profileOf}
 use Rattle.card_record.specs.Steps.{stepSince, stepTo}
 use Rattle.card_record.specs.Ticks.{ticksByPhase}
-use Rattle.card_record.specs.Answers.{handed, refusedAt, answerAt, silentAt, known}
+use Rattle.card_record.specs.Answers.{asAnswer, refusedWith, answerWith, silentWith, outcomeOnSound}
 use Rattle.card_record.specs.declared.Answer.{Answer}
 use Rattle.card_record.specs.declared.Card.{Card}
 use Rattle.card_record.specs.declared.Step.{Step}
@@ -60,28 +60,28 @@ pub profile : {c : Card} {aid : List ℕ} {act : Act} {t : ℕ} {p : Isdp} → A
 profile {c} a e = ap (at (c .places)) (a .place) ∙ sym e
 
 -- an inner call, whose values come first, has the card's rows then
-pub inner : {c : Card} {aid : List ℕ} {act : Act} {f : Found} → Sought c aid act f → known c (innerWork c aid act) ≡ known c (askedWork c (on aid act))
+pub inner : {c : Card} {aid : List ℕ} {act : Act} {f : Found} → Sought c aid act f → outcomeOnSound c (innerWork c aid act) ≡ outcomeOnSound c (askedWork c (on aid act))
 unfolding wordOf
 inner s = rw (s .values)
 
-pub at-target : {c : Card} {aid : List ℕ} {act : Act} {f : Found} → Sought c aid act f → f ≡ Nothing → known c (askedWork c (on aid act)) ≡ refusedAt (ticksByPhase c) c NotHeld
+pub at-target : {c : Card} {aid : List ℕ} {act : Act} {f : Found} → Sought c aid act f → f ≡ Nothing → outcomeOnSound c (askedWork c (on aid act)) ≡ refusedWith (ticksByPhase c) c NotHeld
 unfolding wordOf
 at-target s n = rw (s .change, s .missing n)
 
 module _ {c : Card} {aid : List ℕ} {act : Act} {t : ℕ} (a : Aimed c aid act t) where
-  pub at-state : actStateWrong c aid act ≡ true → known c (askedWork c (on aid act)) ≡ refusedAt (ticksByPhase c) c StateWrong
+  pub at-state : actStateWrong c aid act ≡ true → outcomeOnSound c (askedWork c (on aid act)) ≡ refusedWith (ticksByPhase c) c StateWrong
   unfolding wordOf
   at-state s = rw (a .change, a .there, s)
 
-  pub at-policy : actStateWrong c aid act ≡ false → actForbidden c aid act ≡ true → known c (askedWork c (on aid act)) ≡ refusedAt (ticksByPhase c) c PolicyForbids
+  pub at-policy : actStateWrong c aid act ≡ false → actForbidden c aid act ≡ true → outcomeOnSound c (askedWork c (on aid act)) ≡ refusedWith (ticksByPhase c) c PolicyForbids
   unfolding wordOf
   at-policy s p = rw (a .change, a .there, s, p)
 
-  pub at-verdict : actStateWrong c aid act ≡ false → actForbidden c aid act ≡ false → actVerdictWrong act ≡ true → known c (askedWork c (on aid act)) ≡ refusedAt (ticksByPhase c) c VerdictWrong
+  pub at-verdict : actStateWrong c aid act ≡ false → actForbidden c aid act ≡ false → actVerdictWrong act ≡ true → outcomeOnSound c (askedWork c (on aid act)) ≡ refusedWith (ticksByPhase c) c VerdictWrong
   unfolding wordOf
   at-verdict s p v = rw (a .change, a .there, s, p, v)
 
-  pub at-room : actStateWrong c aid act ≡ false → actForbidden c aid act ≡ false → actVerdictWrong act ≡ false → actNoRoom c aid act ≡ true → known c (askedWork c (on aid act)) ≡ refusedAt (ticksByPhase c) c NoRoom
+  pub at-room : actStateWrong c aid act ≡ false → actForbidden c aid act ≡ false → actVerdictWrong act ≡ false → actNoRoom c aid act ≡ true → outcomeOnSound c (askedWork c (on aid act)) ≡ refusedWith (ticksByPhase c) c NoRoom
   unfolding wordOf
   at-room s p v n = rw (a .change, a .there, s, p, v, n)
 
@@ -92,13 +92,13 @@ module _ {c : Card} {aid : List ℕ} {act : Act} {t : ℕ} (a : Aimed c aid act 
     passes = rw (a .change, a .there, s, p, v, n)
 
     pub steps : {d : Card} {gone : Aid} {step : Step} {r : Answer} → stepTo c d noAid ≡ actStep c aid act → gone ≡ noAid → step ≡ stepSince (c .last) d gone
-        → r ≡ answerAt (ticksByPhase (step .card)) Done step (length (actResponse c aid act)) → r ≡ handed (known c (askedWork c (on aid act)))
+        → r ≡ answerWith (ticksByPhase (step .card)) Done step (length (actResponse c aid act)) → r ≡ asAnswer (outcomeOnSound c (askedWork c (on aid act)))
     steps = accepts c (askedWork c (on aid act)) passes
 
     pub steps-silently : {d e : Card} {r : Answer} → d ≡ e → stepTo c e noAid ≡ actStep c aid act → e .last ≡ c .last
-        → r ≡ silentAt (ticksByPhase d) Done d (length (actResponse c aid act)) → r ≡ handed (known c (askedWork c (on aid act)))
+        → r ≡ silentWith (ticksByPhase d) Done d (length (actResponse c aid act)) → r ≡ asAnswer (outcomeOnSound c (askedWork c (on aid act)))
     steps-silently = silent-accepts c (askedWork c (on aid act)) passes
 
-    pub steps-into : {d e : Card} {r : Answer} {k : ℕ} {old new : List ℕ} → d ≡ e → stepTo c e noAid ≡ actStep c aid act → e .last ≡ c .last → r ≡ silentAt (ticksByPhase d) Done d k
-        → Wrote old 0 (actResponse c aid act) k new → length (actResponse c aid act) ≤ mostResponse → AnsweredInto old (known c (askedWork c (on aid act))) r new
+    pub steps-into : {d e : Card} {r : Answer} {k : ℕ} {old new : List ℕ} → d ≡ e → stepTo c e noAid ≡ actStep c aid act → e .last ≡ c .last → r ≡ silentWith (ticksByPhase d) Done d k
+        → Wrote old 0 (actResponse c aid act) k new → length (actResponse c aid act) ≤ mostResponse → AnsweredInto old (outcomeOnSound c (askedWork c (on aid act))) r new
     steps-into = silent-into c (askedWork c (on aid act)) passes

@@ -8,12 +8,12 @@ use card_places::Found;
 use card_record::Answer;
 use card_record::Card;
 ghost use mathlib.Core.Path.{_≡_};
-ghost use Rattle.card_record.specs.Answers.{handed, known};
+ghost use Rattle.card_record.specs.Answers.{asAnswer, outcomeOnSound};
 ghost use Rattle.rule_steps.specs.Asked.{Act.enable, Act.disable, Asked.on};
 ghost use Rattle.rule_steps.specs.Steps.{askedWork};
 
 pub fn enable(card: Card, aid: &[u8]) -> Answer
-    ensures { λ r. ⌜ r ≡ handed (known card (askedWork card (on (now (aid .entry)) enable))) ⌝ }
+    ensures { λ r. ⌜ r ≡ asAnswer (outcomeOnSound card (askedWork card (on (now (aid .entry)) enable))) ⌝ }
 {
     let phase = card.phase;
     if !phase.is_quiet() {
@@ -37,7 +37,7 @@ pub fn enable(card: Card, aid: &[u8]) -> Answer
 }
 
 pub fn disable(card: Card, aid: &[u8]) -> Answer
-    ensures { λ r. ⌜ r ≡ handed (known card (askedWork card (on (now (aid .entry)) disable))) ⌝ }
+    ensures { λ r. ⌜ r ≡ asAnswer (outcomeOnSound card (askedWork card (on (now (aid .entry)) disable))) ⌝ }
 {
     let phase = card.phase;
     if !phase.is_quiet() {

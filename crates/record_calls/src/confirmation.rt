@@ -4,13 +4,13 @@ use base_status::Status;
 use card_record::Answer;
 use card_record::Card;
 use record_responses::write_deleted;
-ghost use Rattle.card_record.specs.Answers.{known};
+ghost use Rattle.card_record.specs.Answers.{outcomeOnSound};
 ghost use Rattle.rule_steps.specs.Asked.{Asked.confirm};
 ghost use Rattle.rule_steps.specs.Steps.{askedWork};
 ghost use Rattle.record_calls.specs.Into.{AnsweredInto};
 
 pub fn confirm(card: Card, number: u16, buf: &mut [u8]) -> Answer
-    ensures { λ r. ⌜ AnsweredInto (now (buf .entry)) (known card (askedWork card (confirm number))) r (now (buf .exit)) ⌝ }
+    ensures { λ r. ⌜ AnsweredInto (now (buf .entry)) (outcomeOnSound card (askedWork card (confirm number))) r (now (buf .exit)) ⌝ }
 {
     let phase = card.phase;
     if phase.is_quiet() {

@@ -6,13 +6,13 @@ use card_isdp::Isdp;
 use card_places::Found;
 use card_record::Answer;
 use card_record::Card;
-ghost use Rattle.card_record.specs.Answers.{known};
+ghost use Rattle.card_record.specs.Answers.{outcomeOnSound};
 ghost use Rattle.rule_steps.specs.Asked.{Asked.create};
 ghost use Rattle.rule_steps.specs.Steps.{askedWork};
 ghost use Rattle.record_calls.specs.Into.{AnsweredInto};
 
 pub fn create(card: Card, aid: &[u8], quota: u32, buf: &mut [u8]) -> Answer
-    ensures { λ r. ⌜ AnsweredInto (now (buf .entry)) (known card (askedWork card (create (now (aid .entry)) quota))) r (now (buf .exit)) ⌝ }
+    ensures { λ r. ⌜ AnsweredInto (now (buf .entry)) (outcomeOnSound card (askedWork card (create (now (aid .entry)) quota))) r (now (buf .exit)) ⌝ }
 {
     let phase = card.phase;
     if !phase.is_quiet() {

@@ -6,13 +6,13 @@ use card_isdp::forbids_deletion;
 use card_places::Found;
 use card_record::Answer;
 use card_record::Card;
-ghost use Rattle.card_record.specs.Answers.{known};
+ghost use Rattle.card_record.specs.Answers.{outcomeOnSound};
 ghost use Rattle.rule_steps.specs.Asked.{Act.delete, Act.masterDelete, Asked.on};
 ghost use Rattle.rule_steps.specs.Steps.{askedWork};
 ghost use Rattle.record_calls.specs.Into.{AnsweredInto};
 
 pub fn delete(card: Card, aid: &[u8], buf: &mut [u8]) -> Answer
-    ensures { λ r. ⌜ AnsweredInto (now (buf .entry)) (known card (askedWork card (on (now (aid .entry)) delete))) r (now (buf .exit)) ⌝ }
+    ensures { λ r. ⌜ AnsweredInto (now (buf .entry)) (outcomeOnSound card (askedWork card (on (now (aid .entry)) delete))) r (now (buf .exit)) ⌝ }
 {
     let phase = card.phase;
     if !phase.is_quiet() {
@@ -33,7 +33,7 @@ pub fn delete(card: Card, aid: &[u8], buf: &mut [u8]) -> Answer
 }
 
 pub fn master_delete(card: Card, aid: &[u8], verdict: u8, buf: &mut [u8]) -> Answer
-    ensures { λ r. ⌜ AnsweredInto (now (buf .entry)) (known card (askedWork card (on (now (aid .entry)) (masterDelete verdict)))) r (now (buf .exit)) ⌝ }
+    ensures { λ r. ⌜ AnsweredInto (now (buf .entry)) (outcomeOnSound card (askedWork card (on (now (aid .entry)) (masterDelete verdict)))) r (now (buf .exit)) ⌝ }
 {
     let phase = card.phase;
     if !phase.is_quiet() {

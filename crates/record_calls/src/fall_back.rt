@@ -5,12 +5,12 @@ use card_places::Found;
 use card_record::Answer;
 use card_record::Card;
 ghost use mathlib.Core.Path.{_≡_};
-ghost use Rattle.card_record.specs.Answers.{handed, known};
+ghost use Rattle.card_record.specs.Answers.{asAnswer, outcomeOnSound};
 ghost use Rattle.rule_steps.specs.Asked.{Act.setFallBack, Asked.on};
 ghost use Rattle.rule_steps.specs.Steps.{askedWork};
 
 pub fn set_fall_back(card: Card, aid: &[u8]) -> Answer
-    ensures { λ r. ⌜ r ≡ handed (known card (askedWork card (on (now (aid .entry)) setFallBack))) ⌝ }
+    ensures { λ r. ⌜ r ≡ asAnswer (outcomeOnSound card (askedWork card (on (now (aid .entry)) setFallBack))) ⌝ }
 {
     let phase = card.phase;
     if !phase.is_quiet() {

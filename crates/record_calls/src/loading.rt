@@ -9,13 +9,13 @@ use card_places::Found;
 use card_record::Answer;
 use card_record::Card;
 ghost use mathlib.Core.Path.{_≡_};
-ghost use Rattle.card_record.specs.Answers.{handed, known};
+ghost use Rattle.card_record.specs.Answers.{asAnswer, outcomeOnSound};
 ghost use Rattle.rule_steps.specs.Asked.{Act.keyed, Act.stored, Act.finished};
 ghost use Rattle.rule_steps.specs.Steps.{innerWork};
 
 // SELECTABLE to PERSONALIZED.
 pub fn keyed(card: Card, aid: &[u8]) -> Answer
-    ensures { λ r. ⌜ r ≡ handed (known card (innerWork card (now (aid .entry)) keyed)) ⌝ }
+    ensures { λ r. ⌜ r ≡ asAnswer (outcomeOnSound card (innerWork card (now (aid .entry)) keyed)) ⌝ }
 {
     if !aid_ok(aid) {
         return card.refused(Status::DataWrong);
@@ -33,7 +33,7 @@ pub fn keyed(card: Card, aid: &[u8]) -> Answer
 
 // n bytes more in a PERSONALIZED profile.
 pub fn stored(card: Card, aid: &[u8], n: u32) -> Answer
-    ensures { λ r. ⌜ r ≡ handed (known card (innerWork card (now (aid .entry)) (stored n))) ⌝ }
+    ensures { λ r. ⌜ r ≡ asAnswer (outcomeOnSound card (innerWork card (now (aid .entry)) (stored n))) ⌝ }
 {
     if !aid_ok(aid) {
         return card.refused(Status::DataWrong);
@@ -55,7 +55,7 @@ pub fn stored(card: Card, aid: &[u8], n: u32) -> Answer
 
 // PERSONALIZED to DISABLED, with its policy and its mark.
 pub fn finished(card: Card, aid: &[u8], policy: u8, mark: u8) -> Answer
-    ensures { λ r. ⌜ r ≡ handed (known card (innerWork card (now (aid .entry)) (finished policy mark))) ⌝ }
+    ensures { λ r. ⌜ r ≡ asAnswer (outcomeOnSound card (innerWork card (now (aid .entry)) (finished policy mark))) ⌝ }
 {
     if !(aid_ok(aid) & (policy_ok(policy) & mark_ok(mark))) {
         return card.refused(Status::DataWrong);

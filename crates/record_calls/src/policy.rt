@@ -8,13 +8,13 @@ use card_places::Found;
 use card_record::Answer;
 use card_record::Card;
 ghost use mathlib.Core.Path.{_≡_};
-ghost use Rattle.card_record.specs.Answers.{handed, known};
+ghost use Rattle.card_record.specs.Answers.{asAnswer, outcomeOnSound};
 ghost use Rattle.rule_steps.specs.Asked.{Act.setPolicy};
 ghost use Rattle.rule_steps.specs.Steps.{innerWork};
 
 // The policy of the enabled profile, set by its operator's domain; the old one is not asked.
 pub fn set_policy(card: Card, speaker: &[u8], policy: u8) -> Answer
-    ensures { λ r. ⌜ r ≡ handed (known card (innerWork card (now (speaker .entry)) (setPolicy policy))) ⌝ }
+    ensures { λ r. ⌜ r ≡ asAnswer (outcomeOnSound card (innerWork card (now (speaker .entry)) (setPolicy policy))) ⌝ }
 {
     if !(aid_ok(speaker) & policy_ok(policy)) {
         return card.refused(Status::DataWrong);

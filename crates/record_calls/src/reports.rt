@@ -9,7 +9,7 @@ use record_responses::write_information;
 use record_responses::write_part;
 ghost use mathlib.Core.Path.{_≡_};
 ghost use mathlib.Core.Bool.{cond};
-ghost use Rattle.card_record.specs.Answers.{known};
+ghost use Rattle.card_record.specs.Answers.{outcomeOnSound};
 ghost use Rattle.rule_steps.specs.Asked.{Act.status, Asked.on, Asked.statusOfAll, Asked.getData};
 ghost use Rattle.rule_steps.specs.Steps.{partWord, askedWork};
 ghost use Rattle.record_calls.specs.Into.{AnsweredInto};
@@ -35,7 +35,7 @@ fn part_word(left: u8) -> Status
 }
 
 pub fn status_of_all(card: Card, next: bool, life: bool, fallback: bool, buf: &mut [u8]) -> Answer
-    ensures { λ r. ⌜ AnsweredInto (now (buf .entry)) (known card (askedWork card (statusOfAll next life fallback))) r (now (buf .exit)) ⌝ }
+    ensures { λ r. ⌜ AnsweredInto (now (buf .entry)) (outcomeOnSound card (askedWork card (statusOfAll next life fallback))) r (now (buf .exit)) ⌝ }
 {
     if next & (card.kept == Card::NO_PLACE) {
         return card.refused(Status::NotHeld);
@@ -46,7 +46,7 @@ pub fn status_of_all(card: Card, next: bool, life: bool, fallback: bool, buf: &m
 }
 
 pub fn status_of_one(card: Card, aid: &[u8], life: bool, fallback: bool, buf: &mut [u8]) -> Answer
-    ensures { λ r. ⌜ AnsweredInto (now (buf .entry)) (known card (askedWork card (on (now (aid .entry)) (status life fallback)))) r (now (buf .exit)) ⌝ }
+    ensures { λ r. ⌜ AnsweredInto (now (buf .entry)) (outcomeOnSound card (askedWork card (on (now (aid .entry)) (status life fallback)))) r (now (buf .exit)) ⌝ }
 {
     let Found::At(t) = card.place_of(aid) else {
         return card.refused(Status::NotHeld);
@@ -65,7 +65,7 @@ pub fn status_of_one(card: Card, aid: &[u8], life: bool, fallback: bool, buf: &m
 }
 
 pub fn get_data(card: Card, buf: &mut [u8]) -> Answer
-    ensures { λ r. ⌜ AnsweredInto (now (buf .entry)) (known card (askedWork card getData)) r (now (buf .exit)) ⌝ }
+    ensures { λ r. ⌜ AnsweredInto (now (buf .entry)) (outcomeOnSound card (askedWork card getData)) r (now (buf .exit)) ⌝ }
 {
     let n = write_information(card, Information::Data, buf, 0);
     card.forgotten().silently(Status::Done, n)

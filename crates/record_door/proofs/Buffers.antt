@@ -11,7 +11,7 @@ use Rattle.base_status.specs.StatusWords.{isDone}
 use Rattle.base_status.specs.Rows.{wordOf}
 use Rattle.base_bytes.proofs.PutLaws.{after-fits, put-none}
 use Rattle.card_record.specs.Ticks.{ticksByPhase}
-use Rattle.card_record.specs.Answers.{Outcome, Work, acceptedAt, refusedAt, handed, known}
+use Rattle.card_record.specs.Answers.{Outcome, Work, acceptedWith, refusedWith, asAnswer, outcomeOnSound}
 use Rattle.card_record.specs.declared.Card.{Card}
 use Rattle.card_record.specs.declared.Answer.{Answer}
 use Rattle.rule_run.specs.Table.{leastBuffer}
@@ -22,16 +22,16 @@ pub served : {old new : List ℕ} {o : Outcome} {r : Answer} → leastBuffer ≤
 served {old} {new} {o} h i =
     let m = i .most in
     let e = after-fits (length old) 0 (length (o .response)) (omega arith) ∙ zero-add (length (o .response)) in
-    let q : _ ≡ handed o = rw e at (i .answer) in
+    let q : _ ≡ asAnswer o = rw e at (i .answer) in
     (record { answer = q; content = i .content }, rw q (omega arith))
 
 -- an outcome without a response leaves the buffer as it was: every refusal, and a call whose work has none
-pub kept : (old : List ℕ) {o : Outcome} {r : Answer} → o .response ≡ [] → r ≡ handed o → Served old o r old
+pub kept : (old : List ℕ) {o : Outcome} {r : Answer} → o .response ≡ [] → r ≡ asAnswer o → Served old o r old
 kept old n q = (record { answer = q; content = rw n (sym (put-none old 0)) }, rw (q, n) (omega arith))
 
-none-case : (c : Card) (w : Work) (b : Bool) → w .response ≡ [] → cond b (acceptedAt (ticksByPhase (w .step .card)) (wordOf (w .success) (w .rows)) (w .step) (w .response)) (refusedAt (ticksByPhase c) c (wordOf (w .success) (w .rows))) .response ≡ []
+none-case : (c : Card) (w : Work) (b : Bool) → w .response ≡ [] → cond b (acceptedWith (ticksByPhase (w .step .card)) (wordOf (w .success) (w .rows)) (w .step) (w .response)) (refusedWith (ticksByPhase c) c (wordOf (w .success) (w .rows))) .response ≡ []
 none-case c w true e = e
 none-case c w false e = refl
 
-pub none-served : (c : Card) (w : Work) (old : List ℕ) {r : Answer} → w .response ≡ [] → r ≡ handed (known c w) → Served old (known c w) r old
+pub none-served : (c : Card) (w : Work) (old : List ℕ) {r : Answer} → w .response ≡ [] → r ≡ asAnswer (outcomeOnSound c w) → Served old (outcomeOnSound c w) r old
 none-served c w old e q = kept old (none-case c w (isDone (wordOf (w .success) (w .rows))) e) q

@@ -6,8 +6,8 @@ use lib.ListN.{length}
 use Rattle.base_bytes.specs.Bytes.{partOf}
 use Rattle.card_record.specs.Answers.{Outcome}
 use Rattle.card_record.specs.declared.Answer.{Answer}
-use Rattle.rule_steps.specs.Steps.{Handed}
-use Rattle.rule_run.specs.Calls.{Call, Call.Command, Call.Keyed, Call.Stored, Call.Finished, Call.Tick, Call.Lost, Call.Policy}
+use Rattle.rule_steps.specs.Steps.{HandedWhole}
+use Rattle.rule_run.specs.Calls.{Call, Call.Command, Call.Keyed, Call.Stored, Call.Finished, Call.Tick, Call.Lost, Call.PolicyUpdate}
 use Rattle.record_door.specs.declared.Call as declared
 use Rattle.record_door.specs.declared.Call.the-variants as code
 
@@ -19,8 +19,8 @@ callOf s room (code.Stored aid n) = Stored (partOf s aid) n
 callOf s room (code.Finished aid policy mark) = Finished (partOf s aid) policy mark
 callOf s room code.Tick = Tick
 callOf s room code.Lost = Lost
-callOf s room (code.Policy speaker bytes) = Policy (partOf s speaker) (partOf s bytes) room
+callOf s room (code.PolicyUpdate speaker bytes) = PolicyUpdate (partOf s speaker) (partOf s bytes) room
 
 -- an outcome as it is handed out over a lent buffer that has room for the whole response (decision B33)
 abbrev pub Served : List ℕ → Outcome → Answer → List ℕ → Type 0
-Served old o r new = Handed old o r new × (r .length ≤ length old)
+Served old o r new = HandedWhole old o r new × (r .length ≤ length old)

@@ -12,10 +12,10 @@ use read_operator::Update;
 ghost use mathlib.Core.Path.{_≡_};
 ghost use Prim.Native.Nat.{_≤_};
 ghost use lib.ListN.{length};
-ghost use Rattle.card_record.specs.Answers.{handed, known};
+ghost use Rattle.card_record.specs.Answers.{asAnswer, outcomeOnSound};
 ghost use Rattle.card_record.specs.Fresh.{freshOutcome};
 ghost use Rattle.rule_steps.specs.Steps.{askedWork};
-ghost use Rattle.rule_run.specs.Calls.{Call.Command, Call.Policy, requestAsks};
+ghost use Rattle.rule_run.specs.Calls.{Call.Command, Call.PolicyUpdate, requestAsks};
 ghost use Rattle.rule_run.specs.Table.{leastBuffer};
 ghost use Rattle.rule_run.specs.Step.{step, onSound};
 ghost use Rattle.record_door.specs.Door.{callOf, Served};
@@ -31,7 +31,7 @@ pub enum Call {
     Tick,
     Lost,
     // of an operator's domain: the AID of the profile that it belongs to, and the command that it was sent
-    Policy { speaker: Part, bytes: Part },
+    PolicyUpdate { speaker: Part, bytes: Part },
 }
 
 // A lent response buffer has at least so many bytes.
@@ -40,7 +40,7 @@ pub const LEAST_BUFFER: usize = 256;
 // What a request asks, done on a card known to be sound.
 fn serve(card: Card, verdict: u8, request: Request, bytes: &[u8], buf: &mut [u8]) -> Answer
     requires { ⌜ leastBuffer ≤ length (now buf) ⌝ }
-    ensures { λ r. ⌜ Served (now (buf .entry)) (known card (askedWork card (requestAsks verdict (now (bytes .entry)) request))) r (now (buf .exit)) ⌝ }
+    ensures { λ r. ⌜ Served (now (buf .entry)) (outcomeOnSound card (askedWork card (requestAsks verdict (now (bytes .entry)) request))) r (now (buf .exit)) ⌝ }
 {
     match request {
         Request::Create { aid, quota } => {
@@ -86,7 +86,7 @@ fn command(card: Card, verdict: u8, bytes: &[u8], buf: &mut [u8]) -> Answer
 
 // A policy update: it is read, and what it asks is done for the profile whose domain speaks.
 fn policy(card: Card, speaker: &[u8], bytes: &[u8], buf: &mut [u8]) -> Answer
-    ensures { λ r. ⌜ Served (now (buf .entry)) (onSound card (Policy (now (speaker .entry)) (now (bytes .entry)) (length (now (buf .entry))))) r (now (buf .exit)) ⌝ }
+    ensures { λ r. ⌜ Served (now (buf .entry)) (onSound card (PolicyUpdate (now (speaker .entry)) (now (bytes .entry)) (length (now (buf .entry))))) r (now (buf .exit)) ⌝ }
 {
     if buf.len() < LEAST_BUFFER {
         return card.refused(Status::BufferShort);
@@ -114,7 +114,7 @@ pub fn answer_on_sound(card: Card, call: Call, bytes: &[u8], buf: &mut [u8]) -> 
         }
         Call::Tick => card.ticked(),
         Call::Lost => card.lost().answer(Status::Done, 0),
-        Call::Policy {
+        Call::PolicyUpdate {
             speaker,
             bytes: part,
         } => { policy(card, part_of(bytes, speaker), part_of(bytes, part), buf) }
@@ -133,7 +133,7 @@ pub fn answer(card: Card, call: Call, bytes: &[u8], buf: &mut [u8]) -> Answer
 
 // A fresh card.
 pub fn fresh(eid: &[u8], aid: &[u8], capacity: u32, quota: u32, used: u32, volatile: u32) -> Answer
-    ensures { λ r. ⌜ r ≡ handed (freshOutcome (now (eid .entry)) (now (aid .entry)) capacity quota used volatile) ⌝ }
+    ensures { λ r. ⌜ r ≡ asAnswer (freshOutcome (now (eid .entry)) (now (aid .entry)) capacity quota used volatile) ⌝ }
 {
     Card::fresh(eid, aid, capacity, quota, used, volatile)
 }

@@ -14,7 +14,7 @@ ghost use Rattle.base_bytes.specs.Put.{Wrote};
 ghost use Rattle.card_isdp.specs.Aids.{bytesOf};
 ghost use Rattle.card_isdp.specs.Place.{held};
 ghost use Rattle.card_places.specs.Places.{countOf};
-ghost use Rattle.rule_responses.specs.Responses.{mostRow, aidElement, lifeElement, attributeElement, attributeOf, listed, statusRow, rowOf, rowSize, partGiven, leftAfter, oneStatus, dataResponse, deletedResponse};
+ghost use Rattle.rule_responses.specs.Responses.{mostRow, aidElement, lifeElement, attributeElement, attributeOf, listed, statusRow, rowOf, rowSize, partGiven, nextRowAfter, oneStatus, dataResponse, deletedResponse};
 ghost use Rattle.record_responses.specs.Information.{informationOf};
 
 // A response has at most so many bytes.
@@ -149,7 +149,7 @@ pub fn write_part(
     buf: &mut [u8],
     at: usize,
 ) -> Given
-    ensures { λ r. ⌜ Wrote (now (buf .entry)) at (partGiven card from life fallback) (r .end) (now (buf .exit)) × (r .left ≡ leftAfter card from life fallback) ⌝ }
+    ensures { λ r. ⌜ Wrote (now (buf .entry)) at (partGiven card from life fallback) (r .end) (now (buf .exit)) × (r .left ≡ nextRowAfter card from life fallback) ⌝ }
 {
     let places = card.places;
     let holder = card.fallback;

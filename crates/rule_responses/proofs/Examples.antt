@@ -4,11 +4,11 @@ use Prim.Native.Nat.{ℕ}
 use mathlib.Core.List.{List}
 use Rattle.card_isdp.specs.Aids.{padded}
 use Rattle.card_places.specs.Places.{quotas, countOf}
-use Rattle.rule_responses.specs.Responses.{statusBody, statusRow, rowOf, partFrom, leftFrom, partGiven, leftAfter, oneStatus, dataResponse, deletedResponse}
+use Rattle.rule_responses.specs.Responses.{statusBody, statusRow, rowOf, partFrom, nextRowFrom, partGiven, nextRowAfter, oneStatus, dataResponse, deletedResponse}
 use Rattle.rule_responses.specs.Worked.{lengthsFrom, Worked}
 
 pub worked : (eid : List ℕ) (figure : ℕ) → Worked eid figure
-unfolding lengthsFrom partGiven leftAfter oneStatus partFrom leftFrom rowOf statusRow statusBody padded dataResponse countOf quotas deletedResponse
+unfolding lengthsFrom partGiven nextRowAfter oneStatus partFrom nextRowFrom rowOf statusRow statusBody padded dataResponse countOf quotas deletedResponse
 worked eid figure =
     record {
       example-1 = refl;

@@ -18,7 +18,7 @@ use Rattle.card_places.specs.Places.{at}
 use Rattle.card_places.proofs.Records.{unread}
 use Rattle.card_record.specs.Cards.{noPlace}
 use Rattle.card_record.specs.declared.Card.{Card}
-use Rattle.rule_responses.specs.Responses.{attributeOf, rowOf, rowSize, rowsFrom, listingFrom, mostResponse, partFrom, leftFrom, partGiven, leftAfter}
+use Rattle.rule_responses.specs.Responses.{attributeOf, rowOf, rowSize, rowsFrom, listingFrom, mostResponse, partFrom, nextRowFrom, partGiven, nextRowAfter}
 use Rattle.rule_responses.proofs.Rows.{row-sized}
 
 module _ (holder : ℕ) (life fallback : Bool) where
@@ -33,24 +33,24 @@ module _ (holder : ℕ) (life fallback : Bool) where
     part-step attribute h e f = rw (drop-cons l i unread, add-one, e, le-leb (rowSize here life fallback) room f)
 
     pub left-step : i < length l → rowSize here life fallback ≤ room
-        → leftFrom room holder i life fallback (drop i l) ≡ leftFrom (room - rowSize here life fallback) holder (i + 1) life fallback (drop (i + 1) l)
-    unfolding leftFrom
+        → nextRowFrom room holder i life fallback (drop i l) ≡ nextRowFrom (room - rowSize here life fallback) holder (i + 1) life fallback (drop (i + 1) l)
+    unfolding nextRowFrom
     left-step h f = rw (drop-cons l i unread, add-one, le-leb (rowSize here life fallback) room f)
 
     pub part-stops : i < length l → room < rowSize here life fallback → partFrom room holder i life fallback (drop i l) ≡ []
     unfolding partFrom
     part-stops h f = rw (drop-cons l i unread, lt-leb (rowSize here life fallback) room f)
 
-    pub left-stops : i < length l → room < rowSize here life fallback → leftFrom room holder i life fallback (drop i l) ≡ i
-    unfolding leftFrom
+    pub left-stops : i < length l → room < rowSize here life fallback → nextRowFrom room holder i life fallback (drop i l) ≡ i
+    unfolding nextRowFrom
     left-stops h f = rw (drop-cons l i unread, lt-leb (rowSize here life fallback) room f)
 
     pub part-ends : length l ≤ i → partFrom room holder i life fallback (drop i l) ≡ []
     unfolding partFrom
     part-ends h = rw (drop-of-length-le l h)
 
-    pub left-ends : length l ≤ i → leftFrom room holder i life fallback (drop i l) ≡ noPlace
-    unfolding leftFrom
+    pub left-ends : length l ≤ i → nextRowFrom room holder i life fallback (drop i l) ≡ noPlace
+    unfolding nextRowFrom
     left-ends h = rw (drop-of-length-le l h)
 
   -- a part is within its room
@@ -119,13 +119,13 @@ module _ (holder : ℕ) (life fallback : Bool) where
       })
       (rw d)
 
-  split-case : (p : Isdp) (ps : List Isdp) (room place : ℕ) (b : Bool) → leb (rowSize p life fallback) room ≡ b → Split ps (room - rowSize p life fallback) (suc place) (partFrom (room - rowSize p life fallback) holder (suc place) life fallback ps) (leftFrom (room - rowSize p life fallback) holder (suc place) life fallback ps)
-      → Split (p ∷ ps) room place (cond b (rowOf p (attributeOf holder place) life fallback ++ partFrom (room - rowSize p life fallback) holder (suc place) life fallback ps) []) (cond b (leftFrom (room - rowSize p life fallback) holder (suc place) life fallback ps) place)
+  split-case : (p : Isdp) (ps : List Isdp) (room place : ℕ) (b : Bool) → leb (rowSize p life fallback) room ≡ b → Split ps (room - rowSize p life fallback) (suc place) (partFrom (room - rowSize p life fallback) holder (suc place) life fallback ps) (nextRowFrom (room - rowSize p life fallback) holder (suc place) life fallback ps)
+      → Split (p ∷ ps) room place (cond b (rowOf p (attributeOf holder place) life fallback ++ partFrom (room - rowSize p life fallback) holder (suc place) life fallback ps) []) (cond b (nextRowFrom (room - rowSize p life fallback) holder (suc place) life fallback ps) place)
   split-case p ps room place true e s = over-case p ps room place _ _ (leb-true (rowSize p life fallback) room e) s
   split-case p ps room place false e s = here-case p ps room place (leb-false (rowSize p life fallback) room e)
 
-  pub splits : (ps : List Isdp) (room place : ℕ) → Split ps room place (partFrom room holder place life fallback ps) (leftFrom room holder place life fallback ps)
-  unfolding partFrom leftFrom rowsFrom
+  pub splits : (ps : List Isdp) (room place : ℕ) → Split ps room place (partFrom room holder place life fallback ps) (nextRowFrom room holder place life fallback ps)
+  unfolding partFrom nextRowFrom rowsFrom
   splits [] room place = all-given refl
   splits (p ∷ ps) room place =
       split-case p ps room place (leb (rowSize p life fallback) room) refl (splits ps (room - rowSize p life fallback) (suc place))
@@ -166,6 +166,6 @@ module _ (c : Card) (life fallback : Bool) (from : ℕ) where
       })
       (rw (← d) (rw (← (drop-drop (left - from) from (c .places))) (rw d e)))
 
-  pub given : Given (partGiven c from life fallback) (leftAfter c from life fallback)
-  unfolding partGiven leftAfter
+  pub given : Given (partGiven c from life fallback) (nextRowAfter c from life fallback)
+  unfolding partGiven nextRowAfter
   given = given-case _ _ (splits (c .fallback) life fallback rest mostResponse from)

@@ -81,19 +81,19 @@ partFrom room holder place life fallback (p ∷ ps) =
     []
 
 -- "the place of the first row not yet given" (decision B72)
-unfoldable pub leftFrom : ℕ → ℕ → ℕ → Bool → Bool → List Isdp → ℕ
-leftFrom room holder place life fallback [] = noPlace
-leftFrom room holder place life fallback (p ∷ ps) =
+unfoldable pub nextRowFrom : ℕ → ℕ → ℕ → Bool → Bool → List Isdp → ℕ
+nextRowFrom room holder place life fallback [] = noPlace
+nextRowFrom room holder place life fallback (p ∷ ps) =
     cond (leb (rowSize p life fallback) room)
-    (leftFrom (room - rowSize p life fallback) holder (suc place) life fallback ps)
+    (nextRowFrom (room - rowSize p life fallback) holder (suc place) life fallback ps)
     place
 
 -- a part of the listing, from a place on, and the place from which the next one goes on
 unfoldable pub partGiven : Card → ℕ → Bool → Bool → List ℕ
 partGiven c from life fallback = partFrom mostResponse (c .fallback) from life fallback (drop from (c .places))
 
-unfoldable pub leftAfter : Card → ℕ → Bool → Bool → ℕ
-leftAfter c from life fallback = leftFrom mostResponse (c .fallback) from life fallback (drop from (c .places))
+unfoldable pub nextRowAfter : Card → ℕ → Bool → Bool → ℕ
+nextRowAfter c from life fallback = nextRowFrom mostResponse (c .fallback) from life fallback (drop from (c .places))
 
 -- GET STATUS of one AID, held at this place
 unfoldable pub oneStatus : Card → ℕ → Bool → Bool → List ℕ

@@ -12,7 +12,7 @@ use Rattle.card_isdp.specs.Place.{vacant, made}
 use Rattle.card_record.specs.Cards.{noPlace, withPlaces}
 use Rattle.card_record.specs.Fresh.{freshCard}
 use Rattle.card_record.specs.declared.Card.{Card}
-use Rattle.rule_responses.specs.Responses.{partGiven, leftAfter, oneStatus, dataResponse, deletedResponse}
+use Rattle.rule_responses.specs.Responses.{partGiven, nextRowAfter, oneStatus, dataResponse, deletedResponse}
 
 abbrev pub aidEnding : ℕ → List ℕ
 aidEnding n = 0xA0 ∷ 0x00 ∷ 0x00 ∷ 0x00 ∷ n ∷ []
@@ -44,7 +44,7 @@ unfoldable pub lengthsFrom : ℕ → Card → ℕ → Bool → Bool → List ℕ
 lengthsFrom zero c from life fallback = []
 lengthsFrom (suc k) c from life fallback =
     cond (eqb from noPlace) []
-    (length (partGiven c from life fallback) ∷ lengthsFrom k c (leftAfter c from life fallback) life fallback)
+    (length (partGiven c from life fallback) ∷ lengthsFrom k c (nextRowAfter c from life fallback) life fallback)
 
 abbrev pub partsOf : Card → Bool → Bool → List ℕ
 partsOf c life fallback = lengthsFrom mostPlaces c 0 life fallback
@@ -52,7 +52,7 @@ partsOf c life fallback = lengthsFrom mostPlaces c 0 life fallback
 pub record Worked (eid : List ℕ) (figure : ℕ) : Type 0 where
   -- example 1: "80 F2 40 02 02 4F 00 00 gives E3 0E 4F 05 A0 00 00 00 01 9F 70 01 3F 53 01 01"
   pub example-1 : partGiven (one eid figure) 0 true true ≡ 0xE3 ∷ 0x0E ∷ 0x4F ∷ 0x05 ∷ 0xA0 ∷ 0x00 ∷ 0x00 ∷ 0x00 ∷ 0x01 ∷ 0x9F ∷ 0x70 ∷ 0x01 ∷ 0x3F ∷ 0x53 ∷ 0x01 ∷ 0x01 ∷ []
-  pub none-left : leftAfter (one eid figure) 0 true true ≡ noPlace
+  pub none-left : nextRowAfter (one eid figure) 0 true true ≡ noPlace
   -- an empty 5C leaves the AID only
   pub aid-only : partGiven (one eid figure) 0 false false ≡ 0xE3 ∷ 0x07 ∷ 0x4F ∷ 0x05 ∷ 0xA0 ∷ 0x00 ∷ 0x00 ∷ 0x00 ∷ 0x01 ∷ []
   -- a free place has no row, and the profile that is not the fall-back has 53 00

@@ -34,9 +34,9 @@ use Rattle.read_operator.specs.declared.Policy.the-variants as update
 use Rattle.rule_steps.specs.Steps.{stepOf, responseOf}
 use Rattle.rule_steps.proofs.Rows.{Passed, named}
 use Rattle.rule_steps.proofs.Kept.{Legal, step-kept}
-use Rattle.rule_run.specs.Calls.{Call, Call.Command, Call.Keyed, Call.Stored, Call.Finished, Call.Tick, Call.Lost, Call.Policy, requestAsks, fieldAsks, policyAsks, asked}
+use Rattle.rule_run.specs.Calls.{Call, Call.Command, Call.Keyed, Call.Stored, Call.Finished, Call.Tick, Call.Lost, Call.PolicyUpdate, requestAsks, fieldAsks, policyAsks, asked}
 use Rattle.rule_run.specs.Table.{bufferShort, inCommand, instructionUnknown, updateWrong, valuesWrong, rowsAfter, table}
-use Rattle.rule_run.specs.Step.{work, step, onSound, run}
+use Rattle.rule_run.specs.Step.{work, step, stepBy, onSound, run}
 use Rattle.rule_run.specs.Statements.{OnSoundAgrees}
 
 -- a part that lies in the command has its length
@@ -78,7 +78,7 @@ legal c (Stored aid n) e = tt
 legal c (Finished aid policy mark) e = and-r (aidOk aid) _ (not-false _ e)
 legal c Tick e = tt
 legal c Lost e = tt
-legal c (Policy speaker s room) e = update-legal c speaker (policyOf s) e
+legal c (PolicyUpdate speaker s room) e = update-legal c speaker (policyOf s) e
 
 -- the rows of the table by name: where a call is accepted each of them was passed
 pub record Accepted (c : Card) (call : Call) : Type 0 where
@@ -104,7 +104,7 @@ pub took-sound : (c : Card) (call : Call) → isDone (wordOf (work c call .succe
 took-sound c call e = let p = rows-accepted c call (work c call .success) e in step-kept c (asked c call) (legal c call (p .values)) (p .whole) (p .card)
 
 pub step-sound : (c : Card) (call : Call) → sound c ≡ true → sound (step c call .card) ≡ true
-unfolding step
+unfolding stepBy
 step-sound c call s =
     decide-card (λ d. sound d ≡ true) c (wordOf (work c call .success) (table c call)) (stepOf c (asked c call)) (responseOf c (asked c call)) (took-sound c call) s
 
@@ -119,5 +119,5 @@ unfolding wordOf
 call-kept c call s e = took-sound c call (rw s e)
 
 pub on-sound-agrees : OnSoundAgrees
-unfolding step onSound
+unfolding stepBy onSound
 on-sound-agrees c call s = sym (checked c (work c call) s (call-kept c call s))

@@ -21,7 +21,7 @@ use Rattle.card_places.proofs.Seeks.{seek-below}
 use Rattle.card_places.proofs.Sets.{all-at, set-unseen, set-seek}
 use Rattle.card_record.specs.Cards.{noPlace, keeping, placeOf, profileOf, freePlace, enabledAid, mayBeDeleted, withRoom, rewritten, withFallback}
 use Rattle.card_record.specs.Sound.{sound}
-use Rattle.card_record.specs.Noticed.{Noticed, silently, told}
+use Rattle.card_record.specs.Noticed.{Noticed, silently, announced}
 use Rattle.card_record.specs.Steps.{stepTo}
 use Rattle.card_record.specs.Answers.{accepted}
 use Rattle.card_record.specs.declared.Card.{Card}
@@ -42,7 +42,7 @@ use Rattle.rule_run.proofs.Words.{done-as}
 retold : (c : Card) (w : Status) (s : Step) (response : List ℕ) → Noticed c s → Notified c (accepted w s response)
 unfolding accepted
 retold c w s response (silently x) = silently (record { none = x .none; same-profile = x .same-profile; same-number = x .same-number })
-retold c w s response (told x) = told (record { phase = x .phase; number = x .number; last = x .last; eid = x .eid; profile = x .profile })
+retold c w s response (announced x) = announced (record { phase = x .phase; number = x .number; last = x .last; eid = x .eid; profile = x .profile })
 
 module _ (c : Card) (s : sound c ≡ true) where
   -- a place of another life cycle is not enabled

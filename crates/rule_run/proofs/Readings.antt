@@ -9,7 +9,7 @@ use Rattle.base_status.specs.StatusWords.{isDone}
 use Rattle.base_status.specs.Rows.{wordOf}
 use Rattle.base_status.specs.declared.Status.{Status}
 use Rattle.card_record.specs.Ticks.{ticksByPhase}
-use Rattle.card_record.specs.Answers.{refusedAt, known}
+use Rattle.card_record.specs.Answers.{refusedWith, outcomeOnSound}
 use Rattle.card_record.specs.declared.Card.{Card}
 use Rattle.read_command.specs.Reading.{readingRows, readOf}
 use Rattle.read_fields.specs.declared.request.Request.{Request}
@@ -39,7 +39,7 @@ module _ (c : Card) (verdict : ℕ) (s : List ℕ) (room : ℕ) (h : leastBuffer
       let r = refused-word s (c .capacity) w q in
       (past-buffer ∙ rows-stop s (c .capacity) (work c call .success) (cardRows c (asked c call)) (ap isDone (sym (r .0)) ∙ r .1) ∙ sym (r .0), r .1)
 
-  pub refused-read : (w : Status) → reading.Refused w ≡ readOf s (c .capacity) → onSound c call ≡ refusedAt (ticksByPhase c) c w
+  pub refused-read : (w : Status) → reading.Refused w ≡ readOf s (c .capacity) → onSound c call ≡ refusedWith (ticksByPhase c) c w
   unfolding onSound
   refused-read w q = let r = not-read w q in rw (r .0, r .1)
 
@@ -50,7 +50,7 @@ module _ (c : Card) (verdict : ℕ) (s : List ℕ) (room : ℕ) (h : leastBuffer
   pub word-read : (r : Request) → reading.Read r ≡ readOf s (c .capacity) → wordOf (work c call .success) (rowsAfter c call) ≡ wordOf (work c call .success) (cardRows c (asked c call))
   word-read r q = past-buffer ∙ rows-pass s (c .capacity) (work c call .success) (cardRows c (asked c call)) (read-passes s (c .capacity) r q)
 
-  pub known-read : (r : Request) → reading.Read r ≡ readOf s (c .capacity) → onSound c call ≡ known c (askedWork c (requestAsks verdict s r))
+  pub known-read : (r : Request) → reading.Read r ≡ readOf s (c .capacity) → onSound c call ≡ outcomeOnSound c (askedWork c (requestAsks verdict s r))
   unfolding onSound
   known-read r q = rw (word-read r q, asks-read r q)
 

@@ -29,7 +29,7 @@ use Rattle.card_record.specs.Cards.{placeOf}
 use Rattle.rule_steps.specs.Steps.{stepOf, beginsAt, actResponse, responseOf}
 use Rattle.rule_run.specs.Calls.{asked}
 use Rattle.rule_run.specs.Table.{table}
-use Rattle.rule_run.specs.Step.{work, step}
+use Rattle.rule_run.specs.Step.{work, step, stepBy}
 use Rattle.rule_run.specs.Statements.{ResponseMost}
 use Rattle.rule_run.proofs.Kept.{rows-accepted}
 
@@ -76,7 +76,7 @@ response-case c w s rsp true e f = f e
 response-case c w s rsp false e f = omega arith
 
 pub response-most : ResponseMost
-unfolding step
+unfolding stepBy
 response-most c call =
     let word = wordOf (work c call .success) (table c call) in
     response-case c word (stepOf c (asked c call)) (responseOf c (asked c call)) (isDone word) refl

@@ -12,7 +12,7 @@ use Rattle.card_record.specs.Answers.{accepted}
 use Rattle.rule_steps.specs.Steps.{stepOf, responseOf}
 use Rattle.rule_run.specs.Calls.{Call, asked}
 use Rattle.rule_run.specs.Table.{table}
-use Rattle.rule_run.specs.Step.{step, work}
+use Rattle.rule_run.specs.Step.{step, stepBy, work}
 use Rattle.rule_run.specs.Runs.{tableWord, taken}
 use Rattle.rule_steps.proofs.Rows.{Passed}
 use Rattle.rule_run.proofs.Kept.{rows-accepted}
@@ -20,19 +20,19 @@ use Rattle.rule_run.proofs.Words.{word-is, done-as}
 
 module _ (c : Card) (call : Call) where
   pub hands-back : (P : Card → Type 0) → (isDone (step c call .status) ≡ true → P (stepOf c (asked c call) .card)) → P c → P (step c call .card)
-  unfolding step
+  unfolding stepBy
   hands-back P f g = decide-card P c (tableWord c call) (stepOf c (asked c call)) (responseOf c (asked c call)) (λ e. f (rw (word-is c call) e)) g
 
   -- an accepted call takes its step
   pub takes-step : isDone (step c call .status) ≡ true → step c call ≡ accepted (work c call .success) (stepOf c (asked c call)) (responseOf c (asked c call))
-  unfolding step
+  unfolding stepBy
   takes-step e =
       let t = took c (tableWord c call) (stepOf c (asked c call)) (responseOf c (asked c call)) e in
       t .1 ∙ ap (λ (w : Status). accepted w (stepOf c (asked c call)) (responseOf c (asked c call))) (succeeds (work c call .success) (table c call) refl (t .0))
 
   -- a refused one hands back the card, and nothing else
   pub refusal : isDone (step c call .status) ≡ false → Refusal c (step c call)
-  unfolding step
+  unfolding stepBy
   refusal e = refuses c (tableWord c call) (stepOf c (asked c call)) (responseOf c (asked c call)) (done-as c call false e)
 
 -- an accepted call passed the card's rows, and the row of soundness

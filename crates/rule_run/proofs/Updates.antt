@@ -11,9 +11,9 @@ use Rattle.base_status.specs.Rows.{wordOf}
 use Rattle.base_status.specs.declared.Status.{Status}
 use Rattle.base_status.specs.declared.Status.the-variants.{BufferShort}
 use Rattle.card_record.specs.Ticks.{ticksByPhase}
-use Rattle.card_record.specs.Answers.{refusedAt, known}
+use Rattle.card_record.specs.Answers.{refusedWith, outcomeOnSound}
 use Rattle.card_record.specs.declared.Card.{Card}
-use Rattle.read_operator.specs.Field.{policyOf, isWrong}
+use Rattle.read_operator.specs.Field.{policyOf, isPolicyWrong}
 use Rattle.read_operator.specs.Reading.{policyWrong, updateOf}
 use Rattle.read_operator.specs.declared.Policy as operator
 use Rattle.read_operator.specs.declared.Policy.the-variants as policy
@@ -22,11 +22,11 @@ use Rattle.read_operator.proofs.Answers.{rows-stop, refused-word, read-done, re
 use Rattle.rule_steps.specs.Asked.{Act.setPolicy, Asked.on}
 use Rattle.rule_steps.specs.Conditions.{cardRows}
 use Rattle.rule_steps.specs.Steps.{innerWork}
-use Rattle.rule_run.specs.Calls.{Call, Call.Policy, policyAsks, asked}
+use Rattle.rule_run.specs.Calls.{Call, Call.PolicyUpdate, policyAsks, asked}
 use Rattle.rule_run.specs.Table.{leastBuffer, updateWrong, rowsAfter}
 use Rattle.rule_run.specs.Step.{work, onSound}
 
-wrong-too : (speaker : List ℕ) (p : operator.Policy) → isWrong p ≡ true → updateWrong speaker p ≡ true
+wrong-too : (speaker : List ℕ) (p : operator.Policy) → isPolicyWrong p ≡ true → updateWrong speaker p ≡ true
 wrong-too speaker policy.Wrong e = refl
 wrong-too speaker (policy.Found p) e = absurd (false≢true e)
 
@@ -36,7 +36,7 @@ field-too speaker s e = wrong-too speaker (policyOf s) e
 
 module _ (c : Card) (success : Status) (speaker s : List ℕ) (room : ℕ) where
   abbrev call : Call
-  call = Policy speaker s room
+  call = PolicyUpdate speaker s room
 
   -- the reader's word, behind the row of the buffer
   pub policy-refused : (w : Status) → update.Refused w ≡ updateOf s → wordOf success (rowsAfter c call) ≡ cond (ltb room leastBuffer) BufferShort w
@@ -56,17 +56,17 @@ module _ (c : Card) (success : Status) (speaker s : List ℕ) (room : ℕ) where
       (rw (← (read-done s p q .1)) refl)
 
 module _ (c : Card) (speaker s : List ℕ) (room : ℕ) (h : leastBuffer ≤ room) where
-  pub refused-update : (w : Status) → update.Refused w ≡ updateOf s → onSound c (Policy speaker s room) ≡ refusedAt (ticksByPhase c) c w
+  pub refused-update : (w : Status) → update.Refused w ≡ updateOf s → onSound c (PolicyUpdate speaker s room) ≡ refusedWith (ticksByPhase c) c w
   unfolding onSound
   refused-update w q =
-      let call = Policy speaker s room in
+      let call = PolicyUpdate speaker s room in
       rw (policy-refused c (work c call .success) speaker s room w q, le-ltb room leastBuffer h, refused-word s w q .1)
 
-  pub asks-update : (p : ℕ) → update.Read p ≡ updateOf s → asked c (Policy speaker s room) ≡ on speaker (setPolicy p)
+  pub asks-update : (p : ℕ) → update.Read p ≡ updateOf s → asked c (PolicyUpdate speaker s room) ≡ on speaker (setPolicy p)
   asks-update p q = ap (policyAsks speaker) (sym (read-done s p q .1))
 
-  pub known-update : (p : ℕ) → update.Read p ≡ updateOf s → onSound c (Policy speaker s room) ≡ known c (innerWork c speaker (setPolicy p))
+  pub known-update : (p : ℕ) → update.Read p ≡ updateOf s → onSound c (PolicyUpdate speaker s room) ≡ outcomeOnSound c (innerWork c speaker (setPolicy p))
   unfolding onSound
   known-update p q =
-      let call = Policy speaker s room in
+      let call = PolicyUpdate speaker s room in
       rw (policy-read c (work c call .success) speaker s room p q, le-ltb room leastBuffer h, asks-update p q)

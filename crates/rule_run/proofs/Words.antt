@@ -7,11 +7,11 @@ use Rattle.card_record.proofs.Outcomes.{decided}
 use Rattle.rule_steps.specs.Steps.{stepOf, responseOf}
 use Rattle.rule_run.specs.Calls.{Call, asked}
 use Rattle.rule_run.specs.Table.{table}
-use Rattle.rule_run.specs.Step.{step}
+use Rattle.rule_run.specs.Step.{step, stepBy}
 use Rattle.rule_run.specs.Runs.{tableWord}
 
 pub word-is : (c : Card) (call : Call) → step c call .status ≡ tableWord c call
-unfolding step
+unfolding stepBy
 word-is c call = decided c (tableWord c call) (stepOf c (asked c call)) (responseOf c (asked c call))
 
 -- whether it is a success

@@ -24,7 +24,7 @@ pub data Call : Type 0 where
   Tick : Call
   Lost : Call
   -- a policy update: the AID of the profile whose domain speaks, the bytes that it was sent, and how many bytes the lent response buffer has
-  Policy : List ℕ → List ℕ → ℕ → Call
+  PolicyUpdate : List ℕ → List ℕ → ℕ → Call
 
 abbrev pub requestAsks : ℕ → List ℕ → Request → Asked
 requestAsks verdict s (request.Create aid quota) = create (partOf s aid) quota
@@ -54,7 +54,7 @@ askedOf capacity (Stored aid n) = on aid (stored n)
 askedOf capacity (Finished aid policy mark) = on aid (finished policy mark)
 askedOf capacity Tick = tick
 askedOf capacity Lost = lost
-askedOf capacity (Policy speaker s room) = policyAsks speaker (policyOf s)
+askedOf capacity (PolicyUpdate speaker s room) = policyAsks speaker (policyOf s)
 
 abbrev pub asked : Card → Call → Asked
 asked c call = askedOf (c .capacity) call

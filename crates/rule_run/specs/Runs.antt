@@ -11,7 +11,7 @@ use Rattle.card_places.specs.Places.{at}
 use Rattle.card_record.specs.Cards.{enabledAid}
 use Rattle.card_record.specs.declared.Card.{Card}
 use Rattle.rule_steps.specs.Asked.{Asked, Asked.unread, Asked.create, Asked.on, Asked.confirm, Asked.statusOfAll, Asked.getData, Asked.tick, Asked.lost}
-use Rattle.rule_run.specs.Calls.{Call, Call.Command, Call.Keyed, Call.Stored, Call.Finished, Call.Tick, Call.Lost, Call.Policy, asked}
+use Rattle.rule_run.specs.Calls.{Call, Call.Command, Call.Keyed, Call.Stored, Call.Finished, Call.Tick, Call.Lost, Call.PolicyUpdate, asked}
 use Rattle.rule_run.specs.Table.{table}
 use Rattle.rule_run.specs.Step.{work}
 
@@ -37,7 +37,7 @@ isTick (Stored aid n) = false
 isTick (Finished aid policy mark) = false
 isTick Tick = true
 isTick Lost = false
-isTick (Policy speaker s room) = false
+isTick (PolicyUpdate speaker s room) = false
 
 abbrev pub isConfirmation : Asked → Bool
 isConfirmation unread = false

@@ -75,8 +75,8 @@ abbrev pub load : ℕ → ℕ → List Call
 load n policy = loadWith n policy 1
 
 -- the examples' card with these profiles in its first places and what they leave free, this last number, this place the fall-back, in this phase, with no listing open
-abbrev pub cardWith : List Isdp → ℕ → ℕ → Phase → Card
-cardWith profiles last fallback phase =
+abbrev pub exampleCard : List Isdp → ℕ → ℕ → Phase → Card
+exampleCard profiles last fallback phase =
     cards.cardWith (replicate 16 0x89) 1000 7 (freeOf 1000 profiles) last fallback phase cards.noPlace (profiles ++ replicate (mostPlaces - length profiles) vacant)
 
 -- the profiles field by field: AID, life cycle, quota, used, policy, mark. F, which has the mark, alone; F and 02, with their life cycles, 02 with this mark or marked too; new profiles of quota 1, with AIDs from
@@ -97,4 +97,4 @@ created n (suc k) = profile (named (aid n)) selectable 1 0 0 0 ∷ created (suc 
 
 -- F is the fall-back, 02 the other, Quiet
 abbrev pub cardOfTwo : ℕ → ℕ → ℕ → Card
-cardOfTwo first second last = cardWith (two first second) last 0 Quiet
+cardOfTwo first second last = exampleCard (two first second) last 0 Quiet

@@ -17,7 +17,7 @@ use Rattle.read_operator.specs.declared.Update.the-variants as update
 use Rattle.rule_steps.specs.Asked.{Act.keyed, Act.stored, Act.finished, Act.setPolicy, Asked.tick, Asked.lost}
 use Rattle.rule_steps.specs.Conditions.{cardRows}
 use Rattle.rule_steps.specs.Steps.{innerWork}
-use Rattle.rule_run.specs.Calls.{Call, Call.Command, Call.Keyed, Call.Stored, Call.Finished, Call.Tick, Call.Lost, Call.Policy, asked}
+use Rattle.rule_run.specs.Calls.{Call, Call.Command, Call.Keyed, Call.Stored, Call.Finished, Call.Tick, Call.Lost, Call.PolicyUpdate, asked}
 use Rattle.rule_run.specs.Table.{leastBuffer, bufferShort, rowsAfter, table}
 use Rattle.rule_run.specs.Step.{step, onSound}
 
@@ -40,5 +40,5 @@ pub record TableParts (c : Card) (success : Status) : Type 0 where
   pub tick-rows : wordOf success (rowsAfter c Tick) ≡ wordOf success (cardRows c tick)
   pub lost-rows : wordOf success (rowsAfter c Lost) ≡ wordOf success (cardRows c lost)
   -- of a policy update: the buffer's row, then the word of its reader, or once it is read the row of its values and the card's rows
-  pub policy-refused : (speaker s : List ℕ) (room : ℕ) (word : Status) → update.Refused word ≡ updateOf s → wordOf success (rowsAfter c (Policy speaker s room)) ≡ cond (ltb room leastBuffer) BufferShort word
-  pub policy-read : (speaker s : List ℕ) (room policy : ℕ) → update.Read policy ≡ updateOf s → wordOf success (rowsAfter c (Policy speaker s room)) ≡ cond (ltb room leastBuffer) BufferShort (wordOf success (innerWork c speaker (setPolicy policy) .rows))
+  pub policy-refused : (speaker s : List ℕ) (room : ℕ) (word : Status) → update.Refused word ≡ updateOf s → wordOf success (rowsAfter c (PolicyUpdate speaker s room)) ≡ cond (ltb room leastBuffer) BufferShort word
+  pub policy-read : (speaker s : List ℕ) (room policy : ℕ) → update.Read policy ≡ updateOf s → wordOf success (rowsAfter c (PolicyUpdate speaker s room)) ≡ cond (ltb room leastBuffer) BufferShort (wordOf success (innerWork c speaker (setPolicy policy) .rows))

@@ -16,7 +16,7 @@ use Rattle.read_operator.specs.declared.Policy as operator
 use Rattle.read_operator.specs.declared.Policy.the-variants as update
 use Rattle.rule_steps.specs.Asked.{Act.keyed, Act.stored, Act.finished, Act.setPolicy}
 use Rattle.rule_steps.specs.Conditions.{innerWrong, changeWrong, targetMissing, alreadyHeld, stateWrong, policyForbids, verdictWrong, noRoom}
-use Rattle.rule_run.specs.Calls.{Call, Call.Command, Call.Keyed, Call.Stored, Call.Finished, Call.Tick, Call.Lost, Call.Policy, asked}
+use Rattle.rule_run.specs.Calls.{Call, Call.Command, Call.Keyed, Call.Stored, Call.Finished, Call.Tick, Call.Lost, Call.PolicyUpdate, asked}
 
 -- a lent response buffer has at least so many bytes
 abbrev pub leastBuffer : ℕ
@@ -30,7 +30,7 @@ bufferShort (Stored aid n) = false
 bufferShort (Finished aid policy mark) = false
 bufferShort Tick = false
 bufferShort Lost = false
-bufferShort (Policy speaker s room) = ltb room leastBuffer
+bufferShort (PolicyUpdate speaker s room) = ltb room leastBuffer
 
 -- a test of a command's bytes, the operator's too; no other call meets it (decision 41)
 abbrev pub inCommand : (List ℕ → Bool) → Call → Bool
@@ -40,7 +40,7 @@ inCommand test (Stored aid n) = false
 inCommand test (Finished aid policy mark) = false
 inCommand test Tick = false
 inCommand test Lost = false
-inCommand test (Policy speaker s room) = test s
+inCommand test (PolicyUpdate speaker s room) = test s
 
 -- "INS not E6, E4, E2, F2, CA"; of a policy update not E2 (decision B81)
 abbrev pub instructionUnknown : Call → Bool
@@ -50,7 +50,7 @@ instructionUnknown (Stored aid n) = false
 instructionUnknown (Finished aid policy mark) = false
 instructionUnknown Tick = false
 instructionUnknown Lost = false
-instructionUnknown (Policy speaker s room) = notStoreData s
+instructionUnknown (PolicyUpdate speaker s room) = notStoreData s
 
 -- a policy update's data field, or else its speaker and its policy (decision B83)
 abbrev pub updateWrong : List ℕ → operator.Policy → Bool
@@ -65,7 +65,7 @@ valuesWrong c (Stored aid n) = innerWrong aid (stored n)
 valuesWrong c (Finished aid policy mark) = innerWrong aid (finished policy mark)
 valuesWrong c Tick = false
 valuesWrong c Lost = false
-valuesWrong c (Policy speaker s room) = updateWrong speaker (policyOf s)
+valuesWrong c (PolicyUpdate speaker s room) = updateWrong speaker (policyOf s)
 
 -- the rows after the first
 abbrev pub rowsAfter : Card → Call → List Row

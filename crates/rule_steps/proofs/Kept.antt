@@ -25,7 +25,7 @@ use Rattle.card_record.proofs.Sounds.{parts, whole, keeps-place, forgets, tick-
 use Rattle.card_record.proofs.Deletions.{by-delete-too}
 use Rattle.card_record.proofs.Rewrites.{deletes, refalls, confirm-sound}
 use Rattle.rule_steps.specs.Asked.{Act, Act.enable, Act.disable, Act.delete, Act.masterDelete, Act.setFallBack, Act.status, Act.keyed, Act.stored, Act.finished, Act.setPolicy, Asked, Asked.unread, Asked.create, Asked.on, Asked.confirm, Asked.statusOfAll, Asked.getData, Asked.tick, Asked.lost}
-use Rattle.rule_responses.specs.Responses.{leftAfter}
+use Rattle.rule_responses.specs.Responses.{nextRowAfter}
 use Rattle.rule_responses.proofs.Parts.{Given, Given.all, Given.some, given}
 use Rattle.rule_steps.specs.Steps.{stepOf, beginsAt, goesOnAt}
 use Rattle.rule_steps.proofs.Rows.{Passed}
@@ -77,7 +77,7 @@ left-case : (c : Card) (life fallback : Bool) (from : ℕ) (part : List ℕ) (le
 left-case c life fallback from part left (all e) = refl
 left-case c life fallback from part left (some w e) = rw (w .there) (or-true (eqb left noPlace))
 
-pub left-kept : (c : Card) (life fallback : Bool) (from : ℕ) → keptOk (keeping c (leftAfter c from life fallback)) ≡ true
+pub left-kept : (c : Card) (life fallback : Bool) (from : ℕ) → keptOk (keeping c (nextRowAfter c from life fallback)) ≡ true
 left-kept c life fallback from = left-case c life fallback from _ _ (given c life fallback from)
 
 module _ (c : Card) (aid : List ℕ) (s : sound c ≡ true) where

@@ -11,6 +11,7 @@ use Rattle.rule_steps.proofs.Laws.Reports.{status-of-all-law, status-of
 use Rattle.rule_steps.proofs.Laws.Clock.{tick-law, lost-law}
 use Rattle.rule_steps.proofs.Laws.Policy.{set-policy-law}
 pub mod Places
+pub mod Words
 pub mod Answer
 pub mod Fresh
 pub mod Create

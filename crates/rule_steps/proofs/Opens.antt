@@ -13,7 +13,7 @@ use Rattle.card_places.proofs.Lives.{enable-other}
 use Rattle.card_places.proofs.Seeks.{enabled-at}
 use Rattle.card_places.proofs.Numbered.{only}
 use Rattle.card_record.specs.Cards.{enabledPlace}
-use Rattle.card_record.specs.Clock.{nextOf, opened}
+use Rattle.card_record.specs.Clock.{nextNumber, opened}
 use Rattle.card_record.specs.declared.Card.{Card}
 use Rattle.card_record.specs.declared.Phase.the-variants.{Trial}
 use Rattle.card_record.proofs.Sounds.{Sound, moves, nonzero, resort-done}
@@ -29,7 +29,7 @@ opens c t s d =
     let v = enabled-life c s in
     let n : e ≡ t → ⊥ = λ q. let z : _≡_ {A = ℕ} disabled enabled = sym d ∙ ap (λ (i : ℕ). at (c .places) i .life) (sym q) ∙ v in omega arith in
     let w : at (enableAt (c .places) t) e .life ≡ disabled = rw (enable-other (c .places) t e n, v) in
-    moves c t (Trial e wait (nextOf (c .last))) s (nonzero _ 30 d) (record { low = omega arith; high = omega arith; issued = refl }, w)
+    moves c t (Trial e wait (nextNumber (c .last))) s (nonzero _ 30 d) (record { low = omega arith; high = omega arith; issued = refl }, w)
 
 left : (x y : Bool) → (x || y) ≡ true → y ≡ false → x ≡ true
 left true y h g = refl

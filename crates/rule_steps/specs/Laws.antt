@@ -1,4 +1,5 @@
--- Document 01, 'Steps': a law for each call, in the paper's words, one file a heading. `demands` lifts each to the bytes of its command.
+-- Document 01, 'Steps' and 'Status words': a law for each call, in the paper's words, one file a heading, with the word of each refusal (Words).
+-- `proof_demands` lifts each to the bytes of its command.
 use Rattle.rule_steps.specs.Laws.Fresh.{FreshLaw}
 use Rattle.rule_steps.specs.Laws.Create.{CreateLaw}
 use Rattle.rule_steps.specs.Laws.Loading.{KeyedLaw, StoredLaw, FinishedLaw}
@@ -11,6 +12,7 @@ use Rattle.rule_steps.specs.Laws.Policy.{SetPolicyLaw}
 use Rattle.rule_steps.specs.Laws.Reports.{StatusOfAllLaw, StatusOfNextLaw, StatusOfOneLaw, GetDataLaw}
 pub mod Answer
 pub mod Fresh
+pub mod Words
 pub mod Create
 pub mod Loading
 pub mod Change

@@ -13,11 +13,11 @@ use Rattle.card_isdp.specs.Place.{made}
 use Rattle.card_record.specs.Cards.{noPlace, keeping, forgotten, placeOf, profileOf, freePlace, filled, cleared, rewritten, withFallback}
 use Rattle.card_record.specs.Clock.{opened}
 use Rattle.card_record.specs.Steps.{stepTo, tickStep, lostStep, confirmStep}
-use Rattle.card_record.specs.Answers.{Outcome, Work, handed}
+use Rattle.card_record.specs.Answers.{Outcome, Work, asAnswer}
 use Rattle.card_record.specs.declared.Card.{Card}
 use Rattle.card_record.specs.declared.Step.{Step}
 use Rattle.card_record.specs.declared.Answer.{Answer}
-use Rattle.rule_responses.specs.Responses.{partGiven, leftAfter, oneStatus, dataResponse, deletedResponse}
+use Rattle.rule_responses.specs.Responses.{partGiven, nextRowAfter, oneStatus, dataResponse, deletedResponse}
 use Rattle.base_bytes.specs.Put.{put}
 use Rattle.rule_steps.specs.Asked.{Act, Act.enable, Act.disable, Act.delete, Act.masterDelete, Act.setFallBack, Act.status, Act.keyed, Act.stored, Act.finished, Act.setPolicy, Asked, Asked.unread, Asked.create, Asked.on, Asked.confirm, Asked.statusOfAll, Asked.getData, Asked.tick, Asked.lost}
 use Rattle.rule_steps.specs.Conditions.{innerWrong, cardRows}
@@ -32,7 +32,7 @@ beginsAt c next = cond next (c .kept) 0
 
 -- the place from which it then goes on
 abbrev pub goesOnAt : Card → Bool → Bool → Bool → ℕ
-goesOnAt c next life fallback = leftAfter c (beginsAt c next) life fallback
+goesOnAt c next life fallback = nextRowAfter c (beginsAt c next) life fallback
 
 -- "as many whole rows as fit 255 bytes with 63 10": 90 00 where none is left (decision B74)
 abbrev pub partWord : ℕ → Status
@@ -117,6 +117,6 @@ innerWork c aid act =
     }
 
 -- an outcome as it is handed out over a lent buffer: the answer, and in the buffer the response and then its old bytes (decisions 20, B9)
-pub record Handed (old : List ℕ) (o : Outcome) (r : Answer) (new : List ℕ) : Type 0 where
-  pub answer : r ≡ handed o
+pub record HandedWhole (old : List ℕ) (o : Outcome) (r : Answer) (new : List ℕ) : Type 0 where
+  pub answer : r ≡ asAnswer o
   pub content : new ≡ put old 0 (o .response)

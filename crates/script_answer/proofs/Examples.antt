@@ -24,7 +24,7 @@ use Rattle.text_words.specs.Letters.{text}
 use Rattle.script_answer.specs.Lines.{issuedWord, noticeWord, answerLine}
 use Rattle.text_words.specs.Columns.{spaces, leadOf, columnText}
 use Rattle.script_table.specs.Profiles.{stateText, yesText, provisioningText, policyText, nameCells, figureCells, roleCells, rowText}
-use Rattle.script_table.specs.Profiles.{placeText, rowsText, widestOf, headText, tableText}
+use Rattle.script_table.specs.Profiles.{placeText, rowsText, widestOf, tableHead, tableText}
 use Rattle.script_answer.specs.Explained.{wordText, responseText, issuedText, noticeText, openText, trialText, phaseText, listingText, explainedText}
 
 abbrev aid-01 : List ℕ
@@ -75,7 +75,7 @@ pub enabled-explained : explainedText (answered Done changed first-number 20) []
     ++ text "phase trial: previous at place 0, ticks left 10, number 1\n"
     ++ text "ticks to come 20\n"
     ++ text "\n"
-unfolding explainedText wordText responseText noticeText issuedText tableText widestOf headText rowsText placeText rowText nameCells figureCells roleCells columnText leadOf spaces stateText yesText provisioningText policyText phaseText trialText openText listingText hexText glyphOf digitsText pick isBelow isSame padded
+unfolding explainedText wordText responseText noticeText issuedText tableText widestOf tableHead rowsText placeText rowText nameCells figureCells roleCells columnText leadOf spaces stateText yesText provisioningText policyText phaseText trialText openText listingText hexText glyphOf digitsText pick isBelow isSame padded
 enabled-explained = refl
 
 -- a part of a listing, and the answer where none is open
@@ -90,7 +90,7 @@ pub part-explained : explainedText (answered More (keeping changed 2) silent 20)
     ++ text "listing open: next row at place 2\n"
     ++ text "ticks to come 20\n"
     ++ text "\n"
-unfolding explainedText wordText responseText noticeText tableText widestOf headText rowsText placeText rowText nameCells figureCells roleCells columnText leadOf spaces stateText yesText provisioningText policyText phaseText trialText openText listingText hexText glyphOf digitsText pick isBelow isSame padded
+unfolding explainedText wordText responseText noticeText tableText widestOf tableHead rowsText placeText rowText nameCells figureCells roleCells columnText leadOf spaces stateText yesText provisioningText policyText phaseText trialText openText listingText hexText glyphOf digitsText pick isBelow isSame padded
 part-explained = refl
 
 pub refused-explained : explainedText (answered NotHeld zeroCard silent 0) []
@@ -99,7 +99,7 @@ pub refused-explained : explainedText (answered NotHeld zeroCard silent 0) []
     ++ text "phase quiet\n"
     ++ text "ticks to come 0\n"
     ++ text "\n"
-unfolding explainedText wordText responseText noticeText tableText widestOf headText rowsText placeText phaseText listingText hexText glyphOf digitsText pick isBelow isSame
+unfolding explainedText wordText responseText noticeText tableText widestOf tableHead rowsText placeText phaseText listingText hexText glyphOf digitsText pick isBelow isSame
 refused-explained = refl
 
 pub unsound-explained : explainedText (answered Unsound zeroCard silent 0) []
@@ -108,5 +108,5 @@ pub unsound-explained : explainedText (answered Unsound zeroCard silent 0) []
     ++ text "phase quiet\n"
     ++ text "ticks to come 0\n"
     ++ text "\n"
-unfolding explainedText wordText responseText noticeText tableText widestOf headText rowsText placeText phaseText listingText hexText glyphOf digitsText pick isBelow isSame
+unfolding explainedText wordText responseText noticeText tableText widestOf tableHead rowsText placeText phaseText listingText hexText glyphOf digitsText pick isBelow isSame
 unsound-explained = refl

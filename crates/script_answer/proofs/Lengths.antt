@@ -18,7 +18,7 @@ use Rattle.script_table.specs.Profiles.{tableText, mostTable}
 use Rattle.text_words.proofs.HexLaws.{hex-length}
 use Rattle.text_words.proofs.ColumnLaws.{decimal-length}
 use Rattle.text_aid.proofs.Lengths.{aid-length}
-use Rattle.script_answer.specs.Lines.{issuedWord, noticeBy, noticeWord, answerLine, mostLine}
+use Rattle.script_answer.specs.Lines.{issuedWord, noticeBy, noticeWord, answerLine, mostAnswerLine}
 use Rattle.script_answer.specs.Explained.{meaningOf, wordText, responseText, kindText, issuedText, noticeIn, noticeText}
 use Rattle.script_answer.specs.Explained.{openText, trialText, phaseText, listingText, explainedText, mostExplained}
 
@@ -44,7 +44,7 @@ notice-length : (n : Notification) → length (n .aid .bytes) ≤ 16 → length 
 unfolding noticeWord
 notice-length n h = notice-case (n .kind) n h
 
-pub line-length : (a : Answer) (response : List ℕ) → length (a .notification .aid .bytes) ≤ 16 → length (answerLine a response) ≤ length response * 2 + mostLine
+pub line-length : (a : Answer) (response : List ℕ) → length (a .notification .aid .bytes) ≤ 16 → length (answerLine a response) ≤ length response * 2 + mostAnswerLine
 unfolding answerLine
 line-length a response h =
     simp (length-append, hex-length)

@@ -43,5 +43,5 @@ answerLine a response =
     ++ text "\n"
 
 -- a line has 69 bytes at the most beside the digits of the response, where a number has 64 bits
-abbrev pub mostLine : ℕ
-mostLine = 69
+abbrev pub mostAnswerLine : ℕ
+mostAnswerLine = 69

@@ -14,7 +14,7 @@ ghost use mathlib.Core.Path.{_≡_};
 ghost use Prim.Native.Nat.{_+_, _*_, _≤_};
 ghost use lib.ListN.{length};
 ghost use Rattle.base_bytes.specs.Put.{Wrote};
-ghost use Rattle.script_answer.specs.Lines.{issuedWord, noticeWord, answerLine, mostLine};
+ghost use Rattle.script_answer.specs.Lines.{issuedWord, noticeWord, answerLine, mostAnswerLine};
 
 fn put_issued(notification: Notification, buf: &mut [u8], at: usize) -> usize
     ensures { λ r. ⌜ Wrote (now (buf .entry)) at (issuedWord notification) r (now (buf .exit)) ⌝ }
@@ -42,7 +42,7 @@ fn put_notice(notification: Notification, buf: &mut [u8], at: usize) -> usize
 
 // The line of an answer; the response is what the call left in its buffer.
 pub fn write_answer(answer: Answer, response: &[u8], buf: &mut [u8], at: usize) -> usize
-    ensures { λ r. ⌜ Wrote (now (buf .entry)) at (answerLine answer (now (response .entry))) r (now (buf .exit)) × (length (answerLine answer (now (response .entry))) ≤ length (now (response .entry)) * 2 + mostLine) ⌝ }
+    ensures { λ r. ⌜ Wrote (now (buf .entry)) at (answerLine answer (now (response .entry))) r (now (buf .exit)) × (length (answerLine answer (now (response .entry))) ≤ length (now (response .entry)) * 2 + mostAnswerLine) ⌝ }
 {
     let status = answer.status;
     let notification = answer.notification;

@@ -13,10 +13,10 @@ use Rattle.card_isdp.specs.Sizes.{mostPlaces}
 use Rattle.script_words.specs.Ascii.{ascii}
 use Rattle.script_words.proofs.Dashes.{dashes}
 use Rattle.script_words.specs.Arguments.{bytesAt, valueAt}
-use Rattle.script_line.specs.Orders.{verbIn, verbOf, counted, inner, valueOr, sentAt, orderBy, orderOf}
-use Rattle.script_line.specs.Orders.{freshWith, freshAt, commandAt, keyedAt, storedAt, finishedAt, policyAt}
+use Rattle.script_line.specs.Orders.{verbIn, verbOf, wordsCounted, inner, valueOr, sentAt, orderBy, orderOf}
+use Rattle.script_line.specs.Orders.{freshWith, freshAt, commandAt, keyedAt, storedAt, finishedAt, policyLineAt}
 use Rattle.script_words.specs.declared.Reason.the-variants.{TooLong, UnknownWord, WordsMissing, TooManyWords, BadHex, BadNumber}
-use Rattle.record_door.specs.declared.Call.the-variants.{Command, Keyed, Stored, Finished, Tick, Lost, Policy}
+use Rattle.record_door.specs.declared.Call.the-variants.{Command, Keyed, Stored, Finished, Tick, Lost, PolicyUpdate}
 use Rattle.script_line.specs.declared.Order.{Order}
 use Rattle.script_line.specs.declared.Order.the-variants.{Nothing, Fresh, Record, Wrong}
 use Rattle.script_line.specs.declared.Order.the-variants as order
@@ -41,8 +41,8 @@ examples =
     ∷ record { line = "finished A000000002 4 255"; says = inner (Finished (record { start = 9; len = 10 }) 4 255) }
     ∷ record { line = "finished A000000002 4 256"; says = Wrong BadNumber }
     ∷ record { line = "finished A000000002 4 1 1"; says = Wrong TooManyWords }
-    ∷ record { line = "policy A000000001 80e2"; says = order.Call (Policy (record { start = 7; len = 10 }) (record { start = 18; len = 4 })) 256 }
-    ∷ record { line = "policy -  80E2 0"; says = order.Call (Policy (record { start = 7; len = 1 }) (record { start = 10; len = 4 })) 0 }
+    ∷ record { line = "policy A000000001 80e2"; says = order.Call (PolicyUpdate (record { start = 7; len = 10 }) (record { start = 18; len = 4 })) 256 }
+    ∷ record { line = "policy -  80E2 0"; says = order.Call (PolicyUpdate (record { start = 7; len = 1 }) (record { start = 10; len = 4 })) 0 }
     ∷ record { line = "policy A0"; says = Wrong WordsMissing }
     ∷ record { line = "policy A0 80 256 1"; says = Wrong TooManyWords }
     ∷ record { line = "policy A0F 80 1025"; says = Wrong BadHex }
@@ -57,7 +57,7 @@ examples =
     ∷ []
 
 says-so : map (λ (e : Example). orderOf (ascii (e .line))) examples ≡ map (λ (e : Example). e .says) examples
-unfolding orderOf orderBy verbIn verbOf counted freshWith freshAt commandAt keyedAt storedAt finishedAt policyAt sentAt bytesAt valueAt valueOr pick atMost isBelow isSame before leading sameBytes wordsOn wordsOf wordFrom wordAt digitsOn decimalOf nibbleOf pairsOf isHex
+unfolding orderOf orderBy verbIn verbOf wordsCounted freshWith freshAt commandAt keyedAt storedAt finishedAt policyLineAt sentAt bytesAt valueAt valueOr pick atMost isBelow isSame before leading sameBytes wordsOn wordsOf wordFrom wordAt digitsOn decimalOf nibbleOf pairsOf isHex
 says-so = refl
 
 -- a `card` line with so many words for its places
@@ -65,7 +65,7 @@ abbrev card-line : ℕ → Order
 card-line n = orderOf (ascii "card 89 0 0 0 0 0 Q -" ++ dashes n)
 
 card-lines : (card-line (mostPlaces - 1) ∷ card-line mostPlaces ∷ card-line (mostPlaces + 1) ∷ []) ≡ Wrong WordsMissing ∷ Record 4 ∷ Wrong TooManyWords ∷ []
-unfolding orderOf orderBy verbIn verbOf counted pick atMost isBelow isSame before leading sameBytes wordsOn wordsOf wordFrom wordAt
+unfolding orderOf orderBy verbIn verbOf wordsCounted pick atMost isBelow isSame before leading sameBytes wordsOn wordsOf wordFrom wordAt
 card-lines = refl
 
 -- a line of 4,096 bytes at the most

@@ -17,8 +17,8 @@ use Rattle.base_bytes.specs.Bytes.{between}
 use Rattle.base_bytes.specs.declared.Part.{Part}
 use Rattle.record_door.specs.declared.Call.the-variants as call
 use Rattle.script_words.specs.Arguments.{most32, most8, onBytes, onValue, bytesAt, valueAt}
-use Rattle.script_line.specs.Orders.{hash, verbOf, mostRoom, counted, inner, valueOr, onSent, sentAt, recordWords, orderBy, orderOf}
-use Rattle.script_line.specs.Orders.{freshWith, freshAt, commandAt, keyedAt, storedAt, finishedAt, policyAt}
+use Rattle.script_line.specs.Orders.{hash, verbOf, mostBuffer, wordsCounted, inner, valueOr, onSent, sentAt, recordWords, orderBy, orderOf}
+use Rattle.script_line.specs.Orders.{freshWith, freshAt, commandAt, keyedAt, storedAt, finishedAt, policyLineAt}
 use Rattle.script_line.specs.Fits.{Fits, OrderFits, OrdersFit}
 use Rattle.script_words.specs.declared.Reason.{Reason}
 use Rattle.script_words.specs.declared.Reason.the-variants.{WordsMissing, BadHex}
@@ -75,7 +75,7 @@ module _ (s : List ℕ) (l : length s ≤ longest) where
   by-value = value-as (OrderFits s) (λ why. tt)
 
   by-sent : (at : ℕ) (f : Part → ℕ → Order)
-      → ((p : Part) (room : ℕ) → Fits s p → at ≤ p .start → room ≤ mostRoom → OrderFits s (f p room))
+      → ((p : Part) (room : ℕ) → Fits s p → at ≤ p .start → room ≤ mostBuffer → OrderFits s (f p room))
       → OrderFits s (onSent (sentAt s at) order.Wrong f)
   unfolding sentAt
   by-sent at f g =
@@ -85,8 +85,8 @@ module _ (s : List ℕ) (l : length s ≤ longest) where
       let k = or-within s _ _ b room e (omega arith) r in
       g p room (h .0) (h .1 .0) (omega arith)
 
-  by-count : (least most n : ℕ) (o : Order) → OrderFits s o → OrderFits s (counted least most n o)
-  unfolding counted
+  by-count : (least most n : ℕ) (o : Order) → OrderFits s o → OrderFits s (wordsCounted least most n o)
+  unfolding wordsCounted
   by-count least most n o g =
       by-lt (OrderFits s) n least (λ h. tt) (λ h. by-lt (OrderFits s) most n (λ k. tt) (λ k. g))
 
@@ -100,7 +100,7 @@ module _ (s : List ℕ) (l : length s ≤ longest) where
 
   -- by the first word
   verb-fits : (v : Verb) (n at : ℕ) → OrderFits s (orderBy v n s at)
-  unfolding orderBy freshAt commandAt keyedAt storedAt finishedAt policyAt
+  unfolding orderBy freshAt commandAt keyedAt storedAt finishedAt policyLineAt
   verb-fits verb.Fresh n at =
       by-count 7 7 n _ (by-bytes at _ λ eid b h. by-bytes b _ λ aid c k. fresh-with c eid aid (h .0) (k .0))
   verb-fits verb.Command n at =

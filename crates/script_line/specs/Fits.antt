@@ -11,7 +11,7 @@ use Rattle.base_bytes.specs.declared.Part.{Part}
 use Rattle.base_bytes.specs.Bytes.{partOf}
 use Rattle.record_door.specs.declared.Call.{Call}
 use Rattle.record_door.specs.declared.Call.the-variants as call
-use Rattle.script_line.specs.Orders.{mostRoom, orderOf}
+use Rattle.script_line.specs.Orders.{mostBuffer, orderOf}
 use Rattle.script_line.specs.declared.Order.{Order}
 use Rattle.script_line.specs.declared.Order.the-variants as order
 
@@ -29,12 +29,12 @@ CallFits s (call.Stored aid n) = Fits s aid
 CallFits s (call.Finished aid policy mark) = Fits s aid
 CallFits s call.Tick = Unit {0}
 CallFits s call.Lost = Unit {0}
-CallFits s (call.Policy speaker bytes) = (speaker .start + speaker .len ≤ bytes .start) × (Fits s speaker × Fits s bytes)
+CallFits s (call.PolicyUpdate speaker bytes) = (speaker .start + speaker .len ≤ bytes .start) × (Fits s speaker × Fits s bytes)
 
 abbrev pub OrderFits : List ℕ → Order → Type 0
 OrderFits s order.Nothing = Unit {0}
 OrderFits s (order.Fresh eid aid capacity quota used volatile) = Fits s eid × Fits s aid
-OrderFits s (order.Call x room) = CallFits s x × (room ≤ mostRoom)
+OrderFits s (order.Call x room) = CallFits s x × (room ≤ mostBuffer)
 OrderFits s (order.Record at) = Unit {0}
 OrderFits s (order.Wrong why) = Unit {0}
 

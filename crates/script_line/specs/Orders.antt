@@ -30,12 +30,12 @@ abbrev pub hash : ℕ
 hash = 35
 
 -- a word that a line may begin with, and what it asks for
-pub record Named : Type 0 where
+pub record LineWord : Type 0 where
   pub word : List ℕ
   pub verb : Verb
 
-abbrev pub named : List Named
-named =
+abbrev pub lineWords : List LineWord
+lineWords =
     record { word = ascii "fresh"; verb = verb.Fresh }
     ∷ record { word = ascii "command"; verb = verb.Command }
     ∷ record { word = ascii "keyed"; verb = verb.Keyed }
@@ -48,16 +48,16 @@ named =
     ∷ []
 
 -- by the first of these words that is the line's
-unfoldable pub verbIn : List Named → List ℕ → Verb
+unfoldable pub verbIn : List LineWord → List ℕ → Verb
 verbIn [] w = verb.Unknown
 verbIn (n ∷ ns) w = pick (sameBytes w (n .word)) (n .verb) (verbIn ns w)
 
 unfoldable pub verbOf : List ℕ → Verb
-verbOf w = verbIn named w
+verbOf w = verbIn lineWords w
 
 -- the order of a line of n words, where it should have from `least` to `most`
-unfoldable pub counted : ℕ → ℕ → ℕ → Order → Order
-counted least most n o = pick (isBelow n least) (order.Wrong WordsMissing) (pick (isBelow most n) (order.Wrong TooManyWords) o)
+unfoldable pub wordsCounted : ℕ → ℕ → ℕ → Order → Order
+wordsCounted least most n o = pick (isBelow n least) (order.Wrong WordsMissing) (pick (isBelow most n) (order.Wrong TooManyWords) o)
 
 -- CAPACITY QUOTA USED VOLATILE
 unfoldable pub freshWith : List ℕ → ℕ → Part → Part → Order
@@ -82,14 +82,14 @@ onSent (sent.Wrong why) g f = g why
 onSent (sent.Is bytes room) g f = f bytes room
 
 -- the largest response buffer that a line may ask for
-abbrev pub mostRoom : ℕ
-mostRoom = 1024
+abbrev pub mostBuffer : ℕ
+mostBuffer = 1024
 
 -- HEX, or HEX LENGTH: a command, and "a response buffer of 256 bytes, or of LENGTH", 0 to 1,024 (decision B25)
 unfoldable pub sentAt : List ℕ → ℕ → Sent
 sentAt s at =
     onBytes (bytesAt s at) sent.Wrong λ bytes b.
-    onValue (valueOr leastBuffer mostRoom s b) sent.Wrong λ room e. sent.Is bytes room
+    onValue (valueOr leastBuffer mostBuffer s b) sent.Wrong λ room e. sent.Is bytes room
 
 -- VERDICT HEX, or VERDICT HEX LENGTH
 unfoldable pub commandAt : List ℕ → ℕ → Order
@@ -98,10 +98,10 @@ commandAt s at =
     onSent (sentAt s b) order.Wrong λ bytes room. order.Call (call.Command verdict bytes) room
 
 -- SPEAKER HEX, or SPEAKER HEX LENGTH: the AID of the profile whose domain speaks, and the command that this domain was sent (decision B85)
-unfoldable pub policyAt : List ℕ → ℕ → Order
-policyAt s at =
+unfoldable pub policyLineAt : List ℕ → ℕ → Order
+policyLineAt s at =
     onBytes (bytesAt s at) order.Wrong λ speaker b.
-    onSent (sentAt s b) order.Wrong λ bytes room. order.Call (call.Policy speaker bytes) room
+    onSent (sentAt s b) order.Wrong λ bytes room. order.Call (call.PolicyUpdate speaker bytes) room
 
 -- a call that has no response lends no buffer
 abbrev pub inner : Call → Order
@@ -130,15 +130,15 @@ recordWords = 9 + mostPlaces
 
 -- by the first word, which ends at `at`, of n words
 unfoldable pub orderBy : Verb → ℕ → List ℕ → ℕ → Order
-orderBy verb.Fresh n s at = counted 7 7 n (freshAt s at)
-orderBy verb.Command n s at = counted 3 4 n (commandAt s at)
-orderBy verb.Keyed n s at = counted 2 2 n (keyedAt s at)
-orderBy verb.Stored n s at = counted 3 3 n (storedAt s at)
-orderBy verb.Finished n s at = counted 3 4 n (finishedAt s at)
-orderBy verb.Tick n s at = counted 1 1 n (inner call.Tick)
-orderBy verb.Lost n s at = counted 1 1 n (inner call.Lost)
-orderBy verb.Policy n s at = counted 3 4 n (policyAt s at)
-orderBy verb.Card n s at = counted recordWords recordWords n (order.Record at)
+orderBy verb.Fresh n s at = wordsCounted 7 7 n (freshAt s at)
+orderBy verb.Command n s at = wordsCounted 3 4 n (commandAt s at)
+orderBy verb.Keyed n s at = wordsCounted 2 2 n (keyedAt s at)
+orderBy verb.Stored n s at = wordsCounted 3 3 n (storedAt s at)
+orderBy verb.Finished n s at = wordsCounted 3 4 n (finishedAt s at)
+orderBy verb.Tick n s at = wordsCounted 1 1 n (inner call.Tick)
+orderBy verb.Lost n s at = wordsCounted 1 1 n (inner call.Lost)
+orderBy verb.Policy n s at = wordsCounted 3 4 n (policyLineAt s at)
+orderBy verb.Card n s at = wordsCounted recordWords recordWords n (order.Record at)
 orderBy verb.Unknown n s at = order.Wrong UnknownWord
 
 -- "(a line has at most 4,096 bytes)": its length is looked at first, then its first word (decisions B22, B23, B24)

@@ -15,7 +15,7 @@ use text_words::Word;
 use text_words::count_words;
 use text_words::next_word;
 ghost use mathlib.Core.Path.{_≡_};
-ghost use Rattle.script_line.specs.Orders.{verbOf, counted, inner, valueOr, sentAt, freshWith, freshAt, commandAt, keyedAt, storedAt, finishedAt, policyAt, orderBy, orderOf};
+ghost use Rattle.script_line.specs.Orders.{verbOf, wordsCounted, inner, valueOr, sentAt, freshWith, freshAt, commandAt, keyedAt, storedAt, finishedAt, policyLineAt, orderBy, orderOf};
 
 // A byte string stays in the line, where a part names the word that spells it: an enum holds no array.
 pub enum Order {
@@ -92,7 +92,7 @@ fn verb_of(w: &[u8]) -> Verb
 
 // The order, where the line has the words that it should have.
 fn counted(least: usize, most: usize, n: usize, order: Order) -> Order
-    ensures { λ r. ⌜ r ≡ counted least most n order ⌝ }
+    ensures { λ r. ⌜ r ≡ wordsCounted least most n order ⌝ }
 {
     if n < least {
         return Order::Wrong(Reason::WordsMissing);
@@ -201,7 +201,7 @@ fn command_order(s: &[u8], at: usize) -> Order
 }
 
 fn policy_order(s: &[u8], at: usize) -> Order
-    ensures { λ r. ⌜ r ≡ policyAt (now (s .entry)) at ⌝ }
+    ensures { λ r. ⌜ r ≡ policyLineAt (now (s .entry)) at ⌝ }
 {
     match next_bytes(s, at) {
         Bytes::Wrong(why) => Order::Wrong(why),
@@ -211,7 +211,7 @@ fn policy_order(s: &[u8], at: usize) -> Order
         } => match next_sent(s, b) {
             Sent::Wrong(why) => Order::Wrong(why),
             Sent::Is { bytes, room } => {
-                let call = Call::Policy { speaker, bytes };
+                let call = Call::PolicyUpdate { speaker, bytes };
                 Order::Call { call, room }
             }
         },

@@ -21,7 +21,7 @@ use Rattle.script_words.specs.Ascii.{ascii}
 use Rattle.script_words.proofs.Dashes.{dashes}
 use Rattle.script_words.specs.Arguments.{bytesAt, valueAt}
 use Rattle.script_record.specs.Colons.{numberField, openFields, trialFields, phaseWord, sizesFields, placeWith, placeWord}
-use Rattle.script_record.specs.Records.{phaseAt, keptIn, keptAt, pendingAt, memoryAt, headAt, placesOn, recordWith, recordAt}
+use Rattle.script_record.specs.Records.{phaseAt, keptIn, keptAt, pendingAt, recordMemoryAt, recordHeadAt, placesOn, recordWith, recordAt}
 use Rattle.script_words.specs.declared.Reason.the-variants.{BadHex, BadNumber, BadPlace, BadPhase}
 use Rattle.script_record.specs.declared.Reading.{Reading}
 use Rattle.script_record.specs.declared.Reading.the-variants as reading
@@ -50,7 +50,7 @@ faults =
     ∷ []
 
 reads-so : map (λ (e : Fault). recordAt (given (e .line) (e .first)) 4 .reading) faults ≡ map (λ (e : Fault). e .reads) faults
-unfolding bytesAt valueAt numberField openFields trialFields phaseWord sizesFields placeWith placeWord phaseAt keptIn keptAt pendingAt memoryAt headAt placesOn recordWith recordAt pick atMost isBelow isSame before leading sameBytes wordFrom wordAt fieldAt digitsOn decimalOf nibbleOf pairsOf isHex byteOf spelled hexByteOf hexReadOf padded
+unfolding bytesAt valueAt numberField openFields trialFields phaseWord sizesFields placeWith placeWord phaseAt keptIn keptAt pendingAt recordMemoryAt recordHeadAt placesOn recordWith recordAt pick atMost isBelow isSame before leading sameBytes wordFrom wordAt fieldAt digitsOn decimalOf nibbleOf pairsOf isHex byteOf spelled hexByteOf hexReadOf padded
 reads-so = refl
 
 -- the record that a `card` line hands in
@@ -63,7 +63,7 @@ handed-in : recordAt (given "card 89001012012341234012345678901224 1000 20 100 7
           ∷ profile (record { bytes = 0xA0 ∷ 0 ∷ 0 ∷ 0 ∷ 2 ∷ replicate 11 0; len = 5 }) 0x3F 400 0 255 255
           ∷ replicate (mostPlaces - 2) vacant);
     }
-unfolding bytesAt valueAt numberField openFields trialFields phaseWord sizesFields placeWith placeWord phaseAt keptIn keptAt pendingAt memoryAt headAt placesOn recordWith recordAt pick atMost isBelow isSame before leading sameBytes wordFrom wordAt fieldAt digitsOn decimalOf nibbleOf pairsOf isHex byteOf spelled hexByteOf hexReadOf padded
+unfolding bytesAt valueAt numberField openFields trialFields phaseWord sizesFields placeWith placeWord phaseAt keptIn keptAt pendingAt recordMemoryAt recordHeadAt placesOn recordWith recordAt pick atMost isBelow isSame before leading sameBytes wordFrom wordAt fieldAt digitsOn decimalOf nibbleOf pairsOf isHex byteOf spelled hexByteOf hexReadOf padded
 handed-in = refl
 
 -- KEPT: `-` and every number under 255

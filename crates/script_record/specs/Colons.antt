@@ -95,20 +95,20 @@ sizesFields w at =
     onField (numberField most8 w d) sizes.Wrong λ mark e.
     pick (atMost e (length w)) sizes.Wrong (sizes.Are quota used policy mark)
 
-abbrev pub noPlace : Placed
-noPlace = record { ok = false; place = vacant }
+abbrev pub wrongPlace : Placed
+wrongPlace = record { ok = false; place = vacant }
 
 -- STATE:QUOTA:USED:POLICY:MARK
 unfoldable pub placeWith : List ℕ → ℕ → Aid → Placed
 placeWith w at aid =
-    onWord (fieldAt colon w at) noPlace λ a e.
-    onByte (hexByteOf (part w a e)) noPlace λ life.
-    onSizes (sizesFields w (e + 1)) noPlace λ quota used policy mark.
+    onWord (fieldAt colon w at) wrongPlace λ a e.
+    onByte (hexByteOf (part w a e)) wrongPlace λ life.
+    onSizes (sizesFields w (e + 1)) wrongPlace λ quota used policy mark.
     record { ok = true; place = profile aid life quota used policy mark }
 
 -- PLACE
 unfoldable pub placeWord : List ℕ → Placed
 placeWord w =
     pick (sameBytes w (ascii "-")) (record { ok = true; place = vacant })
-    (onWord (fieldAt colon w 0) noPlace λ a e.
-    onRead (hexReadOf (part w a e) mostAid) noPlace λ n. placeWith w (e + 1) (record { bytes = padded (spelled (part w a e)); len = n }))
+    (onWord (fieldAt colon w 0) wrongPlace λ a e.
+    onRead (hexReadOf (part w a e) mostAid) wrongPlace λ n. placeWith w (e + 1) (record { bytes = padded (spelled (part w a e)); len = n }))

@@ -84,16 +84,16 @@ pendingAt s at =
     onValue (keptAt s b) pending.Wrong λ kept next. pending.Is phase kept next
 
 -- CAPACITY VOLATILE FREE, and the place after them (decision B68)
-unfoldable pub memoryAt : List ℕ → ℕ → Memory
-memoryAt s at =
+unfoldable pub recordMemoryAt : List ℕ → ℕ → Memory
+recordMemoryAt s at =
     onValue (valueAt most32 s at) memory.Wrong λ capacity b.
     onValue (valueAt most32 s b) memory.Wrong λ volatile c.
     onValue (valueAt most32 s c) memory.Wrong λ free next. memory.Is capacity volatile free next
 
 -- these, LAST FALLBACK PHASE KEPT, and the place after them
-unfoldable pub headAt : List ℕ → ℕ → Head
-headAt s at =
-    onMemory (memoryAt s at) head.Wrong λ capacity volatile free b.
+unfoldable pub recordHeadAt : List ℕ → ℕ → Head
+recordHeadAt s at =
+    onMemory (recordMemoryAt s at) head.Wrong λ capacity volatile free b.
     onValue (valueAt most16 s b) head.Wrong λ last c.
     onValue (valueAt most8 s c) head.Wrong λ fallback d.
     onPending (pendingAt s d) head.Wrong λ phase kept next. head.Is capacity volatile free last fallback phase kept next
@@ -121,7 +121,7 @@ fine eid capacity volatile free last fallback phase kept places =
 -- what stands after the EID
 unfoldable pub recordWith : List ℕ → ℕ → List ℕ → Record
 recordWith s at eid =
-    onHead (headAt s at) noRecord λ capacity volatile free last fallback phase kept next.
+    onHead (recordHeadAt s at) noRecord λ capacity volatile free last fallback phase kept next.
     onReading (placesOn mostPlaces s next [] .reading) noRecord
     (fine eid capacity volatile free last fallback phase kept (placesOn mostPlaces s next [] .places))
 

@@ -13,7 +13,7 @@ use text_words::hex_byte;
 use text_words::next_field;
 use text_words::read_hex;
 ghost use mathlib.Core.Path.{_≡_};
-ghost use Rattle.script_record.specs.Colons.{numberField, openFields, trialFields, phaseWord, sizesFields, placeWith, placeWord, noPlace};
+ghost use Rattle.script_record.specs.Colons.{numberField, openFields, trialFields, phaseWord, sizesFields, placeWith, placeWord, wrongPlace};
 
 // `next` is the place of the field after it.
 pub enum Field {
@@ -147,7 +147,7 @@ pub struct Placed {
 }
 
 fn no_place() -> Placed
-    ensures { λ r. ⌜ r ≡ noPlace ⌝ }
+    ensures { λ r. ⌜ r ≡ wrongPlace ⌝ }
 {
     let place = Isdp::none();
     Placed { ok: false, place }

@@ -22,7 +22,7 @@ use text_words::read_hex;
 ghost use mathlib.Core.Path.{_≡_};
 ghost use Rattle.card_isdp.specs.Sizes.{mostPlaces};
 ghost use mathlib.Core.List.{[]};
-ghost use Rattle.script_record.specs.Records.{phaseAt, keptIn, keptAt, pendingAt, memoryAt, headAt, notHeld, placesOn, noRecord, fine, recordWith, recordAt};
+ghost use Rattle.script_record.specs.Records.{phaseAt, keptIn, keptAt, pendingAt, recordMemoryAt, recordHeadAt, notHeld, placesOn, noRecord, fine, recordWith, recordAt};
 
 pub enum PhaseRead {
     Is { phase: Phase, next: usize },
@@ -97,7 +97,7 @@ pub enum Memory {
 }
 
 fn memory_at(s: &[u8], at: usize) -> Memory
-    ensures { λ r. ⌜ r ≡ memoryAt (now (s .entry)) at ⌝ }
+    ensures { λ r. ⌜ r ≡ recordMemoryAt (now (s .entry)) at ⌝ }
 {
     match next_value(s, at, MOST_NUMBER) {
         Value::Wrong(why) => Memory::Wrong(why),
@@ -138,7 +138,7 @@ pub enum Head {
 }
 
 fn head_at(s: &[u8], at: usize) -> Head
-    ensures { λ r. ⌜ r ≡ headAt (now (s .entry)) at ⌝ }
+    ensures { λ r. ⌜ r ≡ recordHeadAt (now (s .entry)) at ⌝ }
 {
     match memory_at(s, at) {
         Memory::Wrong(why) => Head::Wrong(why),

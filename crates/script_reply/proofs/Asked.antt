@@ -21,7 +21,7 @@ use Rattle.script_line.specs.declared.Order.{Order}
 use Rattle.script_line.specs.declared.Order.the-variants as order
 use Rattle.script_record.specs.declared.Reading.{Reading}
 use Rattle.script_record.specs.declared.Reading.the-variants as reading
-use Rattle.script_reply.specs.Replies.{bytesOf, bytesIn, callIn, recordWork, recordOutcome, replyOf, firstReply, faultReply, answerTo, Reply, replyBy, lineOf, askedLine, scriptOf, askedScript, AskedOnce}
+use Rattle.script_reply.specs.Replies.{spelledBytes, bytesIn, callSpelled, recordWork, recordOutcome, replyOf, firstReply, faultReply, answerTo, Reply, replyBy, replyToLine, checkedLine, scriptOf, checkedScript, CheckedOnce}
 
 -- the flag is right: where it says that the card is sound, it is
 abbrev Right : Card → Bool → Type 0
@@ -46,14 +46,14 @@ reading-flag c found explain n d reading.Fine h = record-flag d (sound d) refl
 orders-agree : (c : Card) (found explain : Bool) (n : ℕ) (s : List ℕ) (o : Order) → Right c found → replyBy (answerTo found c) c found explain n s o ≡ replyBy (step c) c found explain n s o
 orders-agree c found explain n s order.Nothing h = refl
 orders-agree c found explain n s (order.Fresh eid aid capacity quota used volatile) h = refl
-orders-agree c found explain n s (order.Call x room) h = ap (replyOf explain found (bytesIn s x)) (answers-agree c found (callIn s room x) h)
+orders-agree c found explain n s (order.Call x room) h = ap (replyOf explain found (bytesIn s x)) (answers-agree c found (callSpelled s room x) h)
 orders-agree c found explain n s (order.Record at) h = refl
 orders-agree c found explain n s (order.Wrong reason) h = refl
 
 order-flag : (c : Card) (found explain : Bool) (n : ℕ) (s : List ℕ) (o : Order) → Right c found → Right (replyBy (step c) c found explain n s o .card) (replyBy (step c) c found explain n s o .sound)
 order-flag c found explain n s order.Nothing h = h
-order-flag c found explain n s (order.Fresh eid aid capacity quota used volatile) h = fresh-sound (bytesOf s eid) (bytesOf s aid) capacity quota used volatile
-order-flag c found explain n s (order.Call x room) h = λ z. step-sound c (callIn s room x) (h z)
+order-flag c found explain n s (order.Fresh eid aid capacity quota used volatile) h = fresh-sound (spelledBytes s eid) (spelledBytes s aid) capacity quota used volatile
+order-flag c found explain n s (order.Call x room) h = λ z. step-sound c (callSpelled s room x) (h z)
 order-flag c found explain n s (order.Record at) h = reading-flag c found explain n (recordAt s at .card) (recordAt s at .reading) h
 order-flag c found explain n s (order.Wrong reason) h = h
 
@@ -75,24 +75,24 @@ order-alike c found explain n s (order.Call x room) = record { same-text = refl;
 order-alike c found explain n s (order.Record at) = reading-alike c found explain n (recordAt s at .card) (recordAt s at .reading)
 order-alike c found explain n s (order.Wrong reason) = record { same-text = refl; same-goes = refl; same-card = refl }
 
-line-alike : (c : Card) (found explain : Bool) (n : ℕ) (s : List ℕ) → Right c found → Alike (lineOf c found explain n s) (askedLine c explain n s)
-unfolding lineOf askedLine
+line-alike : (c : Card) (found explain : Bool) (n : ℕ) (s : List ℕ) → Right c found → Alike (replyToLine c found explain n s) (checkedLine c explain n s)
+unfolding replyToLine checkedLine
 line-alike c found explain n s h = rw (orders-agree c found explain n s (orderOf s) h) (order-alike c found explain n s (orderOf s))
 
-line-flag : (c : Card) (found explain : Bool) (n : ℕ) (s : List ℕ) → Right c found → Right (lineOf c found explain n s .card) (lineOf c found explain n s .sound)
-unfolding lineOf
+line-flag : (c : Card) (found explain : Bool) (n : ℕ) (s : List ℕ) → Right c found → Right (replyToLine c found explain n s .card) (replyToLine c found explain n s .sound)
+unfolding replyToLine
 line-flag c found explain n s h = rw (orders-agree c found explain n s (orderOf s) h) (order-flag c found explain n s (orderOf s) h)
 
 -- a script
-scripts-agree : (keep : ℕ → Bool) (c : Card) (found explain : Bool) (n : ℕ) (lines : List (List ℕ)) → Right c found → scriptOf keep c found explain n lines ≡ askedScript c explain n lines
-unfolding scriptOf askedScript
+scripts-agree : (keep : ℕ → Bool) (c : Card) (found explain : Bool) (n : ℕ) (lines : List (List ℕ)) → Right c found → scriptOf keep c found explain n lines ≡ checkedScript c explain n lines
+unfolding scriptOf checkedScript
 scripts-agree keep c found explain n [] h = refl
 scripts-agree keep c found explain n (s ∷ rest) h =
     let k : Right c (keep n && found) = λ z. h (and-r (keep n) found z) in
-    let x = lineOf c (keep n && found) explain n s in
+    let x = replyToLine c (keep n && found) explain n s in
     let e = line-alike c (keep n && found) explain n s k in
     ap (λ (t : List ℕ). x .text ++ cond (x .goes) t []) (scripts-agree keep (x .card) (x .sound) explain (suc n) rest (line-flag c (keep n && found) explain n s k))
     ∙ rw (e .same-text, e .same-goes, e .same-card)
 
-pub asked-once : AskedOnce
+pub asked-once : CheckedOnce
 asked-once keep explain lines = scripts-agree keep zeroCard false explain 1 lines (λ z. absurd (false≢true z))

@@ -13,10 +13,10 @@ use Rattle.script_line.specs.Fits.{CallFits, OrderFits}
 use Rattle.script_line.proofs.Fits.{orders-fit}
 use Rattle.script_line.specs.declared.Order.{Order}
 use Rattle.script_line.specs.declared.Order.the-variants as order
-use Rattle.script_reply.specs.Replies.{mostBytes, bytesOf, bytesIn}
+use Rattle.script_reply.specs.Replies.{mostBytes, spelledBytes, bytesIn}
 use Rattle.script_reply.specs.Room.{HasRoom, NothingCut}
 
-bytes-half : (s : List ℕ) (p : Part) → length (bytesOf s p) * 2 ≤ p .len
+bytes-half : (s : List ℕ) (p : Part) → length (spelledBytes s p) * 2 ≤ p .len
 bytes-half s p =
     let e = spelled-length (partOf s p) in
     let h = length-take (p .len) (drop (p .start) s) in
@@ -29,7 +29,7 @@ call-room s (code.Stored aid m) h = let k = h .short in let n = bytes-half s aid
 call-room s (code.Finished aid policy mark) h = let k = h .short in let n = bytes-half s aid in omega arith
 call-room s code.Tick h = omega arith
 call-room s code.Lost h = omega arith
-call-room s (code.Policy speaker bytes) h =
+call-room s (code.PolicyUpdate speaker bytes) h =
     let before = h .0 in
     let k = h .1 .1 .short in
     let m = bytes-half s speaker in

@@ -4,16 +4,16 @@ use Prim.Native.Nat.{ℕ, _≤_}
 use mathlib.Core.Path.{_≡_}
 use mathlib.Core.List.{List}
 use lib.ListN.{length}
-use Rattle.script_line.specs.Orders.{mostRoom, orderOf}
+use Rattle.script_line.specs.Orders.{mostBuffer, orderOf}
 use Rattle.script_line.specs.declared.Order.{Order}
 use Rattle.script_line.specs.declared.Order.the-variants as order
-use Rattle.script_reply.specs.Replies.{mostBytes, bytesOf, bytesIn}
+use Rattle.script_reply.specs.Replies.{mostBytes, spelledBytes, bytesIn}
 
 -- the two byte strings of a fresh card have a buffer each, those of a call one together (decision B85)
 abbrev pub HasRoom : List ℕ → Order → Type 0
 HasRoom s order.Nothing = Unit {0}
-HasRoom s (order.Fresh eid aid capacity quota used volatile) = (length (bytesOf s eid) ≤ mostBytes) × (length (bytesOf s aid) ≤ mostBytes)
-HasRoom s (order.Call x room) = (length (bytesIn s x) ≤ mostBytes) × (room ≤ mostRoom)
+HasRoom s (order.Fresh eid aid capacity quota used volatile) = (length (spelledBytes s eid) ≤ mostBytes) × (length (spelledBytes s aid) ≤ mostBytes)
+HasRoom s (order.Call x room) = (length (bytesIn s x) ≤ mostBytes) × (room ≤ mostBuffer)
 HasRoom s (order.Record at) = Unit {0}
 HasRoom s (order.Wrong why) = Unit {0}
 

@@ -14,7 +14,7 @@ use Rattle.base_bytes.specs.Put.{put, Wrote}
 use Rattle.base_bytes.proofs.PutLaws.{put-none}
 use Rattle.card_isdp.specs.Aids.{noAid}
 use Rattle.card_record.specs.Steps.{stepTo}
-use Rattle.card_record.specs.Answers.{Outcome, accepted, refused, settle, handed, soundRow}
+use Rattle.card_record.specs.Answers.{Outcome, accepted, refused, settle, asAnswer, soundRow}
 use Rattle.card_record.specs.Fresh.{zeroCard, freshCard, freshOk, freshOutcome}
 use Rattle.card_record.specs.declared.Card.{Card}
 use Rattle.card_record.specs.declared.Step.{Step}
@@ -26,7 +26,7 @@ use Rattle.script_record.specs.declared.Reading.{Reading}
 use Rattle.script_record.specs.declared.Reading.the-variants as reading
 use Rattle.script_line.specs.declared.Order.{Order}
 use Rattle.script_reply.specs.Reasons.{reasonLine, mostFault}
-use Rattle.script_reply.specs.Replies.{recordOutcome, answerText, firstReply, faultReply, answerTo, Reply, replyBy, lineOf, mostText}
+use Rattle.script_reply.specs.Replies.{recordOutcome, answerText, firstReply, faultReply, answerTo, Reply, replyBy, replyToLine, mostText}
 use Rattle.script_session.specs.Session.{Replied, Used}
 use Rattle.script_session.specs.declared.Turn.{Turn}
 use Rattle.script_session.proofs.Spelled.{replied}
@@ -50,7 +50,7 @@ record-silent c = decided-silent c (wordOf Done (soundRow c ∷ [])) (stepTo c c
 abbrev pub Silently : List ℕ → ℕ → Bool → Answer → Turn → List ℕ → Type 0
 Silently old at explain a r new = (r .card ≡ a .card) × ((r .sound ≡ isDone (a .status)) × ((r .goes ≡ true) × (Wrote old at (answerText explain a []) (r .filled) new × (length (answerText explain a []) ≤ mostText))))
 
-pub first-replied : {old new : List ℕ} {at : ℕ} {a : Answer} {r : Turn} (explain : Bool) (o : Outcome) → o .response ≡ [] → a ≡ handed o → Silently old at explain a r new → Replied old at (firstReply explain o) r new
+pub first-replied : {old new : List ℕ} {at : ℕ} {a : Answer} {r : Turn} (explain : Bool) (o : Outcome) → o .response ≡ [] → a ≡ asAnswer o → Silently old at explain a r new → Replied old at (firstReply explain o) r new
 first-replied explain o none e t =
     replied explain (isDone (o .status)) [] o e (sym none) (t .0) (t .1 .0 ∙ ap (λ (x : Answer). isDone (x .status)) e) (t .1 .1 .0) (t .1 .1 .1 .0) (t .1 .1 .1 .1)
 
@@ -83,8 +83,8 @@ record-unused bytes response c found explain n d reading.Fine = unused bytes res
 -- what `take_line` promises, read off the line's order
 pub as-ordered : {old new bytes response bytes₁ response₁ : List ℕ} {at : ℕ} {r : Turn} (c : Card) (found explain : Bool) (n : ℕ) (s : List ℕ) (o : Order) → o ≡ orderOf s
     → Replied old at (replyBy (answerTo found c) c found explain n s o) r new × Used bytes response (replyBy (answerTo found c) c found explain n s o) bytes₁ response₁
-    → Replied old at (lineOf c found explain n s) r new × Used bytes response (lineOf c found explain n s) bytes₁ response₁
-unfolding lineOf
+    → Replied old at (replyToLine c found explain n s) r new × Used bytes response (replyToLine c found explain n s) bytes₁ response₁
+unfolding replyToLine
 as-ordered {old} {new} {bytes} {response} {bytes₁} {response₁} {at} {r} c found explain n s o e =
     let P : Order → Type 0 = λ x. Replied old at (replyBy (answerTo found c) c found explain n s x) r new × Used bytes response (replyBy (answerTo found c) c found explain n s x) bytes₁ response₁ in
     subst P e

@@ -8,7 +8,7 @@ use Rattle.base_bytes.specs.Put.{put, Wrote}
 use Rattle.card_record.specs.Fresh.{zeroCard}
 use Rattle.record_door.specs.Door.{callOf}
 use Rattle.record_door.specs.declared.Call as declared
-use Rattle.script_reply.specs.Replies.{callIn, bytesIn, Reply, mostText}
+use Rattle.script_reply.specs.Replies.{callSpelled, bytesIn, Reply, mostText}
 use Rattle.script_session.specs.declared.Turn.{Turn}
 
 -- "Calls before the first accepted `fresh` or `card` act on the record of zeros", which is not sound (decision B26)
@@ -16,8 +16,8 @@ abbrev pub firstTurn : Turn
 firstTurn = record { card = zeroCard; sound = false; filled = 0; goes = true }
 
 -- a line's call over the buffer lent for its bytes: it names there the bytes that the line asks for, which stand at the front
-pub record Laid (old s : List ℕ) (x y : declared.Call) (new : List ℕ) : Type 0 where
-  pub same-call : (room : ℕ) → callOf new room y ≡ callIn s room x
+pub record LaidOut (old s : List ℕ) (x y : declared.Call) (new : List ℕ) : Type 0 where
+  pub same-call : (room : ℕ) → callOf new room y ≡ callSpelled s room x
   pub content : new ≡ put old 0 (bytesIn s x)
 
 -- a line as the code hands it out: the text stands in the lent buffer from `at` on

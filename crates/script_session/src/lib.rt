@@ -26,16 +26,16 @@ ghost use Prim.Native.Nat.{_+_, _*_, _≤_};
 ghost use lib.ListN.{length};
 ghost use Rattle.base_bytes.specs.Put.{put, Wrote};
 ghost use Rattle.base_status.specs.StatusWords.{isDone};
-ghost use Rattle.card_record.specs.Answers.{handed};
+ghost use Rattle.card_record.specs.Answers.{asAnswer};
 ghost use Rattle.card_record.specs.Fresh.{freshOutcome};
 ghost use Rattle.record_door.specs.Door.{callOf};
 ghost use Rattle.record_door.specs.Door.{Served};
-ghost use Rattle.record_door.specs.declared.Call.the-variants.{Policy};
+ghost use Rattle.record_door.specs.declared.Call.the-variants.{PolicyUpdate};
 ghost use Rattle.script_record.specs.Records.{onReading, recordAt};
-ghost use Rattle.script_line.specs.Orders.{mostRoom};
+ghost use Rattle.script_line.specs.Orders.{mostBuffer};
 ghost use Rattle.script_answer.specs.Explained.{mostExplained};
-ghost use Rattle.script_reply.specs.Replies.{mostBytes, bytesOf, bytesIn, callIn, recordOutcome, answerText, replyOf, firstReply, silentReply, faultReply, answerTo, lineOf, mostText};
-ghost use Rattle.script_session.specs.Session.{firstTurn, Laid, Replied, Used};
+ghost use Rattle.script_reply.specs.Replies.{mostBytes, spelledBytes, bytesIn, callSpelled, recordOutcome, answerText, replyOf, firstReply, noReply, faultReply, answerTo, replyToLine, mostText};
+ghost use Rattle.script_session.specs.Session.{firstTurn, LaidOut, Replied, Used};
 
 // Where a session stands: its card, whether that card is known to be sound, up to where the lent buffer is filled, and whether the run
 // goes on. Soundness is asked where a card is handed in, and kept: every call leaves a sound card sound. Where it is not known, each
@@ -67,8 +67,8 @@ pub const MOST_BYTES: usize = 2048;
 
 // The bytes that a part of the line spells, written to the front of a lent buffer: the part of the buffer that they are then.
 fn spell(s: &[u8], part: Part, out: &mut [u8]) -> Part
-    requires { ⌜ length (bytesOf (now s) part) ≤ length (now out) ⌝ }
-    ensures { λ r. ⌜ (r ≡ record { start = 0; len = length (bytesOf (now (s .entry)) part) }) × (now (out .exit) ≡ put (now (out .entry)) 0 (bytesOf (now (s .entry)) part)) ⌝ }
+    requires { ⌜ length (spelledBytes (now s) part) ≤ length (now out) ⌝ }
+    ensures { λ r. ⌜ (r ≡ record { start = 0; len = length (spelledBytes (now (s .entry)) part) }) × (now (out .exit) ≡ put (now (out .entry)) 0 (spelledBytes (now (s .entry)) part)) ⌝ }
 {
     let n = spell_hex(part_of(s, part), out);
     Part { start: 0, len: n }
@@ -76,14 +76,14 @@ fn spell(s: &[u8], part: Part, out: &mut [u8]) -> Part
 
 // A policy update over the buffer: the speaker first, and the command after it.
 fn lay_update(s: &[u8], speaker: Part, bytes: Part, out: &mut [u8]) -> Call
-    requires { ⌜ length (bytesIn (now s) (Policy speaker bytes)) ≤ length (now out) ⌝ }
-    ensures { λ r. ⌜ Laid (now (out .entry)) (now (s .entry)) (Policy speaker bytes) r (now (out .exit)) ⌝ }
+    requires { ⌜ length (bytesIn (now s) (PolicyUpdate speaker bytes)) ≤ length (now out) ⌝ }
+    ensures { λ r. ⌜ LaidOut (now (out .entry)) (now (s .entry)) (PolicyUpdate speaker bytes) r (now (out .exit)) ⌝ }
 {
     let first = spell(s, speaker, out);
     let m = first.len;
     let second = spell(s, bytes, &mut out[m..]);
     let n = second.len;
-    Call::Policy {
+    Call::PolicyUpdate {
         speaker: first,
         bytes: Part { start: m, len: n },
     }
@@ -92,7 +92,7 @@ fn lay_update(s: &[u8], speaker: Part, bytes: Part, out: &mut [u8]) -> Call
 // The line's call over the buffer that the bytes of its words are written to.
 fn lay(s: &[u8], call: Call, out: &mut [u8]) -> Call
     requires { ⌜ length (bytesIn (now s) call) ≤ length (now out) ⌝ }
-    ensures { λ r. ⌜ Laid (now (out .entry)) (now (s .entry)) call r (now (out .exit)) ⌝ }
+    ensures { λ r. ⌜ LaidOut (now (out .entry)) (now (s .entry)) call r (now (out .exit)) ⌝ }
 {
     match call {
         Call::Command { verdict, bytes } => Call::Command {
@@ -111,7 +111,7 @@ fn lay(s: &[u8], call: Call, out: &mut [u8]) -> Call
         },
         Call::Tick => Call::Tick,
         Call::Lost => Call::Lost,
-        Call::Policy { speaker, bytes } => lay_update(s, speaker, bytes, out),
+        Call::PolicyUpdate { speaker, bytes } => lay_update(s, speaker, bytes, out),
     }
 }
 
@@ -124,8 +124,8 @@ fn fresh(
     used: u32,
     volatile: u32,
 ) -> Answer
-    requires { ⌜ (length (bytesOf (now s) eid) ≤ mostBytes) × (length (bytesOf (now s) aid) ≤ mostBytes) ⌝ }
-    ensures { λ r. ⌜ r ≡ handed (freshOutcome (bytesOf (now (s .entry)) eid) (bytesOf (now (s .entry)) aid) capacity quota used volatile) ⌝ }
+    requires { ⌜ (length (spelledBytes (now s) eid) ≤ mostBytes) × (length (spelledBytes (now s) aid) ≤ mostBytes) ⌝ }
+    ensures { λ r. ⌜ r ≡ asAnswer (freshOutcome (spelledBytes (now (s .entry)) eid) (spelledBytes (now (s .entry)) aid) capacity quota used volatile) ⌝ }
 {
     let mut first = [0u8; MOST_BYTES];
     let m = spell(s, eid, &mut first);
@@ -143,7 +143,7 @@ fn fresh(
 
 // Any record, handed in as the card.
 fn hand_in(card: Card) -> Answer
-    ensures { λ r. ⌜ r ≡ handed (recordOutcome card) ⌝ }
+    ensures { λ r. ⌜ r ≡ asAnswer (recordOutcome card) ⌝ }
 {
     if !card.is_sound() {
         return card.unsound();
@@ -201,8 +201,8 @@ fn call_reply(
     response: &mut [u8],
     out: &mut [u8],
 ) -> Turn
-    requires { ⌜ ((length (bytesIn (now s) call) ≤ mostBytes) × (room ≤ mostRoom)) × ((length (now bytes) ≡ mostBytes) × (length (now response) ≡ mostRoom)) ⌝ }
-    ensures { λ r. ⌜ Replied (now (out .entry)) (turn .filled) (replyOf explain (turn .sound) (bytesIn (now (s .entry)) call) (answerTo (turn .sound) (turn .card) (callIn (now (s .entry)) room call))) r (now (out .exit)) × Used (now (bytes .entry)) (now (response .entry)) (replyOf explain (turn .sound) (bytesIn (now (s .entry)) call) (answerTo (turn .sound) (turn .card) (callIn (now (s .entry)) room call))) (now (bytes .exit)) (now (response .exit)) ⌝ }
+    requires { ⌜ ((length (bytesIn (now s) call) ≤ mostBytes) × (room ≤ mostBuffer)) × ((length (now bytes) ≡ mostBytes) × (length (now response) ≡ mostBuffer)) ⌝ }
+    ensures { λ r. ⌜ Replied (now (out .entry)) (turn .filled) (replyOf explain (turn .sound) (bytesIn (now (s .entry)) call) (answerTo (turn .sound) (turn .card) (callSpelled (now (s .entry)) room call))) r (now (out .exit)) × Used (now (bytes .entry)) (now (response .entry)) (replyOf explain (turn .sound) (bytesIn (now (s .entry)) call) (answerTo (turn .sound) (turn .card) (callSpelled (now (s .entry)) room call))) (now (bytes .exit)) (now (response .exit)) ⌝ }
 {
     let card = turn.card;
     let laid = lay(s, call, bytes);
@@ -262,7 +262,7 @@ pub fn take_line(
     response: &mut [u8; MOST_ROOM],
     out: &mut [u8],
 ) -> Turn
-    ensures { λ r. ⌜ Replied (now (out .entry)) (turn .filled) (lineOf (turn .card) (turn .sound) explain number (now (s .entry))) r (now (out .exit)) × Used (now (bytes .entry)) (now (response .entry)) (lineOf (turn .card) (turn .sound) explain number (now (s .entry))) (now (bytes .exit)) (now (response .exit)) ⌝ }
+    ensures { λ r. ⌜ Replied (now (out .entry)) (turn .filled) (replyToLine (turn .card) (turn .sound) explain number (now (s .entry))) r (now (out .exit)) × Used (now (bytes .entry)) (now (response .entry)) (replyToLine (turn .card) (turn .sound) explain number (now (s .entry))) (now (bytes .exit)) (now (response .exit)) ⌝ }
 {
     let order = read_line(s);
     match order {

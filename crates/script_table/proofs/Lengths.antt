@@ -15,7 +15,7 @@ use Rattle.text_words.proofs.ColumnLaws.{spaces-length, column-length}
 use Rattle.card_isdp.specs.declared.Isdp.{Isdp}
 use Rattle.card_record.specs.declared.Card.{Card}
 use Rattle.script_table.specs.Profiles.{stateText, yesText, provisioningText, policyText, nameCells, figureCells, roleCells, rowText}
-use Rattle.script_table.specs.Profiles.{placeText, rowsText, widestOf, headText, tableText, mostRow}
+use Rattle.script_table.specs.Profiles.{placeText, rowsText, widestOf, tableHead, tableText, mostTableRow}
 
 pub state-wide : (life : ℕ) → length (stateText life) ≡ 12
 unfolding stateText
@@ -67,14 +67,14 @@ role-length p place holder =
     simp length-append
     (omega (arith, yes-wide (eqb place holder) 6, provisioning-wide (p .mark), policy-length (p .policy)))
 
-place-length : (p : Isdp) (place holder widest : ℕ) → length (aidOf p) ≤ widest → widest ≤ 16 → length (placeText p place holder widest) ≤ mostRow
+place-length : (p : Isdp) (place holder widest : ℕ) → length (aidOf p) ≤ widest → widest ≤ 16 → length (placeText p place holder widest) ≤ mostTableRow
 unfolding placeText rowText
 place-length p place holder widest h k =
-    by-eq (λ (l : List ℕ). length l ≤ mostRow) (p .aid .len) 0 (λ e. omega arith)
+    by-eq (λ (l : List ℕ). length l ≤ mostTableRow) (p .aid .len) 0 (λ e. omega arith)
     (λ e. simp length-append (omega (arith, name-length p place widest h k, figure-length p, role-length p place holder)))
 
 rows-length : (holder widest place : ℕ) (l : List Isdp) → widestOf l ≤ widest → widest ≤ 16
-    → length (rowsText holder widest place l) ≤ length l * mostRow
+    → length (rowsText holder widest place l) ≤ length l * mostTableRow
 unfolding rowsText widestOf
 rows-length holder widest place [] h k = omega arith
 rows-length holder widest place (p ∷ ps) h k =
@@ -82,13 +82,13 @@ rows-length holder widest place (p ∷ ps) h k =
     let f = rows-length holder widest (suc place) ps (omega arith) k in
     simp length-append (omega arith)
 
-head-length : (widest : ℕ) → widest ≤ 16 → length (headText widest) ≤ 107
-unfolding headText
+head-length : (widest : ℕ) → widest ≤ 16 → length (tableHead widest) ≤ 107
+unfolding tableHead
 head-length widest h =
     by-eq (λ (l : List ℕ). length l ≤ 107) widest 0 (λ e. omega arith)
     (λ e. simp (length-append, spaces-length) (omega arith))
 
-pub table-length : (c : Card) → widestOf (c .places) ≤ 16 → length (tableText c) ≤ length (c .places) * mostRow + 107
+pub table-length : (c : Card) → widestOf (c .places) ≤ 16 → length (tableText c) ≤ length (c .places) * mostTableRow + 107
 unfolding tableText
 table-length c h =
     simp length-append

@@ -70,8 +70,8 @@ unfoldable pub placeText : Isdp → ℕ → ℕ → ℕ → List ℕ
 placeText p place holder widest = pick (isSame (p .aid .len) 0) [] (rowText p place holder widest)
 
 -- a row has 190 bytes at the most, where a number has 64 bits
-abbrev pub mostRow : ℕ
-mostRow = 190
+abbrev pub mostTableRow : ℕ
+mostTableRow = 190
 
 -- the rows of these places, the first of which has the number `place`
 unfoldable pub rowsText : ℕ → ℕ → ℕ → List Isdp → List ℕ
@@ -90,16 +90,16 @@ unfoldable pub widestOf : List Isdp → ℕ
 widestOf [] = 0
 widestOf (p ∷ ps) = max (length (aidOf p)) (widestOf ps)
 
-unfoldable pub headText : ℕ → List ℕ
-headText widest =
+unfoldable pub tableHead : ℕ → List ℕ
+tableHead widest =
     pick (isSame widest 0) (text "  no profile is held\n")
     (text "  place  AID"
     ++ spaces (widest * 2 - 3)
     ++ text "  state           quota     used  fall-back  provisioning  policy\n")
 
 unfoldable pub tableText : Card → List ℕ
-tableText c = headText (widestOf (c .places)) ++ rowsText (c .fallback) (widestOf (c .places)) 0 (c .places)
+tableText c = tableHead (widestOf (c .places)) ++ rowsText (c .fallback) (widestOf (c .places)) 0 (c .places)
 
 -- the head, and a row for each place
 abbrev pub mostTable : ℕ
-mostTable = mostPlaces * mostRow + 107
+mostTable = mostPlaces * mostTableRow + 107

@@ -20,7 +20,7 @@ ghost use Prim.Native.Nat.{_-_, _*_, _≤_};
 ghost use lib.ListN.{length};
 ghost use Rattle.base_bytes.specs.Put.{Wrote};
 ghost use Rattle.text_words.specs.Columns.{spaces};
-ghost use Rattle.script_table.specs.Profiles.{nameCells, figureCells, roleCells, rowText, placeText, rowsText, widestOf, headText, tableText, mostTable};
+ghost use Rattle.script_table.specs.Profiles.{nameCells, figureCells, roleCells, rowText, placeText, rowsText, widestOf, tableHead, tableText, mostTable};
 
 // The spaces after an AID of n bytes in a column for the widest.
 fn put_gap(widest: u8, n: u8, buf: &mut [u8], at: usize) -> usize
@@ -97,7 +97,7 @@ fn widest(places: [Isdp; PLACES]) -> u8
 }
 
 fn put_head(widest: u8, buf: &mut [u8], at: usize) -> usize
-    ensures { λ r. ⌜ Wrote (now (buf .entry)) at (headText widest) r (now (buf .exit)) ⌝ }
+    ensures { λ r. ⌜ Wrote (now (buf .entry)) at (tableHead widest) r (now (buf .exit)) ⌝ }
 {
     if widest == 0 {
         return put_bytes(buf, at, b"  no profile is held\n");

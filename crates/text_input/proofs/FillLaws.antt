@@ -8,13 +8,13 @@ use lib.ListN.{length, take, drop, length-append}
 use lib.Seq.{take-append-seam, take-append-le, take-append-add}
 use Rattle.base_bytes.specs.Put.{put, after}
 use Rattle.base_bytes.proofs.PutLaws.{put-front, after-fits}
-use Rattle.text_lines.specs.Window.{heldOf, keptOf, grownOf}
+use Rattle.text_lines.specs.Window.{heldOf, movedDown, grownOf}
 use Rattle.text_lines.specs.declared.Window.{Window}
 use Rattle.text_lines.specs.Cuts.{read}
 use Rattle.text_input.specs.Filled.{FilledReads}
 use Rattle.text_lines.proofs.Cuts.{held-le}
 
-module _ (w : Window) (buf : List ℕ) (v : Window) (k : List ℕ) (p : v ≡ keptOf w buf) (q : k ≡ put buf 0 (heldOf w buf)) where
+module _ (w : Window) (buf : List ℕ) (v : Window) (k : List ℕ) (p : v ≡ movedDown w buf) (q : k ≡ put buf 0 (heldOf w buf)) where
   pub kept-front : take (v .end) k ≡ heldOf w buf
   kept-front =
       ap (λ (x : Window). take (x .end) k) p

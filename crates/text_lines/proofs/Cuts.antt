@@ -13,8 +13,8 @@ use Rattle.text_words.specs.Words.{before, part}
 use Rattle.base_bytes.specs.Put.{put, after}
 use Rattle.base_bytes.proofs.PutLaws.{put-put, put-front, length-put, after-fits}
 use Rattle.text_lines.specs.Lines.{Line, Whole}
-use Rattle.text_lines.specs.Window.{nextOf, heldOf, freshWindow}
-use Rattle.text_lines.specs.Cuts.{handed, drained, drainedTo, readBuffer, readWindow, steps, linesBy, AtMost, one, AnyCut, AnswersAtOnce, Settled, Session, over, step, read, AnySession}
+use Rattle.text_lines.specs.Window.{nextLine, heldOf, freshWindow}
+use Rattle.text_lines.specs.Cuts.{handedOut, drained, drainedTo, readBuffer, readWindow, steps, linesBy, ReadsAtMost, one, AnyCut, AnswersAtOnce, Settled, Session, over, step, read, AnySession}
 use Rattle.text_lines.specs.declared.Window.{Window}
 use Rattle.text_lines.specs.declared.Step.{Step}
 use Rattle.text_lines.specs.declared.Found.{Found}
@@ -34,7 +34,7 @@ part-take l n a e h =
     let k : e ≤ n = omega arith in
     sym (drop-part a e (take n l)) ∙ ap (drop a) (take-take e n l k) ∙ drop-part a e l
 
-handed-take : (l : List ℕ) (n : ℕ) (x : Found) → Inside (length (take n l)) x → handed (take n l) x ≡ handed l x
+handed-take : (l : List ℕ) (n : ℕ) (x : Found) → Inside (length (take n l)) x → handedOut (take n l) x ≡ handedOut l x
 handed-take l n (found-as.Line a e) h = ap (λ (x : List ℕ). Whole x ∷ []) (part-take l n a e (h .1))
 handed-take l n found-as.TooLong h = refl
 handed-take l n found-as.More h = refl
@@ -48,24 +48,24 @@ inside-more n m found-as.End h i = tt
 
 -- one step of a window
 module _ (w : Window) (buf : List ℕ) (last : Bool) where
-  step-held : heldOf (nextOf w buf last .window) buf ≡ drop (nextOf w buf last .window .at) (take (w .end) buf)
+  step-held : heldOf (nextLine w buf last .window) buf ≡ drop (nextLine w buf last .window .at) (take (w .end) buf)
   step-held =
       let r = step-right (take (w .end) buf) (w .at) (w .skipping) last in
-      ap (λ (n : ℕ). drop (nextOf w buf last .window .at) (take n buf)) (r .ends ∙ length-take (w .end) buf)
-      ∙ ap (drop (nextOf w buf last .window .at)) (take-least (w .end) buf)
+      ap (λ (n : ℕ). drop (nextLine w buf last .window .at) (take n buf)) (r .ends ∙ length-take (w .end) buf)
+      ∙ ap (drop (nextLine w buf last .window .at)) (take-least (w .end) buf)
 
-  pub next-hands : (f : List ℕ) → (last ≡ true → f ≡ []) → ahead w buf f ≡ handed buf (nextOf w buf last .found) ++ ahead (nextOf w buf last .window) buf f
+  pub next-hands : (f : List ℕ) → (last ≡ true → f ≡ []) → ahead w buf f ≡ handedOut buf (nextLine w buf last .found) ++ ahead (nextLine w buf last .window) buf f
   next-hands f g =
       let r = step-right (take (w .end) buf) (w .at) (w .skipping) last in
-      let n : Window = nextOf w buf last .window in
+      let n : Window = nextLine w buf last .window in
       r .hands f g
-      ∙ ap (λ (x : List Line). x ++ toCome (n .skipping) (drop (n .at) (take (w .end) buf) ++ f)) (handed-take buf (w .end) (nextOf w buf last .found) (r .inside))
-      ∙ ap (λ (x : List ℕ). handed buf (nextOf w buf last .found) ++ toCome (n .skipping) (x ++ f)) (sym step-held)
+      ∙ ap (λ (x : List Line). x ++ toCome (n .skipping) (drop (n .at) (take (w .end) buf) ++ f)) (handed-take buf (w .end) (nextLine w buf last .found) (r .inside))
+      ∙ ap (λ (x : List ℕ). handedOut buf (nextLine w buf last .found) ++ toCome (n .skipping) (x ++ f)) (sym step-held)
 
-  next-falls : length (heldOf (nextOf w buf last .window) buf) ≤ 4096 + (length (heldOf w buf) - 4097)
+  next-falls : length (heldOf (nextLine w buf last .window) buf) ≤ 4096 + (length (heldOf w buf) - 4097)
   next-falls = rw step-held (step-right (take (w .end) buf) (w .at) (w .skipping) last .falls)
 
-  next-falls-last : last ≡ true → length (heldOf (nextOf w buf last .window) buf) ≤ length (heldOf w buf) - 1
+  next-falls-last : last ≡ true → length (heldOf (nextLine w buf last .window) buf) ≤ length (heldOf w buf) - 1
   next-falls-last e = rw step-held (step-right (take (w .end) buf) (w .at) (w .skipping) last .falls-last e)
 
 -- any number of steps
@@ -73,8 +73,8 @@ pub drained-hands : (n : ℕ) (w : Window) (buf : List ℕ) (last : Bool) (f : L
 unfolding drained drainedTo
 drained-hands zero w buf last f g = refl
 drained-hands (suc n) w buf last f g =
-    let v : Window = nextOf w buf last .window in
-    let h : List Line = handed buf (nextOf w buf last .found) in
+    let v : Window = nextLine w buf last .window in
+    let h : List Line = handedOut buf (nextLine w buf last .found) in
     next-hands w buf last f g
     ∙ ap (λ (x : List Line). h ++ x) (drained-hands n v buf last f g)
     ∙ sym (append-assoc h (drained n last v buf) (ahead (drainedTo n last v buf) buf f))
@@ -83,12 +83,12 @@ drained-hands (suc n) w buf last f g =
 pub drained-short : (n : ℕ) (w : Window) (buf : List ℕ) → length (heldOf w buf) ≤ n + 4096 → length (heldOf (drainedTo n false w buf) buf) ≤ 4096
 unfolding drainedTo
 drained-short zero w buf h = omega arith
-drained-short (suc n) w buf h = let k = next-falls w buf false in drained-short n (nextOf w buf false .window) buf (omega arith)
+drained-short (suc n) w buf h = let k = next-falls w buf false in drained-short n (nextLine w buf false .window) buf (omega arith)
 
 pub drained-all : (n : ℕ) (w : Window) (buf : List ℕ) → length (heldOf w buf) ≤ n → length (heldOf (drainedTo n true w buf) buf) ≤ 0
 unfolding drainedTo
 drained-all zero w buf h = h
-drained-all (suc n) w buf h = let k = next-falls-last w buf true refl in drained-all n (nextOf w buf true .window) buf (omega arith)
+drained-all (suc n) w buf h = let k = next-falls-last w buf true refl in drained-all n (nextLine w buf true .window) buf (omega arith)
 
 pub held-le : (w : Window) (buf : List ℕ) → length (heldOf w buf) ≤ length buf
 held-le w buf = simp (length-drop, length-take) (omega arith)
@@ -112,7 +112,7 @@ none-left false [] h = lines-none
 none-left true [] h = lines-none
 none-left skipping (c ∷ cs) h = absurd (omega arith)
 
-cuts : (n : ℕ) (w : Window) (buf : List ℕ) (reads : List (List ℕ)) → AtMost n reads → n + 4096 ≤ length buf → linesBy w buf reads ≡ ahead w buf (flatten reads)
+cuts : (n : ℕ) (w : Window) (buf : List ℕ) (reads : List (List ℕ)) → ReadsAtMost n reads → n + 4096 ≤ length buf → linesBy w buf reads ≡ ahead w buf (flatten reads)
 unfolding linesBy flatten
 cuts n w buf [] a h =
     let v : Window = drainedTo (steps buf) true w buf in
@@ -146,14 +146,14 @@ settled-end last found-as.End t h s = s .1
 
 sessions : {w : Window} {buf input : List ℕ} {ls : List Line} → Session w buf input ls → ls ≡ ahead w buf input
 sessions (over {w} {buf} h) =
-    let v : Window = nextOf w buf true .window in
-    let t : heldOf v buf ≡ [] = settled-end true (nextOf w buf true .found) (heldOf v buf) h (answers-at-once w buf true) in
+    let v : Window = nextLine w buf true .window in
+    let t : heldOf v buf ≡ [] = settled-end true (nextLine w buf true .found) (heldOf v buf) h (answers-at-once w buf true) in
     let z : length (heldOf v buf) ≤ 0 = rw t (omega arith) in
     sym
     (next-hands w buf true [] (λ e. refl)
-    ∙ ap (λ (x : Found). handed buf x ++ ahead v buf []) h
+    ∙ ap (λ (x : Found). handedOut buf x ++ ahead v buf []) h
     ∙ none-left (v .skipping) (heldOf v buf) z)
-sessions (step {w} {buf} {input} last g p) = ap (λ (x : List Line). handed buf (nextOf w buf last .found) ++ x) (sessions p) ∙ sym (next-hands w buf last input g)
+sessions (step {w} {buf} {input} last g p) = ap (λ (x : List Line). handedOut buf (nextLine w buf last .found) ++ x) (sessions p) ∙ sym (next-hands w buf last input g)
 sessions (read {w} {v} {buf} {after} {input} bytes h k p) =
     sessions p
     ∙ ap (λ (x : List ℕ). toCome (v .skipping) (x ++ input)) h
@@ -164,8 +164,8 @@ pub any-session : AnySession
 any-session buf input lines p = sessions p
 
 -- a line lies inside the buffer
-pub next-inside : (w : Window) (buf : List ℕ) (last : Bool) → Inside (length buf) (nextOf w buf last .found)
-next-inside w buf last = (let l = length-take (w .end) buf in inside-more (length (take (w .end) buf)) (length buf) (nextOf w buf last .found) (omega arith)) (step-right (take (w .end) buf) (w .at) (w .skipping) last .inside)
+pub next-inside : (w : Window) (buf : List ℕ) (last : Bool) → Inside (length buf) (nextLine w buf last .found)
+next-inside w buf last = (let l = length-take (w .end) buf in inside-more (length (take (w .end) buf)) (length buf) (nextLine w buf last .found) (omega arith)) (step-right (take (w .end) buf) (w .at) (w .skipping) last .inside)
 
-pub line-inside : (w : Window) (buf : List ℕ) (last : Bool) {r : Step} {a e : ℕ} → r ≡ nextOf w buf last → r .found ≡ found-as.Line a e → (a ≤ e) × (e ≤ length buf)
+pub line-inside : (w : Window) (buf : List ℕ) (last : Bool) {r : Step} {a e : ℕ} → r ≡ nextLine w buf last → r .found ≡ found-as.Line a e → (a ≤ e) × (e ≤ length buf)
 line-inside w buf last {r} {a} {e} p q = subst (Inside (length buf)) (ap (λ (x : Step). x .found) (sym p) ∙ q) (next-inside w buf last)

@@ -12,9 +12,9 @@ use Rattle.base_choice.specs.Choice.{pick}
 use Rattle.text_words.specs.Words.{before, part}
 use Rattle.text_words.proofs.WordLists.{before-le}
 use Rattle.base_choice.proofs.Branches.{each, by-lt, by-le, lt!, nlt! }
-use Rattle.text_lines.specs.Lines.{Line, TooLong, lineOf, linesOf}
-use Rattle.text_lines.specs.Window.{windowOf, gives, found, idle, tailFrom, stopFrom, lineFrom, stepOf}
-use Rattle.text_lines.specs.Cuts.{handed, Settled}
+use Rattle.text_lines.specs.Lines.{Line, TooLong, lineRead, linesOf}
+use Rattle.text_lines.specs.Window.{windowOf, gives, foundLine, noneLeft, unended, stopFrom, lineFrom, stepFrom}
+use Rattle.text_lines.specs.Cuts.{handedOut, Settled}
 use Rattle.text_lines.specs.declared.Found.{Found}
 use Rattle.text_lines.specs.declared.Found.the-variants as found-as
 use Rattle.text_lines.specs.declared.Step.{Step}
@@ -33,7 +33,7 @@ Inside n found-as.More = Unit {0}
 Inside n found-as.End = Unit {0}
 
 pub record Right (s : List ℕ) (at : ℕ) (skipping last : Bool) (r : Step) : Type 0 where
-  pub hands : (f : List ℕ) → (last ≡ true → f ≡ []) → toCome skipping (drop at s ++ f) ≡ handed s (r .found) ++ toCome (r .window .skipping) (drop (r .window .at) s ++ f)
+  pub hands : (f : List ℕ) → (last ≡ true → f ≡ []) → toCome skipping (drop at s ++ f) ≡ handedOut s (r .found) ++ toCome (r .window .skipping) (drop (r .window .at) s ++ f)
   pub inside : Inside (length s) (r .found)
   pub settled : Settled last (r .found) (drop (r .window .at) s)
   pub ends : r .window .end ≡ length s
@@ -44,20 +44,20 @@ pub record Right (s : List ℕ) (at : ℕ) (skipping last : Bool) (r : Step) : T
 part-length : (s : List ℕ) (a e : ℕ) → a ≤ e → e ≤ length s → length (part s a e) ≡ e - a
 part-length s a e h k = simp (length-take, length-drop) (omega arith)
 
-handed-found : (s : List ℕ) (a e : ℕ) → a ≤ e → e ≤ length s → handed s (found a e) ≡ lineOf (part s a e) ∷ []
-unfolding lineOf found
+handed-found : (s : List ℕ) (a e : ℕ) → a ≤ e → e ≤ length s → handedOut s (foundLine a e) ≡ lineRead (part s a e) ∷ []
+unfolding lineRead foundLine
 handed-found s a e h k =
     let n = part-length s a e h k in
-    by-lt (λ (x : Found). handed s x ≡ lineOf (part s a e) ∷ []) 4096 (e - a)
+    by-lt (λ (x : Found). handedOut s x ≡ lineRead (part s a e) ∷ []) 4096 (e - a)
     (λ l. let j : 4096 < length (part s a e) = omega arith in ap (λ (x : Line). x ∷ []) (lt! _ j refl))
     (λ l. let j : length (part s a e) ≤ 4096 = omega arith in ap (λ (x : Line). x ∷ []) (nlt! _ j refl))
 
-inside-found : (n a e : ℕ) → a ≤ e → e ≤ n → Inside n (found a e)
-unfolding found
+inside-found : (n a e : ℕ) → a ≤ e → e ≤ n → Inside n (foundLine a e)
+unfolding foundLine
 inside-found n a e h k = by-lt (Inside n) 4096 (e - a) (λ l. tt) (λ l. (h, k))
 
-settled-found : (last : Bool) (a e : ℕ) (t : List ℕ) → Settled last (found a e) t
-unfolding found
+settled-found : (last : Bool) (a e : ℕ) (t : List ℕ) → Settled last (foundLine a e) t
+unfolding foundLine
 settled-found last a e t = by-lt (λ (x : Found). Settled last x t) 4096 (e - a) (λ l. tt) (λ l. tt)
 
 none-before : (s : List ℕ) → before 10 (drop (length s) s) ≡ length (drop (length s) s)
@@ -68,15 +68,15 @@ end-length : (s : List ℕ) → length (drop (length s) s) ≡ 0
 end-length s = ap length (drop-length s)
 
 -- nothing is left, and what was left does not count
-idle-right : (s : List ℕ) (at : ℕ) (skipping last : Bool) → ((f : List ℕ) → toCome skipping (drop at s ++ f) ≡ toCome skipping f) → Right s at skipping last (idle (length s) skipping last)
-unfolding idle
+idle-right : (s : List ℕ) (at : ℕ) (skipping last : Bool) → ((f : List ℕ) → toCome skipping (drop at s ++ f) ≡ toCome skipping f) → Right s at skipping last (noneLeft (length s) skipping last)
+unfolding noneLeft
 idle-right s at skipping last p =
     let z = end-length s in
     record {
       hands = λ f g.
           p f
           ∙ ap (λ (x : List ℕ). toCome skipping (x ++ f)) (sym (drop-length s))
-          ∙ ap (λ (x : List Line). x ++ toCome skipping (drop (length s) s ++ f)) (each (λ (x : Found). [] ≡ handed s x) last (λ e. refl) (λ e. refl));
+          ∙ ap (λ (x : List Line). x ++ toCome skipping (drop (length s) s ++ f)) (each (λ (x : Found). [] ≡ handedOut s x) last (λ e. refl) (λ e. refl));
       inside = each (Inside (length s)) last (λ e. tt) (λ e. tt);
       settled = each (λ (x : Found). Settled last x (drop (length s) s)) last (λ e. (e, drop-length s)) (λ e. (e, (none-before s, omega arith)));
       ends = refl;
@@ -87,7 +87,7 @@ idle-right s at skipping last p =
 module _ (s : List ℕ) (from : ℕ) (last : Bool) where
   -- what stands from `from` on holds no LF
   module _ (none : before 10 (drop from s) ≡ length (drop from s)) (h : from < length s) where
-    last-right : last ≡ true → Right s from false last (gives (windowOf (length s) (length s) false) (found from (length s)))
+    last-right : last ≡ true → Right s from false last (gives (windowOf (length s) (length s) false) (foundLine from (length s)))
     last-right e =
         let z = end-length s in
         let n = length-drop from s in
@@ -95,10 +95,10 @@ module _ (s : List ℕ) (from : ℕ) (last : Bool) where
         let m : length s ≤ length s = omega arith in
         let j : 0 < length (drop from s) = omega arith in
         let q : length (drop from s) ≤ length s - from = omega arith in
-        let one : linesOf (drop from s) ≡ handed s (found from (length s)) =
+        let one : linesOf (drop from s) ≡ handedOut s (foundLine from (length s)) =
         lines-last (drop from s) none
         ∙ last-some (drop from s) j
-        ∙ ap (λ (x : List ℕ). lineOf x ∷ []) (sym (take-all (length s - from) (drop from s) q))
+        ∙ ap (λ (x : List ℕ). lineRead x ∷ []) (sym (take-all (length s - from) (drop from s) q))
         ∙ sym (handed-found s from (length s) k m)
         in
         let rest : linesOf (drop (length s) s ++ []) ≡ [] = ap (λ (x : List ℕ). linesOf (x ++ [])) (drop-length s) ∙ lines-none in
@@ -107,8 +107,8 @@ module _ (s : List ℕ) (from : ℕ) (last : Bool) where
               ap (λ (x : List ℕ). linesOf (drop from s ++ x)) (g e)
               ∙ ap linesOf (append-nil (drop from s))
               ∙ one
-              ∙ sym (append-nil (handed s (found from (length s))))
-              ∙ ap (λ (x : List Line). handed s (found from (length s)) ++ x) (sym rest ∙ ap (λ (x : List ℕ). linesOf (drop (length s) s ++ x)) (sym (g e)));
+              ∙ sym (append-nil (handedOut s (foundLine from (length s))))
+              ∙ ap (λ (x : List Line). handedOut s (foundLine from (length s)) ++ x) (sym rest ∙ ap (λ (x : List ℕ). linesOf (drop (length s) s ++ x)) (sym (g e)));
           inside = inside-found (length s) from (length s) k m;
           settled = settled-found last from (length s) (drop (length s) s);
           ends = refl;
@@ -142,8 +142,8 @@ module _ (s : List ℕ) (from : ℕ) (last : Bool) where
           falls-last = λ x. let z : _≡_ {A = ℕ} 0 1 = cc in absurd (omega arith);
         }
 
-  tail-right : before 10 (drop from s) ≡ length (drop from s) → Right s from false last (tailFrom s from last)
-  unfolding tailFrom
+  tail-right : before 10 (drop from s) ≡ length (drop from s) → Right s from false last (unended s from last)
+  unfolding unended
   tail-right none =
       by-le (Right s from false last) (length s) from
       (λ h. idle-right s from false last (λ f. ap (λ (x : List ℕ). linesOf (x ++ f)) (drop-of-length-le s h)))
@@ -152,7 +152,7 @@ module _ (s : List ℕ) (from : ℕ) (last : Bool) where
       (last-right none h)
       (λ e. by-lt (Right s from false last) 4096 (length s - from) (long-right none h e) (wait-right none h e)))
 
-  cut-right : stopFrom s from < length s → Right s from false last (gives (windowOf (stopFrom s from + 1) (length s) false) (found from (stopFrom s from)))
+  cut-right : stopFrom s from < length s → Right s from false last (gives (windowOf (stopFrom s from + 1) (length s) false) (foundLine from (stopFrom s from)))
   unfolding stopFrom
   cut-right h =
       let n : ℕ = before 10 (drop from s) in
@@ -163,13 +163,13 @@ module _ (s : List ℕ) (from : ℕ) (last : Bool) where
       let m : from + n ≤ length s = omega arith in
       let a : n ≡ from + n - from = omega arith in
       let b : from + suc n ≡ from + n + 1 = omega arith in
-      let one : lineOf (take n (drop from s)) ∷ [] ≡ handed s (found from (from + n)) =
-      ap (λ (i : ℕ). lineOf (take i (drop from s)) ∷ []) a ∙ sym (handed-found s from (from + n) k m)
+      let one : lineRead (take n (drop from s)) ∷ [] ≡ handedOut s (foundLine from (from + n)) =
+      ap (λ (i : ℕ). lineRead (take i (drop from s)) ∷ []) a ∙ sym (handed-found s from (from + n) k m)
       in
       record {
         hands = λ f g.
             lines-in (drop from s) f j
-            ∙ ap (λ (x : List ℕ). lineOf (take n (drop from s)) ∷ linesOf (x ++ f)) (drop-drop (suc n) from s ∙ ap (λ (i : ℕ). drop i s) b)
+            ∙ ap (λ (x : List ℕ). lineRead (take n (drop from s)) ∷ linesOf (x ++ f)) (drop-drop (suc n) from s ∙ ap (λ (i : ℕ). drop i s) b)
             ∙ ap (λ (x : List Line). x ++ linesOf (drop (from + n + 1) s ++ f)) one;
         inside = inside-found (length s) from (from + n) k m;
         settled = settled-found last from (from + n) (drop (from + n + 1) s);
@@ -205,8 +205,8 @@ past-right s at last h p =
       falls-last = λ e. let y = p .falls-last e in omega arith;
     }
 
-pub step-right : (s : List ℕ) (at : ℕ) (skipping last : Bool) → Right s at skipping last (stepOf s at skipping last)
-unfolding stepOf pick
+pub step-right : (s : List ℕ) (at : ℕ) (skipping last : Bool) → Right s at skipping last (stepFrom s at skipping last)
+unfolding stepFrom pick
 step-right s at false last = line-right s at last
 step-right s at true last =
     by-le (Right s at true last) (length s) (stopFrom s at)

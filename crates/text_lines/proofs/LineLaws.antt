@@ -10,7 +10,7 @@ use lib.Seq.{take-append-le, take-append-add, drop-append-le, drop-append-add}
 use Rattle.text_words.specs.Words.{before}
 use Rattle.text_words.proofs.WordLists.{before-found, before-other, before-le}
 use Rattle.base_choice.proofs.Branches.{on-eq, on-lt, eq!, ne!, lt! }
-use Rattle.text_lines.specs.Lines.{Line, TooLong, lineOf, lastOf, linesOn, linesOf}
+use Rattle.text_lines.specs.Lines.{Line, TooLong, lineRead, lastOf, linesOn, linesOf}
 
 module _ (b : ℕ) where
   -- what follows does not matter where b was found; where not, the search goes on in it
@@ -29,7 +29,7 @@ module _ (b : ℕ) where
       (λ e. let m = before-other b c cs e in let k = before-on cs f (omega arith) in before-other b c (cs ++ f) e ∙ omega arith)
 
 -- a text with LF: its first line, and the lines after it
-lines-on-cut : (line t : List ℕ) → before 10 t < length t → linesOn line t ≡ lineOf (line ++ take (before 10 t) t) ∷ linesOf (drop (suc (before 10 t)) t)
+lines-on-cut : (line t : List ℕ) → before 10 t < length t → linesOn line t ≡ lineRead (line ++ take (before 10 t) t) ∷ linesOf (drop (suc (before 10 t)) t)
 unfolding linesOn linesOf
 lines-on-cut line [] h = absurd (omega arith)
 lines-on-cut line (c ∷ cs) h =
@@ -37,7 +37,7 @@ lines-on-cut line (c ∷ cs) h =
     (λ e. sym (eq! _ e (rw (before-found 10 c cs e, append-nil line) refl)))
     (λ e. sym (ne! _ e (let m = before-other 10 c cs e in rw (m, ← append-assoc line (c ∷ []) (take (before 10 cs) cs)) (sym (lines-on-cut (line ++ (c ∷ [])) cs (omega arith))))))
 
-pub lines-cut : (t : List ℕ) → before 10 t < length t → linesOf t ≡ lineOf (take (before 10 t) t) ∷ linesOf (drop (suc (before 10 t)) t)
+pub lines-cut : (t : List ℕ) → before 10 t < length t → linesOf t ≡ lineRead (take (before 10 t) t) ∷ linesOf (drop (suc (before 10 t)) t)
 unfolding linesOf
 lines-cut t h = lines-on-cut [] t h
 
@@ -54,17 +54,17 @@ pub lines-last : (t : List ℕ) → before 10 t ≡ length t → linesOf t ≡ l
 unfolding linesOf
 lines-last t h = lines-on-last [] t h
 
-pub last-some : (t : List ℕ) → 0 < length t → lastOf t ≡ lineOf t ∷ []
+pub last-some : (t : List ℕ) → 0 < length t → lastOf t ≡ lineRead t ∷ []
 unfolding lastOf
 last-some [] h = absurd (omega arith)
 last-some (c ∷ cs) h = refl
 
-pub line-long : (t : List ℕ) → 4096 < length t → lineOf t ≡ TooLong
-unfolding lineOf
+pub line-long : (t : List ℕ) → 4096 < length t → lineRead t ≡ TooLong
+unfolding lineRead
 line-long t h = sym (lt! _ h refl)
 
 -- where LF was found in t, what follows t comes after the rest of it
-pub lines-in : (t f : List ℕ) → before 10 t < length t → linesOf (t ++ f) ≡ lineOf (take (before 10 t) t) ∷ linesOf (drop (suc (before 10 t)) t ++ f)
+pub lines-in : (t f : List ℕ) → before 10 t < length t → linesOf (t ++ f) ≡ lineRead (take (before 10 t) t) ∷ linesOf (drop (suc (before 10 t)) t ++ f)
 lines-in t f h =
     let n : ℕ = before 10 t in
     let b : before 10 (t ++ f) ≡ n = before-in 10 t f h in
@@ -72,9 +72,9 @@ lines-in t f h =
     let p : n ≤ length t = omega arith in
     let q : suc n ≤ length t = omega arith in
     lines-cut (t ++ f) k
-    ∙ ap (λ (m : ℕ). lineOf (take m (t ++ f)) ∷ linesOf (drop (suc m) (t ++ f))) b
-    ∙ ap (λ (x : List ℕ). lineOf x ∷ linesOf (drop (suc n) (t ++ f))) (take-append-le n t f p)
-    ∙ ap (λ (x : List ℕ). lineOf (take n t) ∷ linesOf x) (drop-append-le (suc n) t f q)
+    ∙ ap (λ (m : ℕ). lineRead (take m (t ++ f)) ∷ linesOf (drop (suc m) (t ++ f))) b
+    ∙ ap (λ (x : List ℕ). lineRead x ∷ linesOf (drop (suc n) (t ++ f))) (take-append-le n t f p)
+    ∙ ap (λ (x : List ℕ). lineRead (take n t) ∷ linesOf x) (drop-append-le (suc n) t f q)
 
 -- where t has more than 4,096 bytes and no LF, a line that is too long, and the lines after its end
 pub lines-none : linesOf [] ≡ []
@@ -90,10 +90,10 @@ over-cut t f h k j =
     let e : suc n ≡ length t + suc m = omega arith in
     let l : 4096 < length (t ++ take m f) = omega (arith, length-append t (take m f)) in
     lines-cut (t ++ f) a
-    ∙ ap (λ (i : ℕ). lineOf (take i (t ++ f)) ∷ linesOf (drop (suc i) (t ++ f))) b
-    ∙ ap (λ (x : List ℕ). lineOf x ∷ linesOf (drop (suc n) (t ++ f))) (take-append-add t f m)
-    ∙ ap (λ (i : ℕ). lineOf (t ++ take m f) ∷ linesOf (drop i (t ++ f))) e
-    ∙ ap (λ (x : List ℕ). lineOf (t ++ take m f) ∷ linesOf x) (drop-append-add t f (suc m))
+    ∙ ap (λ (i : ℕ). lineRead (take i (t ++ f)) ∷ linesOf (drop (suc i) (t ++ f))) b
+    ∙ ap (λ (x : List ℕ). lineRead x ∷ linesOf (drop (suc n) (t ++ f))) (take-append-add t f m)
+    ∙ ap (λ (i : ℕ). lineRead (t ++ take m f) ∷ linesOf (drop i (t ++ f))) e
+    ∙ ap (λ (x : List ℕ). lineRead (t ++ take m f) ∷ linesOf x) (drop-append-add t f (suc m))
     ∙ ap (λ (x : Line). x ∷ linesOf (drop (suc m) f)) (line-long (t ++ take m f) l)
 
 over-last : (t f : List ℕ) → before 10 t ≡ length t → 4096 < length t → length f ≤ before 10 f → linesOf (t ++ f) ≡ TooLong ∷ linesOf (drop (suc (before 10 f)) f)

@@ -16,18 +16,18 @@ pub data Line : Type 0 where
   Whole : List ℕ → Line
   TooLong : Line
 
-unfoldable pub lineOf : List ℕ → Line
-lineOf line = pick (isBelow longest (length line)) TooLong (Whole line)
+unfoldable pub lineRead : List ℕ → Line
+lineRead line = pick (isBelow longest (length line)) TooLong (Whole line)
 
 -- what stands after the last LF; no bytes are no line (decision B22)
 unfoldable pub lastOf : List ℕ → List Line
 lastOf [] = []
-lastOf (c ∷ cs) = lineOf (c ∷ cs) ∷ []
+lastOf (c ∷ cs) = lineRead (c ∷ cs) ∷ []
 
 -- the lines of a text, where `line` was read of the one that it begins in
 unfoldable pub linesOn : List ℕ → List ℕ → List Line
 linesOn line [] = lastOf line
-linesOn line (c ∷ cs) = pick (isSame c lineEnd) (lineOf line ∷ linesOn [] cs) (linesOn (line ++ (c ∷ [])) cs)
+linesOn line (c ∷ cs) = pick (isSame c lineEnd) (lineRead line ∷ linesOn [] cs) (linesOn (line ++ (c ∷ [])) cs)
 
 unfoldable pub linesOf : List ℕ → List Line
 linesOf text = linesOn [] text

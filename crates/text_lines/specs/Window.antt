@@ -20,20 +20,20 @@ abbrev pub freshWindow : Window
 freshWindow = windowOf 0 0 false
 
 abbrev pub gives : Window → Found → Step
-gives window found = record { window = window; found = found }
+gives window foundLine = record { window = window; found = foundLine }
 
-unfoldable pub found : ℕ → ℕ → Found
-found from to = pick (isBelow longest (to - from)) TooLong (Line from to)
+unfoldable pub foundLine : ℕ → ℕ → Found
+foundLine from to = pick (isBelow longest (to - from)) TooLong (Line from to)
 
 -- all was handed out
-unfoldable pub idle : ℕ → Bool → Bool → Step
-idle end skipping last = gives (windowOf end end skipping) (pick last End More)
+unfoldable pub noneLeft : ℕ → Bool → Bool → Step
+noneLeft end skipping last = gives (windowOf end end skipping) (pick last End More)
 
 -- what stands from a place on holds no LF
-unfoldable pub tailFrom : List ℕ → ℕ → Bool → Step
-tailFrom s from last =
-    pick (atMost (length s) from) (idle (length s) false last)
-    (pick last (gives (windowOf (length s) (length s) false) (found from (length s)))
+unfoldable pub unended : List ℕ → ℕ → Bool → Step
+unended s from last =
+    pick (atMost (length s) from) (noneLeft (length s) false last)
+    (pick last (gives (windowOf (length s) (length s) false) (foundLine from (length s)))
     (pick (isBelow longest (length s - from)) (gives (windowOf (length s) (length s) true) TooLong)
     (gives (windowOf from (length s) false) More)))
 
@@ -43,25 +43,25 @@ stopFrom s from = from + before lineEnd (drop from s)
 
 unfoldable pub lineFrom : List ℕ → ℕ → Bool → Step
 lineFrom s from last =
-    pick (isBelow (stopFrom s from) (length s)) (gives (windowOf (stopFrom s from + 1) (length s) false) (found from (stopFrom s from)))
-    (tailFrom s from last)
+    pick (isBelow (stopFrom s from) (length s)) (gives (windowOf (stopFrom s from + 1) (length s) false) (foundLine from (stopFrom s from)))
+    (unended s from last)
 
 -- a line that was told as too long is passed over first
-unfoldable pub stepOf : List ℕ → ℕ → Bool → Bool → Step
-stepOf s at skipping last =
+unfoldable pub stepFrom : List ℕ → ℕ → Bool → Bool → Step
+stepFrom s at skipping last =
     pick skipping
-    (pick (atMost (length s) (stopFrom s at)) (idle (length s) true last) (lineFrom s (stopFrom s at + 1) last))
+    (pick (atMost (length s) (stopFrom s at)) (noneLeft (length s) true last) (lineFrom s (stopFrom s at + 1) last))
     (lineFrom s at last)
 
-abbrev pub nextOf : Window → List ℕ → Bool → Step
-nextOf w buf last = stepOf (take (w .end) buf) (w .at) (w .skipping) last
+abbrev pub nextLine : Window → List ℕ → Bool → Step
+nextLine w buf last = stepFrom (take (w .end) buf) (w .at) (w .skipping) last
 
 -- the bytes that are not handed out
 abbrev pub heldOf : Window → List ℕ → List ℕ
 heldOf w buf = drop (w .at) (take (w .end) buf)
 
-abbrev pub keptOf : Window → List ℕ → Window
-keptOf w buf = windowOf 0 (length (heldOf w buf)) (w .skipping)
+abbrev pub movedDown : Window → List ℕ → Window
+movedDown w buf = windowOf 0 (length (heldOf w buf)) (w .skipping)
 
 abbrev pub grownOf : Window → ℕ → ℕ → Window
 grownOf w count size = windowOf (w .at) (after size (w .end) count) (w .skipping)

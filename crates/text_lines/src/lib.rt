@@ -5,7 +5,7 @@ ghost use mathlib.Core.Path.{_≡_};
 ghost use Prim.Native.Nat.{_≤_, min};
 ghost use lib.ListN.{length};
 ghost use Rattle.base_bytes.specs.Put.{put};
-ghost use Rattle.text_lines.specs.Window.{freshWindow, found, idle, tailFrom, lineFrom, stepOf, nextOf, heldOf, keptOf, grownOf};
+ghost use Rattle.text_lines.specs.Window.{freshWindow, foundLine, noneLeft, unended, lineFrom, stepFrom, nextLine, heldOf, movedDown, grownOf};
 ghost use Rattle.text_words.specs.Words.{part};
 
 // The most bytes of a line, without its end.
@@ -52,7 +52,7 @@ fn least(a: usize, b: usize) -> usize
 
 fn found_at(from: usize, to: usize) -> Found
     requires { ⌜ from ≤ to ⌝ }
-    ensures { λ r. ⌜ r ≡ found from to ⌝ }
+    ensures { λ r. ⌜ r ≡ foundLine from to ⌝ }
 {
     if LONGEST < to - from {
         return Found::TooLong;
@@ -62,7 +62,7 @@ fn found_at(from: usize, to: usize) -> Found
 
 // All was handed out.
 fn none_left(end: usize, skipping: bool, last: bool) -> Step
-    ensures { λ r. ⌜ r ≡ idle end skipping last ⌝ }
+    ensures { λ r. ⌜ r ≡ noneLeft end skipping last ⌝ }
 {
     let window = Window {
         at: end,
@@ -83,7 +83,7 @@ fn none_left(end: usize, skipping: bool, last: bool) -> Step
 
 // What stands after the last line end.
 fn unended(s: &[u8], from: usize, last: bool) -> Step
-    ensures { λ r. ⌜ r ≡ tailFrom (now (s .entry)) from last ⌝ }
+    ensures { λ r. ⌜ r ≡ unended (now (s .entry)) from last ⌝ }
 {
     let end = s.len();
     if end <= from {
@@ -139,7 +139,7 @@ fn line_from(s: &[u8], from: usize, last: bool) -> Step
 }
 
 fn step_from(s: &[u8], at: usize, skipping: bool, last: bool) -> Step
-    ensures { λ r. ⌜ r ≡ stepOf (now (s .entry)) at skipping last ⌝ }
+    ensures { λ r. ⌜ r ≡ stepFrom (now (s .entry)) at skipping last ⌝ }
 {
     if skipping {
         let stop = until(s, at, b'\n');
@@ -153,7 +153,7 @@ fn step_from(s: &[u8], at: usize, skipping: bool, last: bool) -> Step
 
 // The next line of the window, and the window after it. `last` says that no byte comes after those in the window.
 pub fn next(window: Window, buf: &[u8], last: bool) -> Step
-    ensures { λ r. ⌜ r ≡ nextOf window (now (buf .entry)) last ⌝ }
+    ensures { λ r. ⌜ r ≡ nextLine window (now (buf .entry)) last ⌝ }
 {
     let end = least(window.end, buf.len());
     step_from(&buf[..end], window.at, window.skipping, last)
@@ -173,7 +173,7 @@ fn move_down(buf: &mut [u8], from: usize, to: usize)
 
 // Moves what is not handed out to the buffer's start, so that a read can go behind it.
 pub fn keep(window: Window, buf: &mut [u8]) -> Window
-    ensures { λ r. ⌜ (r ≡ keptOf window (now (buf .entry))) × (now (buf .exit) ≡ put (now (buf .entry)) 0 (heldOf window (now (buf .entry)))) ⌝ }
+    ensures { λ r. ⌜ (r ≡ movedDown window (now (buf .entry))) × (now (buf .exit) ≡ put (now (buf .entry)) 0 (heldOf window (now (buf .entry)))) ⌝ }
 {
     let end = least(window.end, buf.len());
     let at = least(window.at, end);

@@ -6,7 +6,7 @@ use mathlib.Core.List.{List, [], _∷_, _++_, append-nil, append-assoc}
 use native.Mathlib.Omega.{arith}
 use lib.ListN.{length, take, drop, length-drop, drop-of-length-le}
 use lib.Seq.{drop-drop, length-take-le}
-use Rattle.text_words.specs.Words.{before, leading, part, closed, wordsOn, wordsOf, wordAt, wordFrom, fieldAt, onWord}
+use Rattle.text_words.specs.Words.{before, leading, part, wordClosed, wordsOn, wordsOf, wordAt, wordFrom, fieldAt, onWord}
 use Rattle.text_words.specs.declared.words.Word.{Word}
 use Rattle.text_words.specs.declared.words.Word.the-variants.{Span, End}
 use Rattle.base_choice.proofs.Branches.{on-eq, by-eq, by-le, by-lt, eq!, ne! }
@@ -59,7 +59,7 @@ words-skip (c ∷ cs) =
     (λ e. rw (leading-found 32 c cs e) (words-skip cs ∙ eq! _ e refl))
     (λ e. rw (leading-other 32 c cs e) refl)
 
-words-space : (word : List ℕ) (c : ℕ) (cs : List ℕ) → c ≡ 32 → wordsOn word (c ∷ cs) ≡ closed word (wordsOf cs)
+words-space : (word : List ℕ) (c : ℕ) (cs : List ℕ) → c ≡ 32 → wordsOn word (c ∷ cs) ≡ wordClosed word (wordsOf cs)
 unfolding wordsOf wordsOn
 words-space word c cs e = sym (eq! _ e refl)
 
@@ -67,22 +67,22 @@ words-letter : (word : List ℕ) (c : ℕ) (cs : List ℕ) → (c ≡ 32 → ⊥
 unfolding wordsOn
 words-letter word c cs e = sym (ne! _ e refl)
 
-words-end : (word : List ℕ) → wordsOn word [] ≡ closed (word ++ []) (wordsOn [] [])
+words-end : (word : List ℕ) → wordsOn word [] ≡ wordClosed (word ++ []) (wordsOn [] [])
 unfolding wordsOn
-words-end word = ap (λ (w : List ℕ). closed w []) (sym (append-nil word))
+words-end word = ap (λ (w : List ℕ). wordClosed w []) (sym (append-nil word))
 
-words-open : (word t : List ℕ) → wordsOn word t ≡ closed (word ++ take (before 32 t) t) (wordsOf (drop (before 32 t) t))
+words-open : (word t : List ℕ) → wordsOn word t ≡ wordClosed (word ++ take (before 32 t) t) (wordsOf (drop (before 32 t) t))
 unfolding wordsOf before
 words-open word [] = words-end word
 words-open word (c ∷ cs) =
     on-eq c 32
-    (λ e. rw (before-found 32 c cs e, append-nil word) (words-space word c cs e ∙ ap (closed word) (sym (words-space [] c cs e))))
+    (λ e. rw (before-found 32 c cs e, append-nil word) (words-space word c cs e ∙ ap (wordClosed word) (sym (words-space [] c cs e))))
     (λ e.
     rw (before-other 32 c cs e, ← append-assoc word (c ∷ []) (take (before 32 cs) cs))
     (words-letter word c cs e ∙ words-open (word ++ (c ∷ [])) cs))
 
 -- a text that begins with a word
-closed-some : (w : List ℕ) (ws : List (List ℕ)) → 0 < length w → closed w ws ≡ w ∷ ws
+closed-some : (w : List ℕ) (ws : List (List ℕ)) → 0 < length w → wordClosed w ws ≡ w ∷ ws
 closed-some [] ws h = absurd (omega arith)
 closed-some (c ∷ cs) ws h = refl
 

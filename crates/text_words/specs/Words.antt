@@ -22,14 +22,14 @@ abbrev pub part : List ℕ → ℕ → ℕ → List ℕ
 part s a e = take (e - a) (drop a s)
 
 -- a word that is over, before the words after it; no bytes are no word
-abbrev pub closed : List ℕ → List (List ℕ) → List (List ℕ)
-closed [] ws = ws
-closed (c ∷ cs) ws = (c ∷ cs) ∷ ws
+abbrev pub wordClosed : List ℕ → List (List ℕ) → List (List ℕ)
+wordClosed [] ws = ws
+wordClosed (c ∷ cs) ws = (c ∷ cs) ∷ ws
 
 -- the words of a text, where `word` was read of the one that it begins in (decision B22)
 unfoldable pub wordsOn : List ℕ → List ℕ → List (List ℕ)
-wordsOn word [] = closed word []
-wordsOn word (c ∷ cs) = pick (isSame c 32) (closed word (wordsOn [] cs)) (wordsOn (word ++ (c ∷ [])) cs)
+wordsOn word [] = wordClosed word []
+wordsOn word (c ∷ cs) = pick (isSame c 32) (wordClosed word (wordsOn [] cs)) (wordsOn (word ++ (c ∷ [])) cs)
 
 unfoldable pub wordsOf : List ℕ → List (List ℕ)
 wordsOf s = wordsOn [] s

@@ -5,14 +5,14 @@ use native.Mathlib.Omega.{arith}
 use lib.ListN.{length}
 use borrow.Author.Needs.{needs}
 use Rattle.month_contents.specs.Below.{sumBelow}
-use Rattle.month_contents.specs.Contents.{lengthAt, contentsEnd}
+use Rattle.month_contents.specs.Contents.{bodyLength, contentsEnd}
 use Rattle.month_contents.proofs.Below.{sum-none}
 use Rattle.month_contents.proofs.Ends.{filled-past, filled-over, filled-next, filled-end}
 use Rattle.month_contents.proofs.not_filled.Statement.{statement}
 use Rattle.month_contents.proofs.not_filled.Tie as tie
 
 abbrev Inv-loop : tie.InvT-loop
-Inv-loop s end count left₀ i₀ left i = (i ≤ count) × (contentsEnd s + sumBelow i (lengthAt s) + left ≡ length s)
+Inv-loop s end count left₀ i₀ left i = (i ≤ count) × (contentsEnd s + sumBelow i (bodyLength s) + left ≡ length s)
 
 abbrev μ-loop : tie.MeasureT-loop
 μ-loop s end count left₀ i₀ left i = count - i
@@ -30,7 +30,7 @@ sub-left : tie.Need-sub-left Inv-loop μ-loop
 sub-left c = search needs
 
 loop-holds : tie.Need-loop-holds Inv-loop μ-loop
-loop-holds c = let z = sum-none (lengthAt (c .before .before .before .before .args .s .now)) in (omega arith, omega arith)
+loop-holds c = let z = sum-none (bodyLength (c .before .before .before .before .args .s .now)) in (omega arith, omega arith)
 
 length-at-requires : tie.Need-length-at-requires Inv-loop μ-loop
 length-at-requires c κs = search needs

@@ -1,4 +1,4 @@
--- `put_lines`: the lines from i on are still to write, which leaves what writing all of them leaves; what is written has no more than `mostLine` a line.
+-- `put_lines`: the lines from i on are still to write, which leaves what writing all of them leaves; what is written has no more than `mostReportLine` a line.
 use mathlib.Core.Path.{ap}
 use Prim.Native.Nat.{_+_, _-_, _*_, _≤_}
 use native.Mathlib.Omega.{arith}
@@ -8,7 +8,7 @@ use borrow.Author.Needs.{needs}
 use Rattle.base_bytes.proofs.PutLaws.{Writing, writing-starts, writing-as, writing-goes, writing-ends}
 use Rattle.month_tally.specs.Lines.{aidsIn}
 use Rattle.month_tally.proofs.Seeking.{unread}
-use Rattle.month_report.specs.Report.{aidLine, linesText, mostLine}
+use Rattle.month_report.specs.Report.{aidLine, linesText, mostReportLine}
 use Rattle.month_report.proofs.Lengths.{lines-step, lines-end, line-more}
 use Rattle.month_report.proofs.put_lines.Statement.{statement}
 use Rattle.month_report.proofs.put_lines.Tie as tie
@@ -17,7 +17,7 @@ abbrev Inv-loop : tie.InvT-loop
 Inv-loop explain ticks minutes out₀ at names n i₀ k₀ out i k =
     let all = linesText explain ticks minutes 0 (aidsIn names) in
     let left = linesText explain ticks minutes i (drop i (aidsIn names)) in
-    (i ≤ n) × (Writing out₀ at all out k left × (length all ≤ i * mostLine + length left))
+    (i ≤ n) × (Writing out₀ at all out k left × (length all ≤ i * mostReportLine + length left))
 
 abbrev μ-loop : tie.MeasureT-loop
 μ-loop explain ticks minutes out₀ at names n i₀ k₀ out i k = n - i

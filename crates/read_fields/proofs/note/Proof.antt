@@ -1,5 +1,5 @@
 -- `note` meets its contract: each exit names the branches that lead there.
-use Rattle.read_fields.specs.GetStatus.{noted}
+use Rattle.read_fields.specs.GetStatus.{tagNoted}
 use Rattle.base_choice.proofs.Branches.{eq!, ne! }
 use mathlib.Core.Path.{refl}
 use native.Mathlib.Omega.{arith}
@@ -7,19 +7,19 @@ use Rattle.read_fields.proofs.note.Statement.{statement}
 use Rattle.read_fields.proofs.note.Tie as tie
 
 returns : tie.Need-returns
-unfolding noted
+unfolding tagNoted
 returns c = eq! _ (omega arith) refl
 
 returns-2 : tie.Need-returns-2
-unfolding noted
+unfolding tagNoted
 returns-2 c = ne! _ (omega arith) (eq! _ (omega arith) refl)
 
 returns-3 : tie.Need-returns-3
-unfolding noted
+unfolding tagNoted
 returns-3 c = ne! _ (omega arith) (ne! _ (omega arith) (eq! _ (omega arith) refl))
 
 returns-4 : tie.Need-returns-4
-unfolding noted
+unfolding tagNoted
 returns-4 c = ne! _ (omega arith) (ne! _ (omega arith) (ne! _ (omega arith) refl))
 
 pub note-spec : {M : Type 1} → statement M

@@ -1,7 +1,7 @@
 -- `read_list` and `read_element` meet their contracts together: by induction on the bytes left, which fall with each element and each inner list.
 use Rattle.read_tlv.proofs.Counts.{list-onward}
 use Rattle.read_tlv.proofs.Inside.{head-inside, element-inside}
-use Rattle.read_tlv.specs.Lists.{listOf, restOf, elementAt}
+use Rattle.read_tlv.specs.Lists.{listOf, restAfter, elementAt}
 use borrow.Author.Needs.{needs}
 use Rattle.base_choice.proofs.Branches.{yes!, no!, lt!, nlt!, eq!, ne! }
 use mathlib.Core.Path.{refl, sym, _∙_}
@@ -227,7 +227,7 @@ read-list-returns-6 : (t : ℕ) → read-list-lts.Need-returns-6 (
   read-list-below t,
   read-list.Post,
 ) (read-list-at t) read-list.Post
-unfolding listOf restOf
+unfolding listOf restAfter
 read-list-returns-6 t c = list-onward _ _ _ _ _ (nlt! _ (omega arith) (nlt! _ (omega arith) (nlt! _ (omega arith) (nlt! _ (omega arith) (ne! _ (omega arith) (rw (← c .before .before .read-element .ensures) (rw (c .enum-told .given .1) refl)))))))
 
 read-list-returns-7 : (t : ℕ) → read-list-lts.Need-returns-7 (
@@ -236,7 +236,7 @@ read-list-returns-7 : (t : ℕ) → read-list-lts.Need-returns-7 (
   read-list-below t,
   read-list.Post,
 ) (read-list-at t) read-list.Post
-unfolding listOf restOf
+unfolding listOf restAfter
 read-list-returns-7 t c = list-onward _ _ _ _ _ (nlt! _ (omega arith) (nlt! _ (omega arith) (nlt! _ (omega arith) (nlt! _ (omega arith) (ne! _ (omega arith) (rw (← c .before .before .before .before .read-element .ensures) (rw (c .before .before .next .given .1) (c .read-list .ensures))))))))
 
 pub +read-element+read-list-spec : {M : Type 1} → statement M

@@ -5,7 +5,7 @@ use borrow.Author.Tests.{not-true, not-false}
 use Rattle.card_record.proofs.Outcomes.{stopped}
 use Rattle.rule_run.specs.Calls.{Call}
 use Rattle.record_door.specs.Door.{callOf}
-use Rattle.rule_run.specs.Step.{work, step}
+use Rattle.rule_run.specs.Step.{work, step, stepBy}
 use Rattle.rule_run.proofs.Kept.{on-sound-agrees}
 use Rattle.record_door.proofs.Buffers.{kept}
 use borrow.Author.Needs.{needs}
@@ -19,7 +19,7 @@ abbrev call : tie.Start → Call
 call s = callOf (s .args .bytes .now) (length (s .args .buf .now)) (s .args .call)
 
 returns : tie.Need-returns
-unfolding step
+unfolding stepBy
 returns c =
     let e = c .before in
     let s = start (e .before) in

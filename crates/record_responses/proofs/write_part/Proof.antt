@@ -7,14 +7,14 @@ use lib.ListN.{length, drop}
 use Rattle.card_isdp.specs.Sizes.{mostPlaces}
 use Rattle.card_record.proofs.Records.{full}
 use Rattle.base_bytes.proofs.PutLaws.{Writing, writing-starts, writing-as, writing-goes, writing-ends, wrote-as}
-use Rattle.rule_responses.specs.Responses.{mostResponse, partFrom, leftFrom, partGiven, leftAfter}
+use Rattle.rule_responses.specs.Responses.{mostResponse, partFrom, nextRowFrom, partGiven, nextRowAfter}
 use Rattle.rule_responses.proofs.Parts.{part-step, left-step, part-stops, left-stops, part-ends, left-ends}
 use borrow.Author.Needs.{needs}
 use Rattle.record_responses.proofs.write_part.Statement.{statement}
 use Rattle.record_responses.proofs.write_part.Tie as tie
 
 abbrev Inv-loop : tie.InvT-loop
-Inv-loop from life fallback buf₀ at places holder room₀ i₀ k₀ buf room i k = Writing buf₀ at (partFrom mostResponse holder from life fallback (drop from places)) buf k (partFrom room holder i life fallback (drop i places)) × (leftFrom room holder i life fallback (drop i places) ≡ leftFrom mostResponse holder from life fallback (drop from places))
+Inv-loop from life fallback buf₀ at places holder room₀ i₀ k₀ buf room i k = Writing buf₀ at (partFrom mostResponse holder from life fallback (drop from places)) buf k (partFrom room holder i life fallback (drop i places)) × (nextRowFrom room holder i life fallback (drop i places) ≡ nextRowFrom mostResponse holder from life fallback (drop from places))
 
 abbrev μ-loop : tie.MeasureT-loop
 μ-loop from life fallback buf₀ at places holder room₀ i₀ k₀ buf room i k = mostPlaces - i
@@ -38,7 +38,7 @@ same-length : tie.Need-same-length Inv-loop μ-loop
 same-length c = c .before .before .before .before .loop .inv .0 .size
 
 returns : tie.Need-returns Inv-loop μ-loop
-unfolding partGiven leftAfter
+unfolding partGiven nextRowAfter
 returns c = let o = c .before .before .before .before .loop in
     let s = c .before .before .before .before .before .before .before in
     let n : length (s .args .card .places) ≡ mostPlaces = full (s .args .card) _ (s .good .0) in
@@ -79,7 +79,7 @@ same-length-2 : tie.Need-same-length-2 Inv-loop μ-loop
 same-length-2 c = c .before .loop .inv .0 .size
 
 returns-2 : tie.Need-returns-2 Inv-loop μ-loop
-unfolding partGiven leftAfter
+unfolding partGiven nextRowAfter
 returns-2 c = let o = c .before .loop in
     let s = c .before .before .before .before in
     let n : length (s .args .card .places) ≡ mostPlaces = full (s .args .card) _ (s .good .0) in

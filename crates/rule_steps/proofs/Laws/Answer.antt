@@ -24,11 +24,11 @@ use Rattle.card_places.proofs.Lives.{enable-lives, lives-at, lives-length, enab
 use Rattle.card_places.proofs.Seeks.{enabled-at}
 use Rattle.card_places.proofs.Numbered.{only}
 use Rattle.card_record.specs.Cards.{noPlace, keeping, forgotten, placeOf, inState, withRoom, withPhase}
-use Rattle.card_record.specs.Clock.{nextOf, moved}
+use Rattle.card_record.specs.Clock.{nextNumber, switched}
 use Rattle.card_record.specs.Sound.{keptOk, sound}
 use Rattle.card_record.specs.Steps.{stepTo}
 use Rattle.card_record.specs.Ticks.{stepsIn, ticksToCome, ticksIn, ticksByPhase}
-use Rattle.card_record.specs.Notifications.{kindOf, silent, noticeSince}
+use Rattle.card_record.specs.Notifications.{noticeKind, silent, noticeSince}
 use Rattle.card_record.specs.Answers.{Outcome, Work, accepted, settle, soundRow, outcome}
 use Rattle.card_record.specs.declared.Card.{Card}
 use Rattle.card_record.specs.declared.Phase.{Phase}
@@ -167,7 +167,7 @@ new-case : (n : ℕ) (b : Bool) → eqb n lastNumber ≡ b → cond b 0 (n + 1) 
 new-case n true e q = let h = eqb-true n lastNumber e in omega arith
 new-case n false e q = omega arith
 
-new-number : (n : ℕ) → eqb (nextOf n) n ≡ false
+new-number : (n : ℕ) → eqb (nextNumber n) n ≡ false
 new-number n = ne-eqb _ _ (new-case n (eqb n lastNumber) refl)
 
 module _ (c : Card) (t : ℕ) (h : t < length (c .places)) where
@@ -179,12 +179,12 @@ module _ (c : Card) (t : ℕ) (h : t < length (c .places)) where
   same-aid : at (enableAt (c .places) t) t .aid ≡ profileAt c t .aid
   same-aid = ap (λ (p : Isdp). p .aid) (lives-at (enable-lives (c .places) t) t)
 
-  notice : (p : Phase) → noticeSince (c .last) (moved c t p) ≡ record { kind = kindOf p; number = nextOf (c .last); eid = c .eid; aid = profileAt c t .aid }
+  notice : (p : Phase) → noticeSince (c .last) (switched c t p) ≡ record { kind = noticeKind p; number = nextNumber (c .last); eid = c .eid; aid = profileAt c t .aid }
   unfolding noticeSince
   notice p =
       rw (new-number (c .last))
-      (ap (λ (a : Aid). record { kind = kindOf p; number = nextOf (c .last); eid = c .eid; aid = a }) (ap (λ (i : ℕ). at (enableAt (c .places) t) i .aid) found ∙ same-aid))
+      (ap (λ (a : Aid). record { kind = noticeKind p; number = nextNumber (c .last); eid = c .eid; aid = a }) (ap (λ (i : ℕ). at (enableAt (c .places) t) i .aid) found ∙ same-aid))
 
-  pub enters : (e : ℕ) (p : Phase) (ticks : ℕ) → Sound c → Enabled c e → ticksToCome (moved c t p) ≡ ticks → Answers c (entered c e t p (kindOf p) ticks) (accepted Done (stepTo c (moved c t p) noAid) [])
+  pub enters : (e : ℕ) (p : Phase) (ticks : ℕ) → Sound c → Enabled c e → ticksToCome (switched c t p) ≡ ticks → Answers c (entered c e t p (noticeKind p) ticks) (accepted Done (stepTo c (switched c t p) noAid) [])
   enters e p ticks s v q =
-      answers c (entered c e t p (kindOf p) ticks) (enableAt (c .places) t) noAid (lives-length (enable-lives (c .places) t)) (trade-places c e t s v h) (notice p) q
+      answers c (entered c e t p (noticeKind p) ticks) (enableAt (c .places) t) noAid (lives-length (enable-lives (c .places) t)) (trade-places c e t s v h) (notice p) q

@@ -15,7 +15,7 @@ use Rattle.card_places.specs.Places.{at}
 use Rattle.card_places.proofs.Lives.{within}
 use Rattle.card_places.proofs.Numbered.{only}
 use Rattle.card_record.specs.Cards.{isQuiet, onFallback, forgotten, withPhase}
-use Rattle.card_record.specs.Clock.{nextOf, moved, fallen, tickIn, tickOf, lostOf}
+use Rattle.card_record.specs.Clock.{nextNumber, switched, fallen, tickIn, tickOf, withoutNetwork}
 use Rattle.card_record.specs.Sound.{sound}
 use Rattle.card_record.specs.Steps.{stepTo, tickStep, lostStep}
 use Rattle.card_record.specs.Ticks.{ticksToCome, ticksByPhase}
@@ -50,7 +50,7 @@ fallen-entered : (c : Card) (e : ℕ) → Sound c → Enabled c e → FallenEnte
 unfolding ticksByPhase
 fallen-entered c e s v =
     let n = within (c .places) (c .fallback) (resort-nonzero c s) in
-    enters c (c .fallback) n e (Fallen wait (nextOf (c .last))) 10 s v (counted (fallen c) (whole _ (falls c s)))
+    enters c (c .fallback) n e (Fallen wait (nextNumber (c .last))) 10 s v (counted (fallen c) (whole _ (falls c s)))
 
 module _ (c : Card) (e : ℕ) (s : sound c ≡ true) (v : Enabled c e) where
   abbrev answer : Card → Outcome
@@ -63,12 +63,12 @@ module _ (c : Card) (e : ℕ) (s : sound c ≡ true) (v : Enabled c e) where
   closes : Answers c (rephased c Quiet 0) (answer (withPhase c Quiet))
   closes = rephases c Quiet 0 (none-to-come (withPhase c Quiet) refl)
 
-  rolled-back : (previous : ℕ) → profileAt c previous .life ≡ disabled → sound (moved c previous (Back wait (nextOf (c .last)))) ≡ true → Answers c (entered c e previous (Back 10 (nextOf (c .last))) RolledBack (10 + furtherWait c previous)) (answer (moved c previous (Back wait (nextOf (c .last)))))
+  rolled-back : (previous : ℕ) → profileAt c previous .life ≡ disabled → sound (switched c previous (Back wait (nextNumber (c .last)))) ≡ true → Answers c (entered c e previous (Back 10 (nextNumber (c .last))) RolledBack (10 + furtherWait c previous)) (answer (switched c previous (Back wait (nextNumber (c .last)))))
   unfolding ticksByPhase
   rolled-back previous d h =
       let k = within (c .places) previous (nonzero _ 30 d) in
-      enters c previous k e (Back wait (nextOf (c .last))) (10 + furtherWait c previous) (parts c s) v
-      (counted (moved c previous (Back wait (nextOf (c .last)))) h ∙ rw (after (c .places) previous (c .fallback) k))
+      enters c previous k e (Back wait (nextNumber (c .last))) (10 + furtherWait c previous) (parts c s) v
+      (counted (switched c previous (Back wait (nextNumber (c .last)))) h ∙ rw (after (c .places) previous (c .fallback) k))
 
   ticked : (p : Phase) → c .phase ≡ p → Phased p c → sound (tickIn p c) ≡ true → TickedIn p c e (answer (tickIn p c))
   unfolding ticksByPhase
@@ -106,8 +106,8 @@ tick-law c s =
     }
 
 -- lost, where the phase and the enabled profile are known
-lost-as : (c : Card) (quiet on : Bool) → isQuiet (c .phase) ≡ quiet → onFallback c ≡ on → lostOf c ≡ cond quiet (cond on (forgotten c) (fallen c)) (forgotten c)
-unfolding lostOf
+lost-as : (c : Card) (quiet on : Bool) → isQuiet (c .phase) ≡ quiet → onFallback c ≡ on → withoutNetwork c ≡ cond quiet (cond on (forgotten c) (fallen c)) (forgotten c)
+unfolding withoutNetwork
 lost-as c quiet on q f = rw (q, f)
 
 open-is : (p : Phase) → (p ≡ Quiet → ⊥) → isQuiet p ≡ false
@@ -116,7 +116,7 @@ open-is (Trial previous left number) n = refl
 open-is (Back left number) n = refl
 open-is (Fallen left number) n = refl
 
-either : (c : Card) (b : Bool) → isQuiet (c .phase) ≡ b → onFallback c ≡ true → lostOf c ≡ forgotten c
+either : (c : Card) (b : Bool) → isQuiet (c .phase) ≡ b → onFallback c ≡ true → withoutNetwork c ≡ forgotten c
 either c true q f = lost-as c true true q f
 either c false q f = lost-as c false true q f
 
@@ -125,7 +125,7 @@ unfolding lostStep accepted
 lost-law c s =
     let w = parts c s in
     let r = asked-taken c lost refl s (record { change = refl; target = refl; already = refl; state = refl; policy = refl; verdict = refl; room = refl }) in
-    let nothing : lostOf c ≡ forgotten c → Still c [] (outcome c (askedWork c lost)) = λ q. subst (Still c []) (sym r) (rw q (still c [] s)) in
+    let nothing : withoutNetwork c ≡ forgotten c → Still c [] (outcome c (askedWork c lost)) = λ q. subst (Still c []) (sym r) (rw q (still c [] s)) in
     record {
       status = ap (λ (o : Outcome). o .status) r;
       away =

@@ -2,12 +2,13 @@
 use mathlib.Core.Path.{_≡_, refl, sym, ap, subst, _∙_}
 use Prim.Native.Nat.{ℕ, _+_}
 use mathlib.Core.List.{[], _∷_}
-use mathlib.Core.Bool.{Bool, true, false, not, cond}
+use mathlib.Core.Bool.{Bool, true, false, not, cond, false≢true}
 use lib.ListN.{set, length-set}
 use lib.Dec.{eqb}
 use borrow.Author.Tests.{eqb-true, eq-eqb, ne-eqb, not-true, not-false}
 use Rattle.base_status.specs.Rows.{wordOf}
-use Rattle.base_status.specs.declared.Status.the-variants.{StateWrong, Done}
+use Rattle.base_status.specs.StatusWords.{isDone}
+use Rattle.base_status.specs.declared.Status.the-variants.{StateWrong, NotHeld, Done}
 use Rattle.card_isdp.specs.Aids.{aidOf, noAid}
 use Rattle.card_isdp.specs.LifeCycle.{disabled}
 use Rattle.card_isdp.specs.Place.{vacant, held}
@@ -31,9 +32,12 @@ use Rattle.rule_steps.specs.Asked.{Asked.confirm}
 use Rattle.rule_steps.specs.Conditions.{cardRows}
 use Rattle.rule_steps.specs.Steps.{askedWork}
 use Rattle.rule_steps.specs.Laws.Answer.{profileAt, element, Answers, Exactly, rephased}
-use Rattle.rule_steps.specs.Laws.Confirmation.{closedWithout, trialConfirmed, ConfirmedIn, ConfirmationLaw}
+use Rattle.rule_steps.specs.Laws.Words.{InThisOrder}
+use Rattle.rule_steps.specs.Laws.Confirmation.{closedWithout, trialConfirmed, confirmationRows, ConfirmedIn, ConfirmationLaw}
+use Rattle.rule_steps.proofs.Kept.{quietly}
 use Rattle.rule_steps.proofs.Laws.Places.{set-places}
 use Rattle.rule_steps.proofs.Laws.Answer.{asked-passed, asked-taken, no-notice, none-to-come, answers, rephases}
+use Rattle.rule_steps.proofs.Laws.Words.{by-rows, no-more, skip, by-when, by-unless}
 
 gone-bytes : (p : Isdp) → held p ≡ true → deletedResponse (p .aid) ≡ element 0x80 (element 0x4F (aidOf p))
 unfolding deletedResponse
@@ -85,11 +89,30 @@ module _ (c : Card) (number : ℕ) (s : sound c ≡ true) where
 
   in-phase : (p : Phase) → c .phase ≡ p → Phased p c → ConfirmedIn p c number (outcome c (askedWork c (confirm number)))
   unfolding deletedResponse
-  in-phase Quiet e h = decided c (wordOf Done (soundRow c ∷ cardRows c (confirm number))) (confirmStep c) (deletedResponse (confirmStep c .deleted)) ∙ quiet-word e
+  in-phase Quiet e h = ap isDone (decided c (wordOf Done (soundRow c ∷ cardRows c (confirm number))) (confirmStep c) (deletedResponse (confirmStep c .deleted)) ∙ quiet-word e)
   in-phase (Trial previous left n) e h =
       exactly (Trial previous left n) n (Answers c (trialConfirmed c previous)) e refl refl (trial-case c (parts c s) previous (dropped c previous) (h .1))
   in-phase (Back left n) e h = exactly (Back left n) n (Answers c (rephased c Quiet 0)) e refl refl (closes c (parts c s))
   in-phase (Fallen left n) e h = exactly (Fallen left n) n (Answers c (rephased c Quiet 0)) e refl refl (closes c (parts c s))
 
+-- the number that an open phase holds is the last one issued
+outstanding-is : (c : Card) (number : ℕ) (p : Phase) → Phased p c → isQuiet p ≡ false → outstanding p number ≡ eqb number (c .last)
+outstanding-is c number Quiet h o = absurd (false≢true (sym o))
+outstanding-is c number (Trial previous left n) h o = rw (h .0 .issued)
+outstanding-is c number (Back left n) h o = rw (h .issued)
+outstanding-is c number (Fallen left n) h o = rw (h .0 .issued)
+
+confirmation-refused : (c : Card) (number : ℕ) → sound c ≡ true → InThisOrder (confirmationRows c number) (outcome c (askedWork c (confirm number)) .status)
+confirmation-refused c number s =
+    let f = outstanding-is c number (c .phase) (parts c s .phased) in
+    by-rows c (askedWork c (confirm number)) s (confirmationRows c number)
+    (by-when StateWrong (ap isQuiet) (λ q. quietly (c .phase) (ap not q)) λ o.
+    by-unless (outstanding (c .phase) number) NotHeld (λ e. f o ∙ eq-eqb _ _ e) (λ e. eqb-true _ _ (sym (f o) ∙ e)) λ e.
+    skip (skip (skip (skip (skip (no-more refl))))))
+
 pub confirmation-law : ConfirmationLaw
-confirmation-law c number s = in-phase c number s (c .phase) refl (parts c s .phased)
+confirmation-law c number s =
+    record {
+      taken = in-phase c number s (c .phase) refl (parts c s .phased);
+      refused = confirmation-refused c number s;
+    }

@@ -4,10 +4,12 @@ use mathlib.Core.Path.{_≡_, refl, sym, ap, subst, _∙_}
 use Prim.Native.Nat.{ℕ, zero, suc, _-_, _<_}
 use native.Mathlib.Omega.{arith}
 use mathlib.Core.List.{List, [], _∷_}
-use mathlib.Core.Bool.{Bool, true, false, not, cond, false≢true}
+use mathlib.Core.Logic.{_⊎_, inl, inr}
+use mathlib.Core.Bool.{Bool, true, false, not, cond, _||_, or-true, false≢true}
 use lib.ListN.{length}
-use lib.Dec.{ltb}
-use borrow.Author.Tests.{ltb-true, lt-ltb, leb-true, le-leb, not-true, not-false}
+use lib.Dec.{ltb, leb}
+use borrow.Author.Tests.{ltb-true, ltb-false, lt-ltb, le-ltb, leb-true, leb-false, le-leb, lt-leb, not-true, not-false}
+use Rattle.base_status.specs.declared.Status.the-variants.{DataWrong, NoRoom}
 use Rattle.card_isdp.specs.Sizes.{mostPlaces}
 use Rattle.card_isdp.specs.LifeCycle.{selectable}
 use Rattle.card_isdp.specs.Place.{held, made}
@@ -17,15 +19,19 @@ use Rattle.card_places.specs.Places.{at, seek, isFree}
 use Rattle.card_places.proofs.Seeks.{seek-below}
 use Rattle.card_record.specs.Cards.{placeOf, profileOf, freePlace, freeIn}
 use Rattle.card_record.specs.Sound.{sound}
+use Rattle.card_record.specs.Answers.{outcome}
 use Rattle.card_record.specs.declared.Card.{Card}
 use Rattle.card_record.proofs.Sounds.{parts}
 use Rattle.rule_steps.specs.Asked.{Asked.create}
-use Rattle.rule_steps.specs.Laws.Answer.{Holds, Answers, onlyAt, replaced}
-use Rattle.rule_steps.specs.Laws.Create.{LowestFree, MayCreate, CreateLaw}
+use Rattle.rule_steps.specs.Steps.{askedWork}
+use Rattle.rule_steps.specs.Laws.Answer.{Answers, onlyAt, replaced}
+use Rattle.rule_steps.specs.Laws.Words.{InThisOrder}
+use Rattle.rule_steps.specs.Laws.Create.{LowestFree, MayCreate, NoneFree, OverFree, createRows, CreateLaw}
 use Rattle.rule_steps.proofs.Rows.{Passed}
 use Rattle.rule_steps.proofs.Kept.{quietly}
 use Rattle.rule_steps.proofs.Laws.Places.{place-is, holds}
 use Rattle.rule_steps.proofs.Laws.Answer.{asked-passed, asked-taken, none-to-come, rewrites}
+use Rattle.rule_steps.proofs.Laws.Words.{refuted, by-rows, no-more, skip, by-when, none-open, held-when}
 
 -- a search passes over no place that passes its test
 lower-case : (t : Isdp → Bool) (p : Isdp) (ps : List Isdp) (i : ℕ) (b : Bool) → t p ≡ b → i < cond b 0 (suc (seek t ps)) → ((j : ℕ) → j < seek t ps → t (at ps j) ≡ false) → t (at (p ∷ ps) i) ≡ false
@@ -44,11 +50,6 @@ first-is t l i h e f =
     let below : i < seek t l → ⊥ = λ k. false≢true (sym (lower t l i k) ∙ e) in
     let above : seek t l < i → ⊥ = λ k. false≢true (sym (f (seek t l) k) ∙ seek-below t l (omega arith)) in
     omega arith
-
--- an AID that no place holds is not found
-missed-case : (c : Card) (aid : List ℕ) (b : Bool) → held (profileOf c aid) ≡ b → ((i : ℕ) → Holds c aid i → ⊥) → b ≡ false
-missed-case c aid true e n = absurd (n (placeOf c aid) (holds c aid e))
-missed-case c aid false e n = refl
 
 module _ (c : Card) (aid : List ℕ) (quota : ℕ) (s : sound c ≡ true) where
   rows-say : Passed c (create aid quota) → (freePlace c < length (c .places)) × MayCreate c aid quota
@@ -75,7 +76,7 @@ module _ (c : Card) (aid : List ℕ) (quota : ℕ) (s : sound c ≡ true) where
       record {
         change = rw (m .none-open);
         target = refl;
-        already = missed-case c aid (held (profileOf c aid)) refl (m .not-held);
+        already = refuted (held (profileOf c aid)) (λ h. m .not-held (placeOf c aid) (holds c aid h));
         state = refl;
         policy = refl;
         verdict = refl;
@@ -89,21 +90,47 @@ module _ (c : Card) (aid : List ℕ) (quota : ℕ) (s : sound c ≡ true) where
   place-found : (t : ℕ) → LowestFree c t → freePlace c ≡ t
   place-found t h = first-is isFree (c .places) t (h .a-place) (ap not (h .free)) (λ j k. ap not (h .lowest j k))
 
+-- the row 6A 84: no place is free, or the quota is over free
+module _ (c : Card) (quota : ℕ) (s : sound c ≡ true) where
+  no-room : NoneFree c ⊎ OverFree c quota → (not (ltb (freePlace c) mostPlaces) || not (leb quota (freeIn c))) ≡ true
+  no-room (inl n) =
+      let f = parts c s .sizes .full in
+      let k : freePlace c < 32 → ⊥ = λ h. false≢true (sym (not-true _ (seek-below isFree (c .places) (omega arith))) ∙ n (freePlace c) h) in
+      rw (le-ltb (freePlace c) mostPlaces (omega arith))
+  no-room (inr o) = let e = parts c s .placed .room in rw (lt-leb quota (freeIn c) (omega arith)) (or-true (not (ltb (freePlace c) mostPlaces)))
+
+  room-only : (b : Bool) → ltb (freePlace c) mostPlaces ≡ b → (not b || not (leb quota (freeIn c))) ≡ true → NoneFree c ⊎ OverFree c quota
+  room-only true e h =
+      let k = leb-false quota (freeIn c) (not-true _ h) in
+      let m = parts c s .placed .room in
+      inr (omega arith)
+  room-only false e h = let k = ltb-false (freePlace c) mostPlaces e in inl (λ i l. not-false _ (lower isFree (c .places) i (omega arith)))
+
+create-refused : (c : Card) (aid : List ℕ) (quota : ℕ) → sound c ≡ true → InThisOrder (createRows c aid quota) (outcome c (askedWork c (create aid quota)) .status)
+create-refused c aid quota s =
+    by-rows c (askedWork c (create aid quota)) s (createRows c aid quota)
+    (none-open c λ q. skip (by-when DataWrong (held-when c aid s) (λ e. (placeOf c aid, holds c aid e)) λ e.
+    skip (skip (skip (by-when NoRoom (no-room c quota s) (room-only c quota s (ltb (freePlace c) mostPlaces) refl) λ r. no-more refl)))))
+
 pub create-law : CreateLaw
 create-law c aid quota s =
     record {
-      some-place = λ e. (freePlace c, lowest-free c aid quota s (rows-say c aid quota s (asked-passed c (create aid quota) e) .0));
-      exactly =
-          λ t h.
-          let q = place-found c aid quota s t h in
-          let k = h .a-place in
+      taken =
           record {
-            only-where = λ e. rows-say c aid quota s (asked-passed c (create aid quota) e) .1;
-            where-may =
-                λ m.
-                let new = made aid selectable quota 0 in
-                let r = asked-taken c (create aid quota) refl s (rows-pass c aid quota s (omega arith) m) in
-                subst (Answers c (replaced c (c .free - quota) (onlyAt c t new) (0x00 ∷ []) 0)) (sym r)
-                (rw q (rewrites c t new (c .free - quota) (0x00 ∷ []) 0 k (none-to-come _ (m .none-open))));
+            some-place = λ e. (freePlace c, lowest-free c aid quota s (rows-say c aid quota s (asked-passed c (create aid quota) e) .0));
+            exactly =
+                λ t h.
+                let q = place-found c aid quota s t h in
+                let k = h .a-place in
+                record {
+                  only-where = λ e. rows-say c aid quota s (asked-passed c (create aid quota) e) .1;
+                  where-may =
+                      λ m.
+                      let new = made aid selectable quota 0 in
+                      let r = asked-taken c (create aid quota) refl s (rows-pass c aid quota s (omega arith) m) in
+                      subst (Answers c (replaced c (c .free - quota) (onlyAt c t new) (0x00 ∷ []) 0)) (sym r)
+                      (rw q (rewrites c t new (c .free - quota) (0x00 ∷ []) 0 k (none-to-come _ (m .none-open))));
+                };
           };
+      refused = create-refused c aid quota s;
     }

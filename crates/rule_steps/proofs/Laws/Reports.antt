@@ -4,14 +4,14 @@ use mathlib.Core.Path.{_≡_, refl, sym, ap, subst, _∙_}
 use Prim.Native.Nat.{ℕ, zero, suc, _+_, _-_, _≤_, _<_}
 use native.Mathlib.Numerals.{add-one}
 use native.Mathlib.Omega.{arith}
-use mathlib.Core.List.{List, [], _++_, append-assoc, append-nil}
+use mathlib.Core.List.{List, [], _∷_, _++_, append-assoc, append-nil}
 use mathlib.Core.Bool.{Bool, true, false, cond, or-true}
 use lib.ListN.{length, length-append, drop-of-length-le}
 use lib.Seq.{drop-cons, take-append-seam}
 use lib.Dec.{leb, eqb}
-use borrow.Author.Tests.{leb-true, leb-false, ne-eqb, eqb-false}
+use borrow.Author.Tests.{leb-true, leb-false, eqb-true, eq-eqb, ne-eqb, eqb-false}
 use Rattle.base_status.specs.declared.Status.{Status}
-use Rattle.base_status.specs.declared.Status.the-variants.{More, Done}
+use Rattle.base_status.specs.declared.Status.the-variants.{NotHeld, More, Done}
 use Rattle.card_isdp.specs.Aids.{noAid}
 use Rattle.card_isdp.specs.Place.{vacant, held}
 use Rattle.card_record.specs.Cards.{noPlace, keeping, placeOf}
@@ -21,16 +21,18 @@ use Rattle.card_record.specs.Answers.{accepted, outcome}
 use Rattle.card_record.specs.declared.Card.{Card}
 use Rattle.card_record.proofs.Free.{sound-card}
 use Rattle.card_record.proofs.Sounds.{parts}
-use Rattle.rule_responses.specs.Responses.{attributeOf, statusBody, statusRow, rowOf, rowSize, rowsFrom, listingFrom, partGiven, leftAfter, oneStatus, dataResponse}
+use Rattle.rule_responses.specs.Responses.{attributeOf, statusBody, statusRow, rowOf, rowSize, rowsFrom, listingFrom, partGiven, nextRowAfter, oneStatus, dataResponse}
 use Rattle.rule_responses.proofs.Rows.{row-sized}
 use Rattle.rule_responses.proofs.Parts.{Given, Given.all, Given.some, given, part-short}
-use Rattle.rule_steps.specs.Asked.{Act.status, Asked.statusOfAll, Asked.getData}
+use Rattle.rule_steps.specs.Asked.{Act.status, Asked.on, Asked.statusOfAll, Asked.getData}
 use Rattle.rule_steps.specs.Laws.Answer.{profileAt, Still}
+use Rattle.rule_steps.specs.Laws.Words.{_when_, _unless_, InThisOrder, IsHeld}
 use Rattle.rule_steps.specs.Steps.{beginsAt, goesOnAt, partWord, askedWork}
 use Rattle.rule_steps.specs.Laws.Reports.{statusAt, statusFrom, Listed, PartAnswers, PartAnswers.to-the-last, PartAnswers.up-to, StatusOfAllLaw, StatusOfNextLaw, StatusOfOneLaw, GetDataLaw}
 use Rattle.rule_steps.proofs.Rows.{Passed}
 use Rattle.rule_steps.proofs.Successes.{part-done}
 use Rattle.rule_steps.proofs.Laws.Answer.{asked-passed, asked-taken-as, asked-taken, command-law, held-passes, no-notice, same-ticks, still}
+use Rattle.rule_steps.proofs.Laws.Words.{by-rows, no-more, skip, by-when, is-held}
 
 -- the row of one place
 row-is : (c : Card) (life attribute : Bool) (k : ℕ) → rowOf (profileAt c k) (attributeOf (c .fallback) k) life attribute ≡ cond (held (profileAt c k)) (statusAt c life attribute k) []
@@ -100,8 +102,8 @@ module _ (c : Card) (life attribute : Bool) (from : ℕ) (s : sound c ≡ true) 
       (up-to (left - from) (omega arith) (rw d (w .there)) (rw (d, ← q, row-bytes c left life attribute (w .there)) (w .full))
       (rw d (listed More left (statusFrom c life attribute from (left - from)) (rw (w .there) (or-true (eqb left noPlace))) (rw (← q) h))))
 
-  part-given : PartAnswers c life attribute from (accepted (partWord (leftAfter c from life attribute)) (stepTo c (keeping c (leftAfter c from life attribute)) noAid) (partGiven c from life attribute))
-  part-given = part-case (partGiven c from life attribute) (leftAfter c from life attribute) (given c life attribute from) (part-short c life attribute from)
+  part-given : PartAnswers c life attribute from (accepted (partWord (nextRowAfter c from life attribute)) (stepTo c (keeping c (nextRowAfter c from life attribute)) noAid) (partGiven c from life attribute))
+  part-given = part-case (partGiven c from life attribute) (nextRowAfter c from life attribute) (given c life attribute from) (part-short c life attribute from)
 
 part-taken : (c : Card) (life attribute : Bool) → sound c ≡ true → (next : Bool) → Passed c (statusOfAll next life attribute) → outcome c (askedWork c (statusOfAll next life attribute)) ≡ accepted (partWord (goesOnAt c next life attribute)) (stepTo c (keeping c (goesOnAt c next life attribute)) noAid) (partGiven c (beginsAt c next) life attribute)
 part-taken c life attribute s next p =
@@ -112,23 +114,41 @@ pub status-of-all-law : StatusOfAllLaw
 status-of-all-law c life attribute s =
     subst (PartAnswers c life attribute 0) (sym (part-taken c life attribute s false (record { change = refl; target = refl; already = refl; state = refl; policy = refl; verdict = refl; room = refl }))) (part-given c life attribute 0 s)
 
+status-of-next-refused : (c : Card) (life attribute : Bool) → sound c ≡ true → InThisOrder (0x6A88 when (c .kept ≡ noPlace) ∷ []) (outcome c (askedWork c (statusOfAll true life attribute)) .status)
+status-of-next-refused c life attribute s =
+    by-rows c (askedWork c (statusOfAll true life attribute)) s (0x6A88 when (c .kept ≡ noPlace) ∷ [])
+    (skip (by-when NotHeld (eq-eqb _ _) (eqb-true _ _) λ q. skip (skip (skip (skip (skip (no-more (part-done (goesOnAt c true life attribute)))))))))
+
 pub status-of-next-law : StatusOfNextLaw
 status-of-next-law c life attribute s =
     record {
-      only-where = λ e. eqb-false (c .kept) noPlace (asked-passed c (statusOfAll true life attribute) e .target);
-      where-may =
-          λ n.
-          subst (PartAnswers c life attribute (c .kept))
-          (sym (part-taken c life attribute s true (record { change = refl; target = ne-eqb (c .kept) noPlace n; already = refl; state = refl; policy = refl; verdict = refl; room = refl })))
-          (part-given c life attribute (c .kept) s);
+      taken =
+          record {
+            only-where = λ e. eqb-false (c .kept) noPlace (asked-passed c (statusOfAll true life attribute) e .target);
+            where-may =
+                λ n.
+                subst (PartAnswers c life attribute (c .kept))
+                (sym (part-taken c life attribute s true (record { change = refl; target = ne-eqb (c .kept) noPlace n; already = refl; state = refl; policy = refl; verdict = refl; room = refl })))
+                (part-given c life attribute (c .kept) s);
+          };
+      refused = status-of-next-refused c life attribute s;
     }
+
+status-of-one-refused : (c : Card) (aid : List ℕ) (life attribute : Bool) → sound c ≡ true → InThisOrder (0x6A88 unless IsHeld c aid ∷ []) (outcome c (askedWork c (on aid (status life attribute))) .status)
+status-of-one-refused c aid life attribute s =
+    by-rows c (askedWork c (on aid (status life attribute))) s (0x6A88 unless IsHeld c aid ∷ [])
+    (skip (is-held c aid s λ h. skip (skip (skip (skip (no-more refl))))))
 
 pub status-of-one-law : StatusOfOneLaw
 status-of-one-law c aid life attribute s =
     let t = placeOf c aid in
-    command-law c aid (status life attribute) (λ i. Unit {0}) (λ i. Still c (statusAt c life attribute i)) s
-    (λ p. tt)
-    (λ h m. (held-passes c aid (status life attribute) h refl refl refl refl refl, rw (one-bytes c t life attribute (h .held-there)) (still c (statusAt c life attribute t) s)))
+    record {
+      taken =
+          command-law c aid (status life attribute) (λ i. Unit {0}) (λ i. Still c (statusAt c life attribute i)) s
+          (λ p. tt)
+          (λ h m. (held-passes c aid (status life attribute) h refl refl refl refl refl, rw (one-bytes c t life attribute (h .held-there)) (still c (statusAt c life attribute t) s)));
+      refused = status-of-one-refused c aid life attribute s;
+    }
 
 pub get-data-law : GetDataLaw
 unfolding dataResponse

@@ -14,7 +14,7 @@ use Rattle.card_isdp.specs.Place.{held}
 use Rattle.card_isdp.specs.declared.Isdp.{Isdp}
 use Rattle.card_places.specs.Places.{at}
 use Rattle.card_record.specs.Cards.{noPlace, keeping}
-use Rattle.card_record.specs.Clock.{nextOf}
+use Rattle.card_record.specs.Clock.{nextNumber}
 use Rattle.card_record.specs.Ticks.{ticksByPhase}
 use Rattle.card_record.specs.Notifications.{silent}
 use Rattle.card_record.specs.Answers.{Outcome}
@@ -131,11 +131,11 @@ abbrev pub entered : Card → ℕ → ℕ → Phase → Kind → ℕ → Result
 entered c e t phase kind ticks =
     record {
       free = c .free;
-      last = nextOf (c .last);
+      last = nextNumber (c .last);
       fallback = c .fallback;
       phase = phase;
       place = traded c e t;
       response = [];
-      notification = record { kind = kind; number = nextOf (c .last); eid = c .eid; aid = profileAt c t .aid };
+      notification = record { kind = kind; number = nextNumber (c .last); eid = c .eid; aid = profileAt c t .aid };
       ticks = ticks;
     }

@@ -7,7 +7,7 @@ use mathlib.Core.List.{[]}
 use mathlib.Core.Bool.{true, cond}
 use lib.Dec.{eqb}
 use Rattle.base_status.specs.declared.Status.the-variants.{Done}
-use Rattle.card_record.specs.Clock.{nextOf}
+use Rattle.card_record.specs.Clock.{nextNumber}
 use Rattle.card_record.specs.Sound.{sound}
 use Rattle.card_record.specs.Answers.{Outcome, outcome}
 use Rattle.card_record.specs.declared.Card.{Card}
@@ -24,11 +24,11 @@ furtherWait c i = cond (eqb i (c .fallback)) 0 10
 
 -- the fall-back is enabled, with ten ticks left
 abbrev pub FallenEntered : Card → ℕ → Outcome → Type 0
-FallenEntered c e = Answers c (entered c e (c .fallback) (Fallen 10 (nextOf (c .last))) FallenBack 10)
+FallenEntered c e = Answers c (entered c e (c .fallback) (Fallen 10 (nextNumber (c .last))) FallenBack 10)
 
 pub record TrialTicked (c : Card) (e previous left number : ℕ) (o : Outcome) : Type 0 where
   pub falls-by-one : 1 < left → Answers c (rephased c (Trial previous (left - 1) number) (left - 1 + 10 + furtherWait c previous)) o
-  pub at-zero : left ≡ 1 → Answers c (entered c e previous (Back 10 (nextOf (c .last))) RolledBack (10 + furtherWait c previous)) o
+  pub at-zero : left ≡ 1 → Answers c (entered c e previous (Back 10 (nextNumber (c .last))) RolledBack (10 + furtherWait c previous)) o
 
 pub record BackTicked (c : Card) (e left number : ℕ) (o : Outcome) : Type 0 where
   pub falls-by-one : 1 < left → Answers c (rephased c (Back (left - 1) number) (left - 1 + furtherWait c e)) o

@@ -2,6 +2,7 @@
 use Prim.Native.Nat.{ℕ, _+_, _-_, _≤_, _<_}
 use mathlib.Core.Path.{_≡_}
 use mathlib.Core.List.{List, [], _∷_}
+use mathlib.Core.Logic.{_⊎_}
 use mathlib.Core.Bool.{true, false}
 use lib.ListN.{length}
 use Rattle.card_isdp.specs.LifeCycle.{selectable}
@@ -16,6 +17,7 @@ use Rattle.card_record.specs.declared.Phase.the-variants.{Quiet}
 use Rattle.rule_steps.specs.Asked.{Asked.create}
 use Rattle.rule_steps.specs.Steps.{askedWork}
 use Rattle.rule_steps.specs.Laws.Answer.{profileAt, Holds, Answers, OnPlace, onlyAt, replaced}
+use Rattle.rule_steps.specs.Laws.Words.{PaperRow, _when_, _unless_, TakenOrRefused, IsHeld}
 
 -- place t is the lowest free one
 pub record LowestFree (c : Card) (t : ℕ) : Type 0 where
@@ -28,12 +30,28 @@ pub record MayCreate (c : Card) (aid : List ℕ) (quota : ℕ) : Type 0 where
   pub not-held : (i : ℕ) → Holds c aid i → ⊥
   pub room : quotas (c .places) + quota ≤ c .capacity
 
+-- "create: 8 held, or quota over free"; request 2026-05: 32 held
+abbrev pub NoneFree : Card → Type 0
+NoneFree c = (i : ℕ) → i < 32 → held (profileAt c i) ≡ true
+
+-- "Free is capacity less all quotas held."
+abbrev pub OverFree : Card → ℕ → Type 0
+OverFree c quota = c .capacity - quotas (c .places) < quota
+
+abbrev pub createRows : Card → List ℕ → ℕ → List PaperRow
+createRows c aid quota =
+    0x6985 unless (c .phase ≡ Quiet)
+    ∷ 0x6A80 when IsHeld c aid
+    ∷ 0x6A84 when (NoneFree c ⊎ OverFree c quota)
+    ∷ []
+
 -- free less the quota (request 2026-04); the new profile field by field: AID, SELECTABLE, quota, used, policy, mark; a response of one
 -- byte 00 (000, 4.1.1.1)
 abbrev pub CreateAnswers : Card → List ℕ → ℕ → Outcome → Type 0
 CreateAnswers c aid quota =
-    OnPlace (LowestFree c) (λ t. MayCreate c aid quota)
-    (λ t. Answers c (replaced c (c .free - quota) (onlyAt c t (profile (named aid) selectable quota 0 0 0)) (0x00 ∷ []) 0))
+    TakenOrRefused (createRows c aid quota)
+    (OnPlace (LowestFree c) (λ t. MayCreate c aid quota)
+    (λ t. Answers c (replaced c (c .free - quota) (onlyAt c t (profile (named aid) selectable quota 0 0 0)) (0x00 ∷ []) 0)))
 
 abbrev pub CreateLaw : Type 0
 CreateLaw =

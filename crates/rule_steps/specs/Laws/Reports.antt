@@ -22,6 +22,7 @@ use Rattle.base_bytes.specs.Bytes.{fourBytes}
 use Rattle.rule_steps.specs.Asked.{Act.status, Asked.on, Asked.statusOfAll, Asked.getData}
 use Rattle.rule_steps.specs.Steps.{askedWork}
 use Rattle.rule_steps.specs.Laws.Answer.{profileAt, Holds, element, Still, Exactly, OnPlace}
+use Rattle.rule_steps.specs.Laws.Words.{_when_, _unless_, TakenOrRefused, IsHeld}
 
 -- "53 is 01 for the fall-back, else 00"
 abbrev pub attributeAt : Card → ℕ → ℕ
@@ -56,17 +57,23 @@ pub data PartAnswers (c : Card) (life attribute : Bool) (from : ℕ) (o : Outcom
   to-the-last : Listed c Done noPlace (statusFrom c life attribute from (length (c .places) - from)) o → PartAnswers c life attribute from o
   up-to : (n : ℕ) → from + n < length (c .places) → held (profileAt c (from + n)) ≡ true → 255 < length (statusFrom c life attribute from n) + length (statusAt c life attribute (from + n)) → Listed c More (from + n) (statusFrom c life attribute from n) o → PartAnswers c life attribute from o
 
--- P2 02 begins anew, whatever is kept; P2 03 is accepted exactly where a place is kept, and goes on there
+-- P2 02 begins anew, whatever is kept, and is never refused; P2 03 is accepted exactly where a place is kept, and goes on there: "with no listing open
+-- 6A 88 in the target's place"
 abbrev pub StatusOfAllAnswers : Card → Bool → Bool → Outcome → Type 0
 StatusOfAllAnswers c life attribute = PartAnswers c life attribute 0
 
 abbrev pub StatusOfNextAnswers : Card → Bool → Bool → Outcome → Type 0
-StatusOfNextAnswers c life attribute = Exactly (c .kept ≡ noPlace → ⊥) (PartAnswers c life attribute (c .kept))
+StatusOfNextAnswers c life attribute =
+    TakenOrRefused (0x6A88 when (c .kept ≡ noPlace) ∷ [])
+    (Exactly (c .kept ≡ noPlace → ⊥) (PartAnswers c life attribute (c .kept)))
 
 -- accepted exactly where the AID is held
 abbrev pub StatusOfOneAnswers : Card → List ℕ → Bool → Bool → Outcome → Type 0
-StatusOfOneAnswers c aid life attribute = OnPlace (Holds c aid) (λ t. Unit {0}) (λ t. Still c (statusAt c life attribute t))
+StatusOfOneAnswers c aid life attribute =
+    TakenOrRefused (0x6A88 unless IsHeld c aid ∷ [])
+    (OnPlace (Holds c aid) (λ t. Unit {0}) (λ t. Still c (statusAt c life attribute t)))
 
+-- never refused
 abbrev pub GetDataAnswers : Card → Outcome → Type 0
 GetDataAnswers c =
     Still c

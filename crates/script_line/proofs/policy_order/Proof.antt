@@ -2,7 +2,7 @@
 use mathlib.Core.Path.{_≡_, refl, sym, _∙_}
 use Rattle.script_words.specs.Arguments.{bytesAt}
 use Rattle.script_words.specs.declared.Bytes.the-variants.{Is}
-use Rattle.script_line.specs.Orders.{policyAt}
+use Rattle.script_line.specs.Orders.{policyLineAt}
 use borrow.Author.Needs.{needs}
 use Rattle.script_line.proofs.policy_order.Statement.{statement}
 use Rattle.script_line.proofs.policy_order.Tie as tie
@@ -14,17 +14,17 @@ speaker : (c : tie.After-speaker) → Is (c .speaker .given .0 .0) (c .speaker .
 speaker c = sym (c .speaker .given .1) ∙ c .before .before .next-bytes .ensures
 
 returns : tie.Need-returns
-unfolding policyAt
+unfolding policyLineAt
 returns c = rw (← (sym (c .before .why .given .1) ∙ c .before .before .before .next-bytes .ensures)) refl
 
 returns-2 : tie.Need-returns-2
-unfolding policyAt
+unfolding policyLineAt
 returns-2 c =
     let v = c .before .before .before in
     rw (← (speaker (v .before .before)), ← (sym (c .before .why2 .given .1) ∙ v .next-sent .ensures)) refl
 
 returns-3 : tie.Need-returns-3
-unfolding policyAt
+unfolding policyLineAt
 returns-3 c =
     let v = c .before .before .before in
     rw (← (speaker (v .before .before)), ← (sym (c .before .bytes .given .1) ∙ v .next-sent .ensures)) refl

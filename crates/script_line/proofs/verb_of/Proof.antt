@@ -7,20 +7,20 @@ use mathlib.Core.Bool.{true, false}
 use lib.ListN.{drop}
 use Rattle.base_bytes.specs.Bytes.{sameBytes}
 use Rattle.base_choice.proofs.Branches.{yes!, no! }
-use Rattle.script_line.specs.Orders.{Named, named, verbIn, verbOf}
+use Rattle.script_line.specs.Orders.{LineWord, lineWords, verbIn, verbOf}
 use borrow.Author.Needs.{needs}
 use Rattle.script_line.proofs.verb_of.Statement.{statement}
 use Rattle.script_line.proofs.verb_of.Tie as tie
 
 -- the word is none of the table's first n
 abbrev Left : List ℕ → ℕ → Type 0
-Left w n = verbOf w ≡ verbIn (drop n named) w
+Left w n = verbOf w ≡ verbIn (drop n lineWords) w
 
 all : (w : List ℕ) → Left w 0
 unfolding verbOf
 all w = refl
 
-module _ (w : List ℕ) (n : Named) (ns : List Named) (left : verbOf w ≡ verbIn (n ∷ ns) w) where
+module _ (w : List ℕ) (n : LineWord) (ns : List LineWord) (left : verbOf w ≡ verbIn (n ∷ ns) w) where
   skip : sameBytes w (n .word) ≡ false → verbOf w ≡ verbIn ns w
   unfolding verbIn
   skip e = left ∙ sym (no! _ e refl)

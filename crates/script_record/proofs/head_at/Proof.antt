@@ -6,7 +6,7 @@ use mathlib.Core.List.{List}
 use Rattle.script_words.specs.Arguments.{most16, most8, valueAt}
 use Rattle.script_words.specs.declared.Value.the-variants.{Is}
 use Rattle.script_words.proofs.Within.{value-within}
-use Rattle.script_record.specs.Records.{memoryAt, headAt}
+use Rattle.script_record.specs.Records.{recordMemoryAt, recordHeadAt}
 use Rattle.script_record.specs.declared.Memory.the-variants as memory
 use borrow.Author.Needs.{needs}
 use Rattle.script_record.proofs.head_at.Statement.{statement}
@@ -22,7 +22,7 @@ abbrev next : tie.After-capacity → ℕ
 next c = c .capacity .given .0 .1 .1 .1 .0
 
 figures : (c : tie.After-capacity)
-    → let g = c .capacity .given .0 in memory.Is (g .0) (g .1 .0) (g .1 .1 .0) (next c) ≡ memoryAt (line c) (start c .args .at)
+    → let g = c .capacity .given .0 in memory.Is (g .0) (g .1 .0) (g .1 .1 .0) (next c) ≡ recordMemoryAt (line c) (start c .args .at)
 figures c = sym (c .capacity .given .1) ∙ c .before .before .memory-at .ensures
 
 abbrev first : tie.After-last → tie.After-capacity
@@ -51,26 +51,26 @@ cast-t27 : tie.Need-cast-t27
 cast-t27 c = let h = value-within _ _ _ _ _ (fallback (third (c .before .before .before))) in search needs
 
 returns : tie.Need-returns
-unfolding headAt
+unfolding recordHeadAt
 returns c =
     let w = c .before in
     rw (← (sym (w .why .given .1) ∙ w .before .before .memory-at .ensures)) refl
 
 returns-2 : tie.Need-returns-2
-unfolding headAt
+unfolding recordHeadAt
 returns-2 c =
     let n = c .before .before .before in
     rw (← (figures (n .before .before)), ← (sym (c .before .why2 .given .1) ∙ n .next-value .ensures)) refl
 
 returns-3 : tie.Need-returns-3
-unfolding headAt
+unfolding recordHeadAt
 returns-3 c =
     let n = c .before .before .before in
     let l = n .before .before in
     rw (← (figures (first l)), ← (last l), ← (sym (c .before .why3 .given .1) ∙ n .next-value2 .ensures)) refl
 
 returns-4 : tie.Need-returns-4
-unfolding headAt
+unfolding recordHeadAt
 returns-4 c =
     let n = c .before .before .before in
     let l = second (third n) in
@@ -78,7 +78,7 @@ returns-4 c =
     rw (← (figures (first l)), ← (last l), ← (fallback (third n)), ← e) refl
 
 returns-5 : tie.Need-returns-5
-unfolding headAt
+unfolding recordHeadAt
 returns-5 c =
     let n = c .before .before .before in
     let l = second (third n) in

@@ -2,7 +2,7 @@
 use mathlib.Core.Path.{_≡_, refl, sym, _∙_}
 use Rattle.script_words.specs.Arguments.{most32, valueAt}
 use Rattle.script_words.specs.declared.Value.the-variants.{Is}
-use Rattle.script_record.specs.Records.{memoryAt}
+use Rattle.script_record.specs.Records.{recordMemoryAt}
 use borrow.Author.Needs.{needs}
 use Rattle.script_record.proofs.memory_at.Statement.{statement}
 use Rattle.script_record.proofs.memory_at.Tie as tie
@@ -23,26 +23,26 @@ volatile : (c : tie.After-volatile)
 volatile c = sym (c .volatile .given .1) ∙ c .before .before .next-value2 .ensures
 
 returns : tie.Need-returns
-unfolding memoryAt
+unfolding recordMemoryAt
 returns c =
     let w = c .before in
     rw (← (sym (w .why .given .1) ∙ w .before .before .next-value .ensures)) refl
 
 returns-2 : tie.Need-returns-2
-unfolding memoryAt
+unfolding recordMemoryAt
 returns-2 c =
     let n = c .before .before .before in
     rw (← (capacity (n .before .before)), ← (sym (c .before .why2 .given .1) ∙ n .next-value2 .ensures)) refl
 
 returns-3 : tie.Need-returns-3
-unfolding memoryAt
+unfolding recordMemoryAt
 returns-3 c =
     let n = c .before .before .before in
     let v = n .before .before in
     rw (← (capacity (first v)), ← (volatile v), ← (sym (c .before .why3 .given .1) ∙ n .next-value3 .ensures)) refl
 
 returns-4 : tie.Need-returns-4
-unfolding memoryAt
+unfolding recordMemoryAt
 returns-4 c =
     let n = c .before .before .before in
     let v = n .before .before in

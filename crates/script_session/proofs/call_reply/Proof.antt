@@ -3,7 +3,7 @@ use mathlib.Core.Path.{refl, sym}
 use lib.Seq.{length-take-le}
 use native.Mathlib.Omega.{arith}
 use denote.Ref.{now}
-use Rattle.script_reply.specs.Replies.{bytesIn, callIn, answerTo}
+use Rattle.script_reply.specs.Replies.{bytesIn, callSpelled, answerTo}
 use Rattle.script_session.proofs.Spelled.{answer-is, response-left, response-is, response-size, response-fits, text-short, replied}
 use borrow.Author.Needs.{needs}
 use Rattle.script_session.proofs.call_reply.Statement.{statement}
@@ -61,7 +61,7 @@ returns c =
     let lies = k .lay .ensures in
     let size = s .pre .1 .1 in
     let small = s .pre .0 .1 in (
-      replied (a .explain) found (bytesIn line (a .call)) (answerTo found card (callIn line (a .room) (a .call)))
+      replied (a .explain) found (bytesIn line (a .call)) (answerTo found card (callSpelled line (a .room) (a .call)))
           (answer-is found card line (a .call) (a .room) old served lies size small)
           (response-is found card line (a .call) (a .room) old served lies size small)
           refl refl refl (w .write-text .ensures .0)

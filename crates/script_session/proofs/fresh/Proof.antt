@@ -2,7 +2,7 @@
 use mathlib.Core.Path.{_≡_, _∙_}
 use mathlib.Core.List.{List}
 use Prim.Native.Nat.{ℕ}
-use Rattle.card_record.specs.Answers.{handed}
+use Rattle.card_record.specs.Answers.{asAnswer}
 use Rattle.card_record.specs.Fresh.{freshOutcome}
 use Rattle.card_record.specs.declared.Answer.{Answer}
 use Rattle.script_session.proofs.Spelled.{front-is}
@@ -10,8 +10,8 @@ use borrow.Author.Needs.{needs}
 use Rattle.script_session.proofs.fresh.Statement.{statement}
 use Rattle.script_session.proofs.fresh.Tie as tie
 
-same-fresh : {r : Answer} {eid₁ eid₂ aid₁ aid₂ : List ℕ} (capacity quota used volatile : ℕ) → r ≡ handed (freshOutcome eid₁ aid₁ capacity quota used volatile)
-    → eid₁ ≡ eid₂ → aid₁ ≡ aid₂ → r ≡ handed (freshOutcome eid₂ aid₂ capacity quota used volatile)
+same-fresh : {r : Answer} {eid₁ eid₂ aid₁ aid₂ : List ℕ} (capacity quota used volatile : ℕ) → r ≡ asAnswer (freshOutcome eid₁ aid₁ capacity quota used volatile)
+    → eid₁ ≡ eid₂ → aid₁ ≡ aid₂ → r ≡ asAnswer (freshOutcome eid₂ aid₂ capacity quota used volatile)
 same-fresh capacity quota used volatile p e f = rw (← e, ← f) p
 
 spell-requires : tie.Need-spell-requires

@@ -3,7 +3,7 @@ use mathlib.Core.Path.{ap, sym, _∙_}
 use mathlib.Core.List.{[]}
 use borrow.Author.Tests.{not-true, not-false}
 use Rattle.base_status.specs.Rows.{wordOf}
-use Rattle.card_record.specs.Answers.{handed}
+use Rattle.card_record.specs.Answers.{asAnswer}
 use Rattle.script_reply.specs.Replies.{recordWork}
 use Rattle.card_record.proofs.Outcomes.{checked, stopped}
 use borrow.Author.Needs.{needs}
@@ -13,7 +13,7 @@ use Rattle.script_session.proofs.hand_in.Tie as tie
 returns : tie.Need-returns
 returns c = let e = c .before in
     let s = e .before .before in
-    c .unsound .ensures ∙ ap handed (sym (stopped (s .args .card) (recordWork (s .args .card)) (sym (e .before .is-sound .ensures) ∙ not-true _ (e .if1 .taken))))
+    c .unsound .ensures ∙ ap asAnswer (sym (stopped (s .args .card) (recordWork (s .args .card)) (sym (e .before .is-sound .ensures) ∙ not-true _ (e .if1 .taken))))
 
 returns-2 : tie.Need-returns-2
 unfolding wordOf

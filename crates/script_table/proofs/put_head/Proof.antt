@@ -2,18 +2,18 @@
 use mathlib.Core.Path.{refl}
 use Rattle.base_bytes.proofs.PutLaws.{wrote-as, wrote-then}
 use Rattle.base_choice.proofs.Branches.{eq!, ne! }
-use Rattle.script_table.specs.Profiles.{headText}
+use Rattle.script_table.specs.Profiles.{tableHead}
 use native.Mathlib.Omega.{arith}
 use borrow.Author.Needs.{needs}
 use Rattle.script_table.proofs.put_head.Statement.{statement}
 use Rattle.script_table.proofs.put_head.Tie as tie
 
 returns : tie.Need-returns
-unfolding headText
+unfolding tableHead
 returns c = wrote-as _ (eq! _ (omega arith) refl) (c .before .before .put-bytes .ensures)
 
 returns-2 : tie.Need-returns-2
-unfolding headText
+unfolding tableHead
 returns-2 c =
     let end = c .before .before in
     let gap = end .before .before .before .before .before in

@@ -6,7 +6,7 @@ use native.Mathlib.Omega.{arith}
 use lib.ListN.{length}
 use Rattle.card_isdp.specs.Sizes.{mostPlaces}
 use Rattle.card_record.proofs.Records.{full}
-use Rattle.script_table.specs.Profiles.{rowsText, widestOf, headText, tableText}
+use Rattle.script_table.specs.Profiles.{rowsText, widestOf, tableHead, tableText}
 use Rattle.script_table.proofs.Lengths.{table-length}
 use borrow.Author.Needs.{needs}
 use Rattle.script_table.proofs.put_table.Statement.{statement}
@@ -23,7 +23,7 @@ returns c =
     let wide = head .before .before .widest .ensures in
     let h : widestOf (card .places) ≤ 16 = omega (arith, wide) in
     let e = ap (λ (w : ℕ). rowsText (card .fallback) w 0 (card .places)) (wide .0) in
-    let written = wrote-then (wrote-as _ (ap headText (wide .0)) (head .put-head .ensures)) (wrote-as _ e (rows .put-rows .ensures)) in
+    let written = wrote-then (wrote-as _ (ap tableHead (wide .0)) (head .put-head .ensures)) (wrote-as _ e (rows .put-rows .ensures)) in
     (written, omega (arith, table-length card h))
 
 pub put-table-spec : {M : Type 1} → statement M

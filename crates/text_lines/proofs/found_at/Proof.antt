@@ -1,18 +1,18 @@
 -- `found_at` meets its contract. Each exit names the test that leads to it.
 use native.Mathlib.Omega.{arith}
 use mathlib.Core.Path.{refl}
-use Rattle.text_lines.specs.Window.{found}
+use Rattle.text_lines.specs.Window.{foundLine}
 use Rattle.base_choice.proofs.Branches.{lt!, nlt! }
 use borrow.Author.Needs.{needs}
 use Rattle.text_lines.proofs.found_at.Statement.{statement}
 use Rattle.text_lines.proofs.found_at.Tie as tie
 
 returns : tie.Need-returns
-unfolding found
+unfolding foundLine
 returns c = lt! _ (omega arith) refl
 
 returns-2 : tie.Need-returns-2
-unfolding found
+unfolding foundLine
 returns-2 c = nlt! _ (omega arith) refl
 
 pub found-at-spec : {M : Type 1} → statement M

@@ -1,7 +1,7 @@
 -- `next` meets its contract: the first bytes up to a clamped end are those up to the end.
 use Prim.Native.Nat.{ℕ}
 use mathlib.Core.List.{List}
-use Rattle.text_lines.specs.Window.{stepOf}
+use Rattle.text_lines.specs.Window.{stepFrom}
 use mathlib.Core.Path.{_≡_, sym, ap, _∙_}
 use Prim.Native.Nat.{_≤_}
 use lib.ListN.{length, take}
@@ -18,7 +18,7 @@ returns : tie.Need-returns
 returns c =
     let w = c .before .before .before .before .args in
     let e : take (c .before .before .least .result) (w .buf .now) ≡ take (w .window .end) (w .buf .now) = rw (c .before .before .least .ensures) (take-least (w .window .end) (w .buf .now)) in
-    c .step-from .ensures ∙ ap (λ (s : List ℕ). stepOf s (w .window .at) (w .window .skipping) (w .last)) e
+    c .step-from .ensures ∙ ap (λ (s : List ℕ). stepFrom s (w .window .at) (w .window .skipping) (w .last)) e
 
 pub next-spec : {M : Type 1} → statement M
 next-spec =

@@ -17,14 +17,14 @@ unfolding freshOutcome refused wordOf ticksByPhase sound
 returns c = let e = c .before in
     rw (sym (e .before .fresh-ok .ensures) ∙ not-true _ (e .if1 .taken)) (rw (c .refused .ensures, e .before .before .zero .ensures))
 
-first-requires : tie.Need-first-requires
-first-requires c κs = let e = c in
+fresh-card-requires : tie.Need-fresh-card-requires
+fresh-card-requires c κs = let e = c in
     eqb-true (length (c .before .before .before .before .before .args .eid .now)) 16 (and-l _ _ (sym (e .before .fresh-ok .ensures) ∙ not-false _ (e .if1 .left)))
 
 returns-2 : tie.Need-returns-2
 unfolding freshOutcome accepted wordOf ticksToCome stepsIn ticksByPhase
 returns-2 c = let e = c .before .before .before .before in
-    rw (sym (e .before .fresh-ok .ensures) ∙ not-false _ (e .if1 .left)) (c .answer .ensures ∙ rw (c .before .step-since .ensures) (rw (c .before .before .before .first .ensures) (rw (e .before .before .zero .ensures) refl)))
+    rw (sym (e .before .fresh-ok .ensures) ∙ not-false _ (e .if1 .left)) (c .answer .ensures ∙ rw (c .before .step-since .ensures) (rw (c .before .before .before .fresh-card .ensures) (rw (e .before .before .zero .ensures) refl)))
 
 pub fresh-spec : {M : Type 1} → statement M
 fresh-spec =
@@ -34,7 +34,7 @@ fresh-spec =
     (λ c κs. search needs)
     (λ c κs. search needs)
     returns
-    first-requires
+    fresh-card-requires
     (λ c κs. search needs)
     (λ c κs. search needs)
     (λ c κs. search needs)

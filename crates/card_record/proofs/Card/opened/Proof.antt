@@ -4,7 +4,7 @@ use Rattle.card_record.proofs.Card.opened.Statement.{statement}
 use Rattle.card_record.proofs.Card.opened.Tie as tie
 
 returns : tie.Need-returns
-returns c = rw (c .moved .ensures, c .before .next .ensures, c .before .before .enabled-place .ensures)
+returns c = rw (c .switched .ensures, c .before .next-number .ensures, c .before .before .enabled-place .ensures)
 
 pub opened-spec : {M : Type 1} → statement M
 opened-spec = tie.close (tie.spec (λ c κs. search needs) (λ c κs. search needs) (λ c κs. search needs) returns)

@@ -7,11 +7,11 @@ use Rattle.card_record.proofs.Card.trial_confirmed.Tie as tie
 returns : tie.Need-returns
 returns c = let t = c .before .before .before in
     let d = t .before in
-    rw (sym (d .drops .ensures) ∙ t .if1 .taken) (rw (c .step-since .ensures, c .before .cleared .ensures, c .before .before .profile .ensures, d .before .with-phase .ensures))
+    rw (sym (d .dropped .ensures) ∙ t .if1 .taken) (rw (c .step-since .ensures, c .before .cleared .ensures, c .before .before .profile .ensures, d .before .with-phase .ensures))
 
 returns-2 : tie.Need-returns-2
 returns-2 c = let d = c .before .before .before in
-    rw (sym (d .drops .ensures) ∙ c .before .before .if1 .left) (rw (c .step-since2 .ensures, c .before .none .ensures, d .before .with-phase .ensures))
+    rw (sym (d .dropped .ensures) ∙ c .before .before .if1 .left) (rw (c .step-since2 .ensures, c .before .none .ensures, d .before .with-phase .ensures))
 
 pub trial-confirmed-spec : {M : Type 1} → statement M
 trial-confirmed-spec =

@@ -1,4 +1,4 @@
--- `Card::ticks_to_come`: each exit is one case of the closed form.
+-- `Card::ticks_by_phase`: each exit is one case of the closed form.
 use mathlib.Core.Path.{ap, sym, _∙_}
 use native.Mathlib.Omega.{arith}
 use borrow.Author.Tests.{eq-eqb, ne-eqb}
@@ -7,8 +7,8 @@ use Rattle.card_record.specs.Ticks.{ticksByPhase}
 use Rattle.card_isdp.specs.LifeCycle.{enabled}
 use Rattle.card_places.specs.Places.{at}
 use borrow.Author.Needs.{needs}
-use Rattle.card_record.proofs.Card.ticks_to_come.Statement.{statement}
-use Rattle.card_record.proofs.Card.ticks_to_come.Tie as tie
+use Rattle.card_record.proofs.Card.ticks_by_phase.Statement.{statement}
+use Rattle.card_record.proofs.Card.ticks_by_phase.Tie as tie
 
 enum-told : tie.Need-enum-told
 enum-told c = search needs
@@ -45,8 +45,8 @@ returns-6 : tie.Need-returns-6
 unfolding ticksByPhase
 returns-6 c = rw (c .before .phase3 .given .1)
 
-pub ticks-to-come-spec : {M : Type 1} → statement M
-ticks-to-come-spec =
+pub ticks-by-phase-spec : {M : Type 1} → statement M
+ticks-by-phase-spec =
     tie.close
     (tie.spec
     enum-told
