@@ -1,5 +1,5 @@
 -- Document 01, 'Sizes': the numbers that a card keeps. Those of a command and of the lent buffer stand where they are asked: 261 in
--- framing/specs/Framing, 256 in manager/specs/Table; the readers of a command (fields, install, command) write an AID's 5 to 16 as
+-- read_frame/specs/Framing, 256 in rule_run/specs/Table; the readers of a command (read_fields, read_install, read_command) write an AID's 5 to 16 as
 -- 'Reading a command' does, as the bounds of an element.
 use Prim.Native.Nat.{ℕ}
 

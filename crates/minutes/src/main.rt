@@ -1,6 +1,6 @@
 // minutes: reports how many minutes each profile was enabled, from event files (docs/EVENTS.md). Its words are taken from left to right:
 // `explain`, what follows is written for a person; `-`, standard input is read as a file; any other names an event file (decision B52).
-// What a file means and what is written of it is proved below, in `account`; here only bytes are moved.
+// What a file means and what is written of it is proved below, in `month_account`; here only bytes are moved.
 use base_bytes::same;
 use libc::STDIN_FILENO;
 use libc::STDOUT_FILENO;

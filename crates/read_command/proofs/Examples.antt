@@ -1,4 +1,4 @@
--- Worked strings, by computing: the commands of document 01's marked examples 1 to 4, and one of each other kind (RULINGS, worked bytes).
+-- Worked strings, by computing: the commands of document 01's marked examples 1 to 4, and one of each other kind (worked by hand from the tables of 000).
 use Prim.Native.Nat.{ℕ}
 use mathlib.Core.Path.{_≡_, refl}
 use mathlib.Core.List.{List, [], _∷_, _++_, map}

@@ -1,5 +1,5 @@
 // The responses of the commands, written into a lent buffer from a place on; each answers the place after what it wrote.
-// Every function answers for every record and every buffer: what does not fit is dropped, as the writers of `byte_string` do.
+// Every function answers for every record and every buffer: what does not fit is dropped, as the writers of `base_bytes` do.
 use base_bytes::put_bytes;
 use card_isdp::Aid;
 use card_isdp::Isdp;

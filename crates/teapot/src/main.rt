@@ -1,7 +1,7 @@
 // teapot: runs scripts of calls through the manager and writes an answer for each call; answers are collected while lines are at hand,
 // and written out before the program waits for more. Its words are taken from left to right: `explain`, what follows is written for a
 // person; `ask`, every call asks whether the card is sound; `-`, standard input is run; any other names a script's file, which is run.
-// What a line means and what is written of it is proved below, in `session`; here only bytes are moved.
+// What a line means and what is written of it is proved below, in `script_session`; here only bytes are moved.
 use base_bytes::same;
 use libc::STDIN_FILENO;
 use libc::STDOUT_FILENO;

@@ -1,5 +1,5 @@
 -- What a read leaves in a window of lines: what was held, and some bytes behind it. Which bytes, the system says; that they are there
--- exactly where it says so, and that a failed read and the end bring none, is said here. It is what `Session` of `lines` asks of a read.
+-- exactly where it says so, and that a failed read and the end bring none, is said here. It is what `Session` of `text_lines` asks of a read.
 use Prim.Native.Nat.{ℕ, zero, suc, _<_}
 use mathlib.Core.Path.{_≡_}
 use mathlib.Core.List.{List, [], _++_}

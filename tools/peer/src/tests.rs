@@ -1,4 +1,4 @@
-//! The worked bytes of RULINGS part B, document 01's twelve examples, and the two claims the
+//! Bytes worked by hand from the tables of 000, document 01's twelve examples, and the two claims the
 //! engine leans on: the ticks figure is the count, and no step from a sound card makes an unsound one.
 //! Then request 2026-02's mark of provisioning capability. Every expected line is written from the papers, none is copied from a run.
 

@@ -1,4 +1,4 @@
--- `isdp::clashes`: as `is_for`, with the other place's AID for the byte string.
+-- `card_isdp::clashes`: as `is_for`, with the other place's AID for the byte string.
 use mathlib.Core.Path.{sym, _∙_, ap}
 use Prim.Native.Nat.{ℕ}
 use native.Mathlib.Omega.{arith}

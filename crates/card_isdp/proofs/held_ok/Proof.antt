@@ -1,4 +1,4 @@
--- `isdp::held_ok`: the tests are the definition's, the policy's and the mark's by their functions.
+-- `card_isdp::held_ok`: the tests are the definition's, the policy's and the mark's by their functions.
 use borrow.Author.Needs.{needs}
 use Rattle.card_isdp.proofs.held_ok.Statement.{statement}
 use Rattle.card_isdp.proofs.held_ok.Tie as tie

@@ -1,4 +1,4 @@
--- `isdp::is_for`: the AID of the place is the bytes that its length takes.
+-- `card_isdp::is_for`: the AID of the place is the bytes that its length takes.
 use mathlib.Core.Path.{sym, _∙_, ap}
 use Prim.Native.Nat.{ℕ}
 use native.Mathlib.Omega.{arith}

@@ -1,4 +1,4 @@
--- `isdp::pad`: the loop has put the first i bytes of the AID before zeros; it ends with the AID or with the sixteenth byte.
+-- `card_isdp::pad`: the loop has put the first i bytes of the AID before zeros; it ends with the AID or with the sixteenth byte.
 use mathlib.Core.Path.{_≡_, _∙_}
 use Prim.Native.Nat.{_-_, _≤_}
 use native.Mathlib.Omega.{arith}

@@ -1,4 +1,4 @@
--- `isdp::place_ok`: the AID has sixteen bytes by its type, and the tests are the definition's.
+-- `card_isdp::place_ok`: the AID has sixteen bytes by its type, and the tests are the definition's.
 use borrow.Author.Tests.{eq-eqb, ne-eqb}
 use Rattle.card_isdp.specs.Place.{placeOk}
 use Rattle.card_isdp.proofs.Records.{wide}

@@ -1,4 +1,4 @@
--- `isdp::policy_ok`: the rows of Table 70 are the numbers up to 4.
+-- `card_isdp::policy_ok`: the rows of Table 70 are the numbers up to 4.
 use mathlib.Core.Path.{sym}
 use Rattle.card_isdp.proofs.Policies.{policy-number}
 use Rattle.card_isdp.proofs.policy_ok.Statement.{statement}

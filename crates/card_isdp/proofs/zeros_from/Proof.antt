@@ -1,4 +1,4 @@
--- `isdp::zeros_from`: the bytes before i were zero, so what is left decides.
+-- `card_isdp::zeros_from`: the bytes before i were zero, so what is left decides.
 use mathlib.Core.Path.{_≡_, sym, _∙_}
 use Prim.Native.Nat.{_-_}
 use native.Mathlib.Omega.{arith}

@@ -1,4 +1,4 @@
--- `places::again`: no place before i clashed, so the places left decide.
+-- `card_places::again`: no place before i clashed, so the places left decide.
 use mathlib.Core.Path.{_≡_, sym, _∙_}
 use Prim.Native.Nat.{_-_}
 use native.Mathlib.Omega.{arith}

@@ -1,4 +1,4 @@
--- `places::all_off`: the places before i are switched off (`offTo`).
+-- `card_places::all_off`: the places before i are switched off (`offTo`).
 use mathlib.Core.Path.{_≡_, refl, ap, _∙_}
 use Prim.Native.Nat.{_-_, _≤_}
 use native.Mathlib.Omega.{arith}

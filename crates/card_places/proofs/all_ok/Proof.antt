@@ -1,4 +1,4 @@
--- `places::all_ok`: the places before i passed, so the places left decide.
+-- `card_places::all_ok`: the places before i passed, so the places left decide.
 use mathlib.Core.Path.{_≡_, sym, _∙_}
 use Prim.Native.Nat.{_-_, _≤_}
 use native.Mathlib.Omega.{arith}

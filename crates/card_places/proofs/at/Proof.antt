@@ -1,4 +1,4 @@
--- `places::at`: within the array the place read, past it the one not held.
+-- `card_places::at`: within the array the place read, past it the one not held.
 use mathlib.Core.Path.{_≡_, sym, _∙_}
 use native.Mathlib.Omega.{arith}
 use lib.ListN.{length}

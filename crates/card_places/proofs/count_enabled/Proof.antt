@@ -1,4 +1,4 @@
--- `places::count_enabled`: the places before i are counted in n, the rest is still to count.
+-- `card_places::count_enabled`: the places before i are counted in n, the rest is still to count.
 use mathlib.Core.Path.{_≡_}
 use Prim.Native.Nat.{_+_, _-_, _≤_}
 use native.Mathlib.Omega.{arith}

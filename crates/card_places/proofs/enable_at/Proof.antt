@@ -1,4 +1,4 @@
--- `places::enable_at`: all places off and one on is `enableAt` (`on-one`).
+-- `card_places::enable_at`: all places off and one on is `enableAt` (`on-one`).
 use mathlib.Core.Path.{_∙_}
 use Rattle.card_places.proofs.Switching.{on-one}
 use borrow.Author.Needs.{needs}

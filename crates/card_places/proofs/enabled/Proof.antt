@@ -1,4 +1,4 @@
--- `places::enabled`: no place before i is enabled; the search is i and what is found in the places left.
+-- `card_places::enabled`: no place before i is enabled; the search is i and what is found in the places left.
 use mathlib.Core.Path.{_≡_}
 use Prim.Native.Nat.{_+_, _-_, _≤_}
 use native.Mathlib.Omega.{arith}

@@ -1,4 +1,4 @@
--- `places::find`: no place before i bears the AID; the search is i and what is found in the places left.
+-- `card_places::find`: no place before i bears the AID; the search is i and what is found in the places left.
 use mathlib.Core.Path.{_≡_, sym, _∙_}
 use Prim.Native.Nat.{_+_, _-_, _≤_}
 use native.Mathlib.Omega.{arith}

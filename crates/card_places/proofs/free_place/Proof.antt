@@ -1,4 +1,4 @@
--- `places::free_place`: no place before i is free; the search is i and what is found in the places left.
+-- `card_places::free_place`: no place before i is free; the search is i and what is found in the places left.
 use mathlib.Core.Path.{_≡_}
 use Prim.Native.Nat.{_+_, _-_, _≤_}
 use native.Mathlib.Omega.{arith}

@@ -1,4 +1,4 @@
--- `places::leave`: free and the quotas left are held against what is left of the capacity.
+-- `card_places::leave`: free and the quotas left are held against what is left of the capacity.
 use mathlib.Core.Path.{_≡_, sym, _∙_}
 use Prim.Native.Nat.{_+_, _-_, _≤_}
 use native.Mathlib.Omega.{arith}

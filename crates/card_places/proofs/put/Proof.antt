@@ -1,4 +1,4 @@
--- `places::put`: within the array a store is `set`; past it `set` leaves the list too.
+-- `card_places::put`: within the array a store is `set`; past it `set` leaves the list too.
 use mathlib.Core.Path.{_≡_, sym}
 use native.Mathlib.Omega.{arith}
 use lib.ListN.{length}

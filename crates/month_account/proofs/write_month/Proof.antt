@@ -1,4 +1,4 @@
--- `account::write_month`: what was counted is written by its verdict.
+-- `month_account::write_month`: what was counted is written by its verdict.
 use denote.Ref.{now}
 use Rattle.month_account.proofs.Told.{refused-written, accepted-written}
 use borrow.Author.Needs.{needs}

@@ -1,4 +1,4 @@
--- `reader::at_end` meets its contract: a walk of its MIR, by hand. The reader is taken apart, and `end_at` is called on the slice and the
+-- `read_elements::at_end` meets its contract: a walk of its MIR, by hand. The reader is taken apart, and `end_at` is called on the slice and the
 -- number. All that the proof knows of `end_at` is that it meets its contract.
 use mathlib.Core.Path.{_≡_, refl}
 use Prim.Native.Nat.{_<_, _^_}

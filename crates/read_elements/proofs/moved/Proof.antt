@@ -1,4 +1,4 @@
--- `reader::moved` meets its contract: a walk of its MIR, by hand. `past` says the place, and a reader is made anew of the slice that the one
+-- `read_elements::moved` meets its contract: a walk of its MIR, by hand. `past` says the place, and a reader is made anew of the slice that the one
 -- passed holds and of that place. All that the proof knows of `past` is that it meets its contract; it owns nothing, so nothing is lent to it.
 use mathlib.Core.Path.{_≡_, refl, ap}
 use Prim.Native.Nat.{ℕ, _<_, _^_}

@@ -1,4 +1,4 @@
--- `reader::new` meets its contract: a walk of its MIR, by hand. A reader is made of the slice and the number passed, in the result's local:
+-- `read_elements::new` meets its contract: a walk of its MIR, by hand. A reader is made of the slice and the number passed, in the result's local:
 -- what it owns is what the slice owns, beside the number's facts.
 use mathlib.Core.Path.{refl}
 use Prim.Native.Nat.{ℕ, _<_, _^_}

@@ -1,4 +1,4 @@
--- `reader::next` meets its contract: a walk of its MIR, by hand. The reader is taken apart, and `next_at` is called on the slice, the number
+-- `read_elements::next` meets its contract: a walk of its MIR, by hand. The reader is taken apart, and `next_at` is called on the slice, the number
 -- and what the table asks. All that the proof knows of `next_at` is that it meets its contract.
 use mathlib.Core.Path.{_≡_, refl}
 use Prim.Native.Nat.{ℕ, _<_, _^_}

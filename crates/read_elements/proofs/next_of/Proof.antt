@@ -1,4 +1,4 @@
--- `reader::next_of` meets its contract: a walk of its MIR, by hand. A reader is made and asked for the next element. All that the proof knows
+-- `read_elements::next_of` meets its contract: a walk of its MIR, by hand. A reader is made and asked for the next element. All that the proof knows
 -- of the two callees is that each meets its contract.
 use mathlib.Core.Path.{_≡_, refl, ap, _∙_}
 use Prim.Native.Nat.{ℕ}

@@ -1,4 +1,4 @@
--- `reader::only_of` meets its contract: a walk of its MIR, by hand. A reader is made, asked for the next element, moved past it and
+-- `read_elements::only_of` meets its contract: a walk of its MIR, by hand. A reader is made, asked for the next element, moved past it and
 -- asked whether it is at its end; `filled` joins the two answers. All that the proof knows of the five callees is that each meets its
 -- contract; that their answers together are the only element is a law (`Only.antt`).
 use mathlib.Core.Path.{_≡_, refl, ap, _∙_}

@@ -1,4 +1,4 @@
--- `responses::attribute_of`: each exit is one side of the test.
+-- `record_responses::attribute_of`: each exit is one side of the test.
 use borrow.Author.Tests.{eq-eqb, ne-eqb}
 use Rattle.record_responses.proofs.attribute_of.Statement.{statement}
 use Rattle.record_responses.proofs.attribute_of.Tie as tie

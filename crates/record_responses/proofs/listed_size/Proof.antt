@@ -1,4 +1,4 @@
--- `responses::listed_size`: each exit is one choice of the two tests.
+-- `record_responses::listed_size`: each exit is one choice of the two tests.
 use Rattle.record_responses.proofs.listed_size.Statement.{statement}
 use Rattle.record_responses.proofs.listed_size.Tie as tie
 

@@ -1,4 +1,4 @@
--- `responses::row_size`: the AID's bytes and the elements asked for, where the place is held.
+-- `record_responses::row_size`: the AID's bytes and the elements asked for, where the place is held.
 use native.Mathlib.Omega.{arith}
 use borrow.Author.Tests.{eq-eqb, ne-eqb}
 use Rattle.rule_responses.proofs.Rows.{listed-small}

@@ -1,4 +1,4 @@
--- `responses::write_aid`: tag and length, then as many of the sixteen bytes as the AID has.
+-- `record_responses::write_aid`: tag and length, then as many of the sixteen bytes as the AID has.
 use mathlib.Core.Path.{_≡_, sym}
 use native.Mathlib.Omega.{arith}
 use lib.ListN.{length}

@@ -1,4 +1,4 @@
--- `responses::write_data`: four texts one after the other are the response (`data-bytes`).
+-- `record_responses::write_data`: four texts one after the other are the response (`data-bytes`).
 use Rattle.base_bytes.proofs.PutLaws.{wrote-as, wrote-then}
 use Rattle.rule_responses.proofs.Rows.{data-bytes}
 use borrow.Author.Needs.{needs}

@@ -1,4 +1,4 @@
--- `responses::write_deleted`: nothing where no AID is handed in, else the head and the AID.
+-- `record_responses::write_deleted`: nothing where no AID is handed in, else the head and the AID.
 use native.Mathlib.Omega.{arith}
 use Rattle.rule_responses.proofs.Lengths.{deleted-length}
 use mathlib.Core.Path.{_≡_}

@@ -1,4 +1,4 @@
--- `responses::write_information`: what is asked names the writer, and each response is as short as a row.
+-- `record_responses::write_information`: what is asked names the writer, and each response is as short as a row.
 use native.Mathlib.Omega.{arith}
 use Rattle.rule_responses.proofs.Lengths.{data-length}
 use borrow.Author.Needs.{needs}

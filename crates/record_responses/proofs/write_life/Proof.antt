@@ -1,4 +1,4 @@
--- `responses::write_life`: the element where it is asked for, else nothing.
+-- `record_responses::write_life`: the element where it is asked for, else nothing.
 use Rattle.base_bytes.proofs.PutLaws.{wrote-none}
 use borrow.Author.Needs.{needs}
 use Rattle.record_responses.proofs.write_life.Statement.{statement}

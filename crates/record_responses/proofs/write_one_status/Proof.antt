@@ -1,4 +1,4 @@
--- `responses::write_one_status`: the place and its attribute are those of the definition (`one-row`).
+-- `record_responses::write_one_status`: the place and its attribute are those of the definition (`one-row`).
 use Rattle.base_bytes.proofs.PutLaws.{wrote-as}
 use Rattle.rule_responses.proofs.Rows.{one-row}
 use borrow.Author.Needs.{needs}

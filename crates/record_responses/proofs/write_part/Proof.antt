@@ -1,4 +1,4 @@
--- `responses::write_part`: the part from place i on, in the room left, is still to write, which leaves what writing all of it leaves; the place
+-- `record_responses::write_part`: the part from place i on, in the room left, is still to write, which leaves what writing all of it leaves; the place
 -- that is left from there on is the one that is left in all.
 use mathlib.Core.Path.{_≡_, refl, sym, _∙_}
 use Prim.Native.Nat.{_-_}

@@ -1,4 +1,4 @@
--- `responses::write_place`: a place that is not held has nothing to write.
+-- `record_responses::write_place`: a place that is not held has nothing to write.
 use native.Mathlib.Omega.{arith}
 use lib.ListN.{length}
 use borrow.Author.Tests.{le-leb}

@@ -1,4 +1,4 @@
--- `responses::write_row`: the head and the three elements one after the other are the row (`status-row`).
+-- `record_responses::write_row`: the head and the three elements one after the other are the row (`status-row`).
 use native.Mathlib.Omega.{arith}
 use Rattle.base_bytes.proofs.PutLaws.{wrote-as, wrote-then}
 use Rattle.rule_responses.proofs.Rows.{listed-small, status-row}

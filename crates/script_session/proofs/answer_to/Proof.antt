@@ -1,4 +1,4 @@
--- `session::answer_to`: the flag chooses the door.
+-- `script_session::answer_to`: the flag chooses the door.
 use borrow.Author.Needs.{needs}
 use Rattle.script_session.proofs.answer_to.Statement.{statement}
 use Rattle.script_session.proofs.answer_to.Tie as tie

@@ -1,4 +1,4 @@
--- `session::call_reply`: the call is answered over the bytes that are laid, and the response is what stands at the front of the buffer lent.
+-- `script_session::call_reply`: the call is answered over the bytes that are laid, and the response is what stands at the front of the buffer lent.
 use mathlib.Core.Path.{refl, sym}
 use lib.Seq.{length-take-le}
 use native.Mathlib.Omega.{arith}

@@ -1,4 +1,4 @@
--- `session::first_reply`: what `write_text` promises of an empty response.
+-- `script_session::first_reply`: what `write_text` promises of an empty response.
 use mathlib.Core.Path.{refl}
 use native.Mathlib.Omega.{arith}
 use borrow.Author.Needs.{needs}

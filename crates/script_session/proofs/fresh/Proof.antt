@@ -1,4 +1,4 @@
--- `session::fresh`: the byte strings handed on are the bytes of the two words.
+-- `script_session::fresh`: the byte strings handed on are the bytes of the two words.
 use mathlib.Core.Path.{_≡_, _∙_}
 use mathlib.Core.List.{List}
 use Prim.Native.Nat.{ℕ}

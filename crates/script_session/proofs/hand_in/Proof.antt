@@ -1,4 +1,4 @@
--- `session::hand_in`: a record that is not sound is stopped by the first row, a sound one is answered as it is.
+-- `script_session::hand_in`: a record that is not sound is stopped by the first row, a sound one is answered as it is.
 use mathlib.Core.Path.{ap, sym, _∙_}
 use mathlib.Core.List.{[]}
 use borrow.Author.Tests.{not-true, not-false}

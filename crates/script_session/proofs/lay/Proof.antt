@@ -1,4 +1,4 @@
--- `session::lay`: of each call the one byte string stands at the front of the buffer; a policy update is laid by `lay_update`.
+-- `script_session::lay`: of each call the one byte string stands at the front of the buffer; a policy update is laid by `lay_update`.
 use mathlib.Core.Path.{refl, sym, ap}
 use mathlib.Core.List.{List}
 use Prim.Native.Nat.{ℕ}

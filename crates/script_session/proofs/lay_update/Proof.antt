@@ -1,4 +1,4 @@
--- `session::lay_update`: the speaker stands at the front, the command after it, by the laws of two byte strings in one buffer.
+-- `script_session::lay_update`: the speaker stands at the front, the command after it, by the laws of two byte strings in one buffer.
 use denote.Ref.{now}
 use Rattle.script_session.proofs.Spelled.{speaker-fits, left-starts, left-fits, update-laid}
 use borrow.Author.Needs.{needs}

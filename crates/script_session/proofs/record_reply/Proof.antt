@@ -1,4 +1,4 @@
--- `session::record_reply`: a record that cannot be read is a fault, any other is handed in.
+-- `script_session::record_reply`: a record that cannot be read is a fault, any other is handed in.
 use Rattle.script_session.proofs.Silent.{record-silent, first-replied, fault-replied}
 use borrow.Author.Needs.{needs}
 use Rattle.script_session.proofs.record_reply.Statement.{statement}

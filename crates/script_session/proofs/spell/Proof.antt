@@ -1,4 +1,4 @@
--- `session::spell`: the part's bytes have room, so what is spelled is all of them.
+-- `script_session::spell`: the part's bytes have room, so what is spelled is all of them.
 use mathlib.Core.Path.{_≡_, refl, ap, sym, _∙_}
 use Prim.Native.Nat.{ℕ}
 use mathlib.Core.List.{List}

@@ -1,4 +1,4 @@
--- `session::take_line`: each arm cites the promise of what it calls, and the line is read off its order.
+-- `script_session::take_line`: each arm cites the promise of what it calls, and the line is read off its order.
 use mathlib.Core.Path.{refl, ap, sym, _∙_}
 use native.Mathlib.Omega.{arith}
 use denote.Ref.{now}

@@ -1,4 +1,4 @@
--- `session::write_text`: each form by its writer's promise, and its length by the longer of the two bounds.
+-- `script_session::write_text`: each form by its writer's promise, and its length by the longer of the two bounds.
 use native.Mathlib.Omega.{arith}
 use borrow.Author.Needs.{needs}
 use Rattle.script_session.proofs.write_text.Statement.{statement}
