@@ -30,7 +30,7 @@ use Rattle.rule_responses.specs.Responses.{mostResponse}
 use Rattle.rule_steps.specs.Asked.{Act, Asked.on}
 use Rattle.rule_steps.specs.Conditions.{innerWrong, changeWrong, actStateWrong, actForbidden, actVerdictWrong, actNoRoom, cardRows}
 use Rattle.rule_steps.specs.Steps.{actStep, actResponse, askedWork, innerWork}
-use Rattle.rule_steps.proofs.Targets.{absent, found}
+use Rattle.record_calls.proofs.Targets.{absent, found}
 use Rattle.record_calls.specs.Into.{AnsweredInto}
 use Rattle.record_calls.proofs.Accepted.{accepts, silent-accepts, silent-into}
 

@@ -1,6 +1,5 @@
--- Laws that several proofs cite: the target of a call, the rows passed, a change opened, a profile made or written anew, and every step
+-- Laws that several proofs cite: the rows passed, a change opened, a profile made or written anew, and every step
 -- keeps a sound card sound.
-pub mod Targets
 pub mod Rows
 pub mod Successes
 pub mod Listed

@@ -11,7 +11,7 @@ use Rattle.card_places.proofs.Seeks.{found-hit, found-miss}
 use Rattle.card_record.specs.Cards.{isQuiet, profileOf, freePlace}
 use Rattle.rule_steps.specs.Asked.{Asked.create}
 use Rattle.rule_steps.specs.Steps.{askedWork}
-use Rattle.rule_steps.proofs.Targets.{absent, found}
+use Rattle.record_calls.proofs.Targets.{absent, found}
 use Rattle.record_calls.proofs.Asking.{asks}
 use Rattle.record_calls.proofs.Accepted.{kept, silent-into}
 use borrow.Author.Needs.{needs}

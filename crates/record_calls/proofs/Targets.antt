@@ -1,6 +1,6 @@
--- The target of a call: what the search for its AID found tells of the row "target AID not held", of its place and of its profile.
+-- The target of a call: what the search for its AID found tells of the row "target AID not held" and of its place.
 -- Assumes nothing.
-use mathlib.Core.Path.{_≡_, ap, sym, _∙_}
+use mathlib.Core.Path.{_≡_, sym, _∙_}
 use Prim.Native.Nat.{ℕ}
 use mathlib.Core.List.{List}
 use mathlib.Core.Bool.{true, false}
@@ -8,8 +8,7 @@ use mir.Val.{Val}
 use denote.Laws.{Is}
 use denote.Struct.Declared.{row}
 use Rattle.card_isdp.specs.Place.{held}
-use Rattle.card_isdp.specs.declared.Isdp.{Isdp}
-use Rattle.card_places.specs.Places.{at, foundOf}
+use Rattle.card_places.specs.Places.{foundOf}
 use Rattle.card_places.specs.declared.Found.{Found}
 use Rattle.card_places.specs.declared.Found.the-variants.{At, Nothing}
 use Rattle.card_places.proofs.Seeks.{held-none, held-some}
@@ -29,7 +28,3 @@ module _ (c : Card) (aid : List ℕ) {f : Found} {vs : List Val} (g : Is (row C.
 
   pub found : {t : ℕ} → f ≡ At t → Target c aid t
   found {t} h = let k = held-some (c .places) aid t (full c vs g) (sym e ∙ h) in record { place = k .0; there = k .1 }
-
--- the profile read there is the target's
-pub read : {c : Card} {aid : List ℕ} {t : ℕ} {p : Isdp} → Target c aid t → p ≡ at (c .places) t → profileOf c aid ≡ p
-read {c} k e = ap (at (c .places)) (k .place) ∙ sym e
