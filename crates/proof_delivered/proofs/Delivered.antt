@@ -13,6 +13,7 @@ use Rattle.proof_demands.proofs.Openings.{demand-3, lost-network}
 use Rattle.proof_demands.proofs.Closes.{thirty-ticks-close}
 use Rattle.proof_demands.proofs.Frames.{frame, only-outstanding}
 use Rattle.proof_demands.proofs.Confirmation.{confirmation-taken, confirmation-closes}
+use Rattle.proof_demands.proofs.EndToEnd.{end-to-end-3, end-to-end-met}
 use Rattle.proof_demands.proofs.WhileOpen.{allowed-while-open}
 use Rattle.proof_demands.proofs.Ticks.{ticks-figure}
 use Rattle.proof_demands.proofs.Create.{create-live}
@@ -26,7 +27,7 @@ use Rattle.proof_demands.proofs.Summed.{answers-stay}
 use Rattle.card_record.proofs.Clauses.{sound-clauses}
 use Rattle.card_record.proofs.Numbers.{numbers-run}
 use Rattle.card_record.proofs.Free.{free-kept}
-use Rattle.proof_demands.proofs.Listing.{parts-join}
+use Rattle.proof_demands.proofs.Listing.{parts-join, same-field-joins, listing-ends}
 use Rattle.read_frame.proofs.Classes.{class-byte}
 use Rattle.month_contents.proofs.Laid.{end-to-end, nothing-else-wrong}
 use Rattle.month_file.proofs.Grammar.{read-back, written-back, grammar-met}
@@ -73,6 +74,7 @@ delivered =
       only-outstanding = only-outstanding;
       confirmation-taken = confirmation-taken;
       confirmation-closes = confirmation-closes;
+      end-to-end-3 = end-to-end-3;
       allowed-while-open = allowed-while-open;
       ticks-figure = ticks-figure;
       create-live = create-live;
@@ -86,6 +88,8 @@ delivered =
       answers-stay = answers-stay;
       free-kept = free-kept;
       parts-join = parts-join;
+      same-field-joins = same-field-joins;
+      listing-ends = listing-ends;
       class-byte = class-byte;
       end-to-end = end-to-end;
       nothing-else-wrong = nothing-else-wrong;
@@ -112,6 +116,7 @@ hypotheses-met =
       laws-met = laws-met;
       witnesses = witnesses;
       confirmation-met = confirmation-met;
+      end-to-end-met = end-to-end-met;
       ticks-met = ticks-met;
       create-met = create-met;
       room-met = room-met;

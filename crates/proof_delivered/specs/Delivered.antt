@@ -18,10 +18,11 @@ use Rattle.proof_demands.specs.Notified.{Notifying}
 use Rattle.proof_demands.specs.Demand2.{Demand2, Demand2Met}
 use Rattle.proof_demands.specs.Change.{Demand3, ThirtyTicksClose, LostNetwork, Frame, OnlyOutstanding}
 use Rattle.proof_demands.specs.Confirmation.{ConfirmationTaken, ConfirmationCloses, ConfirmationMet}
+use Rattle.proof_demands.specs.EndToEnd.{EndToEnd3, EndToEndMet}
 use Rattle.proof_demands.specs.Provisioning.{FallenProvisioned}
 use Rattle.proof_demands.specs.Room.{NoRoomLost, RoomMet}
 use Rattle.proof_demands.specs.Summed.{AnswersStay}
-use Rattle.proof_demands.specs.Listing.{PartsJoin, ListingMet}
+use Rattle.proof_demands.specs.Listing.{PartsJoin, SameFieldJoins, ListingEnds, ListingMet}
 use Rattle.proof_demands.specs.Ticks.{TicksFigure, TicksMet}
 use Rattle.proof_demands.specs.Create.{CreateLive, CreateMet}
 use Rattle.proof_demands.specs.Influence.{UsedBytesStayPrivate}
@@ -72,6 +73,8 @@ pub record Delivered : Type 0 where
   pub only-outstanding : OnlyOutstanding
   pub confirmation-taken : ConfirmationTaken
   pub confirmation-closes : ConfirmationCloses
+  -- from the number in a notification and the bytes of its confirmation to the profile enabled
+  pub end-to-end-3 : EndToEnd3
   pub allowed-while-open : AllowedWhileOpen
   -- the ticks figure, room for a creation, who may influence what, one answer to one promise
   pub ticks-figure : TicksFigure
@@ -87,6 +90,8 @@ pub record Delivered : Type 0 where
   pub answers-stay : AnswersStay
   pub free-kept : FreeKept
   pub parts-join : PartsJoin step
+  pub same-field-joins : SameFieldJoins step
+  pub listing-ends : ListingEnds step
   pub class-byte : ClassByte
   -- the report, request 2026-01
   pub end-to-end : EndToEnd
@@ -113,6 +118,7 @@ pub record HypothesesMet : Type 0 where
   pub laws-met : LawsMet
   pub witnesses : Witnesses
   pub confirmation-met : ConfirmationMet
+  pub end-to-end-met : EndToEndMet
   pub ticks-met : TicksMet
   pub create-met : CreateMet
   pub room-met : RoomMet

@@ -1,12 +1,12 @@
 -- Demand 3. A change is at one of three stages, told by the ticks seen; a tick brings it one on or closes it on the fall-back, the
 -- confirmation closes it where it stands, any other call leaves it (Frames). Then one induction over the calls. Assumes nothing.
 use mathlib.Core.Path.{_≡_, refl, ap, sym, _∙_}
-use Prim.Native.Nat.{ℕ, suc, _+_, _-_, _<_}
+use Prim.Native.Nat.{ℕ, suc, _+_, _-_, _≤_, _<_}
 use native.Mathlib.Omega.{arith}
 use mathlib.Core.List.{List, [], _∷_}
 use mathlib.Core.Bool.{Bool, true, false, not, cond, _&&_, false≢true}
 use lib.Dec.{ltb, eqb}
-use borrow.Author.Tests.{eq-eqb, ne-eqb, ltb-true, ltb-false, lt-ltb, le-ltb}
+use borrow.Author.Tests.{eq-eqb, ne-eqb, ltb-true, ltb-false, lt-ltb, le-ltb, not-true}
 use Rattle.card_isdp.specs.Sizes.{wait}
 use Rattle.card_isdp.specs.LifeCycle.{isEnabled}
 use Rattle.card_isdp.proofs.Bools.{and-l, and-r}
@@ -15,17 +15,19 @@ use Rattle.card_places.proofs.Lives.{enable-at, within}
 use Rattle.card_record.specs.Cards.{isQuiet, onFallback}
 use Rattle.card_record.specs.Sound.{sound}
 use Rattle.card_record.specs.Clock.{nextNumber, tickIn, tickOf}
+use Rattle.card_record.specs.Notifications.{noticeKind}
 use Rattle.card_record.specs.declared.Card.{Card}
+use Rattle.card_record.specs.declared.Kind.the-variants.{Changed, RolledBack, FallenBack}
 use Rattle.card_record.specs.declared.Phase.{Phase}
 use Rattle.card_record.specs.declared.Phase.the-variants.{Quiet, Trial, Back, Fallen}
 use Rattle.card_record.proofs.Sounds.{Phased, Sound, parts, choose, tick-sound, nonzero, resort-nonzero}
 use Rattle.card_places.proofs.Numbered.{only}
-use Rattle.rule_run.specs.Calls.{Call, Call.Command, Call.Keyed, Call.Stored, Call.Finished, Call.Tick, Call.Lost, Call.PolicyUpdate, asked}
+use Rattle.rule_run.specs.Calls.{Call, Call.Tick, asked}
 use Rattle.rule_run.specs.Step.{step, run}
 use Rattle.rule_run.proofs.Kept.{step-sound}
 use Rattle.rule_run.specs.Runs.{isTick, isConfirmation, confirms, ticksAmong}
 use Rattle.proof_demands.specs.Change.{staysOpen, Unmoved, holder, heir}
-use Rattle.proof_demands.proofs.Frames.{frame, tick-step, Closed, confirm-does}
+use Rattle.proof_demands.proofs.Frames.{frame, by-tick, tick-step, Closed, confirm-does}
 
 -- the profile at this place is enabled
 abbrev pub Holds : Card → ℕ → Type 0
@@ -34,6 +36,21 @@ Holds c i = isEnabled (at (c .places) i) ≡ true
 -- the tick that closes a change from place p where nothing is confirmed
 abbrev pub closingTick : ℕ → ℕ → ℕ
 closingTick p f = cond (eqb p f) 20 30
+
+-- which of three holds after so many ticks
+module _ {A : Type 0} (wanted previous fallback : A) (k : ℕ) where
+  pub holds-first : k < 10 → holder wanted previous fallback k ≡ wanted
+  holds-first h = rw (lt-ltb k 10 h)
+
+  pub holds-second : 10 ≤ k → k < 20 → holder wanted previous fallback k ≡ previous
+  holds-second h l = rw (le-ltb k 10 h, lt-ltb k 20 l)
+
+  pub holds-third : 20 ≤ k → holder wanted previous fallback k ≡ fallback
+  holds-third h = rw (le-ltb k 10 (omega arith), le-ltb k 20 h)
+
+-- the number last issued, by the ticks seen since the one that the opening issued: the opening's, the roll-back's, that of falling back
+abbrev pub numberAfter : ℕ → ℕ → ℕ
+numberAfter number ticks = holder number (nextNumber number) (nextNumber (nextNumber number)) ticks
 
 -- an open change k ticks after its opening: the place wanted, the previous one and the fall-back are g, p and f
 data Stage (g p f k : ℕ) (c : Card) : Type 0 where
@@ -99,22 +116,22 @@ module _ (g p f : ℕ) where
   kept-stage k c d m (back l n r u v) = back l n (m .phase ∙ r) u (m .enabled p ∙ v)
   kept-stage k c d m (fallen l n a r u v) = fallen l n a (m .phase ∙ r) u (m .enabled f ∙ v)
 
-  -- the profile enabled there, and that fewer than thirty ticks were seen
-  stage-known : (k : ℕ) (c : Card) → sound c ≡ true → Stage g p f k c → Holds c (holder g p f k) × (k < 30)
+  -- the profile enabled there, that fewer than thirty ticks were seen, and the kind of the phase's notification
+  stage-known : (k : ℕ) (c : Card) → sound c ≡ true → Stage g p f k c → Holds c (holder g p f k) × (k < 30) × (noticeKind (c .phase) ≡ holder Changed RolledBack FallenBack k)
   stage-known k c s (trial l n r u v) =
       let h : Phased (Trial p l n) c = rw r at (parts c s .phased) in
       let w = h .0 .low in
-      rw (lt-ltb k 10 (omega arith)) (v, omega arith)
+      rw (lt-ltb k 10 (omega arith)) (v, omega arith, ap noticeKind r)
   stage-known k c s (back l n r u v) =
       let h : Phased (Back l n) c = rw r at (parts c s .phased) in
       let w = h .low in
       let x = h .high in
-      rw (le-ltb k 10 (omega arith), lt-ltb k 20 (omega arith)) (v, omega arith)
+      rw (le-ltb k 10 (omega arith), lt-ltb k 20 (omega arith)) (v, omega arith, ap noticeKind r)
   stage-known k c s (fallen l n a r u v) =
       let h : Phased (Fallen l n) c = rw r at (parts c s .phased) in
       let w = h .0 .low in
       let x = h .0 .high in
-      rw (le-ltb k 10 (omega arith), le-ltb k 20 (omega arith)) (v, omega arith)
+      rw (le-ltb k 10 (omega arith), le-ltb k 20 (omega arith)) (v, omega arith, ap noticeKind r)
 
   stage-open : (k : ℕ) (c : Card) → Stage g p f k c → isQuiet (c .phase) ≡ false
   stage-open k c (trial l n r u v) = rw r
@@ -165,13 +182,8 @@ module _ (g p f : ℕ) where
       open-still {t = false} (let z : 0 + k ≡ k = omega arith in rw z (record { still = step-sound c call (w .still); same = m .fallback ∙ w .same; stage = kept-stage g p f k c _ m (w .stage) }))
 
   led : (k : ℕ) (c : Card) (call : Call) → Known g p f k c → Led g p f k (step c call .card) (isTick call) (confirms c call)
-  led k c (Command verdict s room) w = led-other k c (Command verdict s room) refl _ refl w
-  led k c (Keyed aid) w = led-other k c (Keyed aid) refl _ refl w
-  led k c (Stored aid n) w = led-other k c (Stored aid n) refl _ refl w
-  led k c (Finished aid policy mark) w = led-other k c (Finished aid policy mark) refl _ refl w
-  led k c Tick w = led-tick k c w
-  led k c Lost w = led-other k c Lost refl _ refl w
-  led k c (PolicyUpdate speaker s room) w = led-other k c (PolicyUpdate speaker s room) refl _ refl w
+  led k c call w =
+      by-tick (λ x. Led g p f k (step c x .card) (isTick x) (confirms c x)) (λ x t. rw t (led-other k c x t (confirms c x) refl w)) (led-tick k c w) call
 
   led-on : (k : ℕ) (d : Card) (t b r : Bool) → Led g p f k d t b → (not (isQuiet (d .phase)) && r) ≡ true → Known g p f (cond t 1 0 + k) d
   led-on k d t b r (open-still x) e = x
@@ -196,6 +208,62 @@ module _ (g p f : ℕ) where
       let z : (cond (isTick call) 1 0 + ticksAmong calls) + k ≡ ticksAmong calls + (cond (isTick call) 1 0 + k) = omega arith in
       rw z y
 
+-- a tick issues a number where a phase is entered, and nowhere else
+module _ (g p f n : ℕ) where
+  abbrev Numbered : ℕ → Card → Type 0
+  Numbered k c = isQuiet (c .phase) ≡ false → c .last ≡ numberAfter n k
+
+  number-ticked : (k : ℕ) (c : Card) → Known g p f k c → Stage g p f k c → c .last ≡ numberAfter n k → Numbered (suc k) (tickOf c)
+  unfolding tickOf
+  number-ticked k c w (trial l m r u v) e =
+      let h : Phased (Trial p l m) c = rw r at (parts c (w .still) .phased) in
+      let x = h .0 .low in
+      let now = e ∙ holds-first n _ _ k (omega arith) in
+      rw r
+      (choose (Numbered (suc k)) (ltb 1 l) _ _
+      (λ b o. let z = ltb-true 1 l b in now ∙ sym (holds-first n _ _ (suc k) (omega arith)))
+      (λ b o. let z = ltb-false 1 l b in ap nextNumber now ∙ sym (holds-second n (nextNumber n) _ (suc k) (omega arith) (omega arith))))
+  number-ticked k c w (back l m r u v) e =
+      let h : Phased (Back l m) c = rw r at (parts c (w .still) .phased) in
+      let x = h .low in
+      let y = h .high in
+      let now = e ∙ holds-second n (nextNumber n) _ k (omega arith) (omega arith) in
+      rw r
+      (choose (Numbered (suc k)) (ltb 1 l) _ _
+      (λ b o. let z = ltb-true 1 l b in now ∙ sym (holds-second n (nextNumber n) _ (suc k) (omega arith) (omega arith)))
+      (λ b. let z = ltb-false 1 l b in
+      choose (Numbered (suc k)) (onFallback c) _ _ (λ q o. absurd (false≢true (sym o)))
+      (λ q o. ap nextNumber now ∙ sym (holds-third n _ (nextNumber (nextNumber n)) (suc k) (omega arith)))))
+  number-ticked k c w (fallen l m a r u v) e =
+      let h : Phased (Fallen l m) c = rw r at (parts c (w .still) .phased) in
+      let x = h .0 .high in
+      let now = e ∙ holds-third n _ (nextNumber (nextNumber n)) k (omega arith) in
+      rw r
+      (choose (Numbered (suc k)) (ltb 1 l) _ _
+      (λ b o. now ∙ sym (holds-third n _ (nextNumber (nextNumber n)) (suc k) (omega arith)))
+      (λ b o. absurd (false≢true (sym o))))
+
+  number-other : (k : ℕ) (c : Card) (call : Call) (b r : Bool) → isTick call ≡ false → confirms c call ≡ b → Known g p f k c → c .last ≡ numberAfter n k → (not (isQuiet (step c call .card .phase)) && r) ≡ true → step c call .card .last ≡ numberAfter n k
+  number-other k c call true r t q w e o = absurd (false≢true (rw (closes g p f k c call w q .quiet) at o))
+  number-other k c call false r t q w e o = frame c call (w .still) (open-known g p f k c w) (rw (t, q)) .last ∙ e
+
+  number-step : (k : ℕ) (c : Card) (call : Call) (r : Bool) → Known g p f k c → c .last ≡ numberAfter n k → (not (isQuiet (step c call .card .phase)) && r) ≡ true → step c call .card .last ≡ numberAfter n (cond (isTick call) 1 0 + k)
+  number-step k c call r w e =
+      by-tick (λ x. (not (isQuiet (step c x .card .phase)) && r) ≡ true → step c x .card .last ≡ numberAfter n (cond (isTick x) 1 0 + k))
+      (λ x t o. let z : 0 + k ≡ k = omega arith in rw (t, z) (number-other k c x (confirms c x) r t refl w e o))
+      (λ o. let z : 1 + k ≡ suc k = omega arith in rw z (rw (tick-step c (w .still)) (number-ticked k c w (w .stage) e (not-true _ (and-l _ r (rw (tick-step c (w .still)) at o)))))) call
+
+  number-along : (calls : List Call) (k : ℕ) (c : Card) → Known g p f k c → c .last ≡ numberAfter n k → staysOpen (run c) calls ≡ true → run c calls .last ≡ numberAfter n (ticksAmong calls + k)
+  unfolding staysOpen ticksAmong run
+  number-along [] k c w e o = let z : 0 + k ≡ k = omega arith in rw z e
+  number-along (call ∷ calls) k c w e o =
+      let d = step c call .card in
+      let r = staysOpen (run d) calls in
+      let x = led-on g p f k d (isTick call) (confirms c call) r (led g p f k c call w) o in
+      let y = number-along calls (cond (isTick call) 1 0 + k) d x (number-step k c call r w e o) (and-r (not (isQuiet (d .phase))) r o) in
+      let z : (cond (isTick call) 1 0 + ticksAmong calls) + k ≡ ticksAmong calls + (cond (isTick call) 1 0 + k) = omega arith in
+      rw z y
+
 -- the course of a change, told by places
 pub record Course (g p f : ℕ) (c : Card) : Type 0 where
   pub still : (calls : List Call) → staysOpen (run c) calls ≡ true → sound (run c calls) ≡ true
@@ -203,6 +271,9 @@ pub record Course (g p f : ℕ) (c : Card) : Type 0 where
   pub meanwhile : (calls : List Call) → staysOpen (run c) calls ≡ true → Holds (run c calls) (holder g p f (ticksAmong calls))
   pub close : (calls : List Call) (call : Call) → staysOpen (run c) calls ≡ true → isQuiet (step (run c calls) call .card .phase) ≡ true → Holds (step (run c calls) call .card) (heir g p f (confirms (run c calls) call) (ticksAmong calls))
   pub due : (calls : List Call) → staysOpen (run c) calls ≡ true → isQuiet (step (run c calls) Tick .card .phase) ≡ true → ticksAmong calls + 1 ≡ closingTick p f
+  -- the kind and the number of the last notification
+  pub kinds : (calls : List Call) → staysOpen (run c) calls ≡ true → noticeKind (run c calls .phase) ≡ holder Changed RolledBack FallenBack (ticksAmong calls)
+  pub numbers : (calls : List Call) → staysOpen (run c) calls ≡ true → run c calls .last ≡ numberAfter (c .last) (ticksAmong calls)
 
 -- from a card just opened
 module _ (g p f : ℕ) (c : Card) (w : Known g p f 0 c) where
@@ -219,6 +290,11 @@ module _ (g p f : ℕ) (c : Card) (w : Known g p f 0 c) where
         meanwhile = λ calls e. let x = after calls e in stage-known g p f _ _ (x .still) (x .stage) .0;
         close = λ calls call e q. led-over g p f _ _ (isTick call) (confirms (run c calls) call) (led g p f _ (run c calls) call (after calls e)) q;
         due = λ calls e q. led-due g p f _ _ true false (led g p f _ (run c calls) Tick (after calls e)) q refl;
+        kinds = λ calls e. let x = after calls e in stage-known g p f _ _ (x .still) (x .stage) .2;
+        numbers =
+            λ calls e.
+            let z : ticksAmong calls + 0 ≡ ticksAmong calls = omega arith in
+            rw z at (number-along g p f (c .last) calls 0 c w refl e);
       }
 
 -- the card just after the opening step: place g is enabled, p was

@@ -1,7 +1,8 @@
 -- A command that writes a confirmation is answered by the rows that look at the card, and of these two are left: no change is open, and
 -- the number is not the outstanding one.
 use mathlib.Core.Path.{_≡_, refl, ap, sym, _∙_}
-use Prim.Native.Nat.{ℕ}
+use Prim.Native.Nat.{ℕ, _≤_}
+use mathlib.Core.List.{List}
 use mathlib.Core.Bool.{Bool, true, false, not, cond, false≢true}
 use Rattle.base_status.specs.StatusWords.{isDone}
 use Rattle.base_status.specs.Rows.{wordOf}
@@ -9,17 +10,18 @@ use Rattle.base_status.specs.declared.Status.the-variants.{StateWrong, NotHeld,
 use Rattle.card_isdp.proofs.Bools.{and-l, and-r}
 use Rattle.card_places.proofs.Seeks.{enabled-at}
 use Rattle.card_record.specs.Cards.{isQuiet, enabledPlace}
+use Rattle.card_record.specs.Sound.{sound}
 use Rattle.card_record.proofs.Sounds.{parts}
 use Rattle.card_record.specs.Clock.{outstanding}
 use Rattle.card_record.specs.declared.Card.{Card}
 use Rattle.card_record.specs.declared.Phase.{Phase}
 use Rattle.card_record.specs.declared.Phase.the-variants.{Quiet, Trial, Back, Fallen}
 use Rattle.read_fields.specs.Grammar.{confirmation, storeData}
-use Rattle.rule_steps.specs.Steps.{successOf}
+use Rattle.read_command.specs.Grammar.{Encodes}
 use Rattle.rule_steps.proofs.Rows.{Passed}
 use Rattle.rule_steps.specs.Asked.{Asked, Asked.unread, Asked.create, Asked.on, Asked.confirm, Asked.statusOfAll, Asked.getData, Asked.tick, Asked.lost}
-use Rattle.rule_steps.specs.Conditions.{cardRows}
 use Rattle.rule_run.specs.Calls.{Call.Command, asked}
+use Rattle.rule_run.specs.Table.{leastBuffer}
 use Rattle.rule_run.specs.Step.{step}
 use Rattle.rule_run.proofs.Kept.{step-sound}
 use Rattle.rule_run.specs.Runs.{isConfirmation}
@@ -54,10 +56,6 @@ two-rows true false f = refl
 two-rows false true f = refl
 two-rows false false f = refl
 
-confirm-word : (c : Card) (number : ℕ) → isDone (wordOf (successOf c (confirm number)) (cardRows c (confirm number))) ≡ outstanding (c .phase) number
-unfolding wordOf
-confirm-word c number = two-rows (isQuiet (c .phase)) (outstanding (c .phase) number) (none-quiet (c .phase) number)
-
 pub confirmation-closes : ConfirmationCloses
 confirmation-closes c call e =
     let a = and-l (isConfirmation (asked c call)) _ e in
@@ -73,7 +71,12 @@ confirmation-closes c call e =
       last = x .last;
     }
 
+-- the word of a written one
+pub confirm-status : (c : Card) (verdict : ℕ) (s : List ℕ) (room number : ℕ) → sound c ≡ true → leastBuffer ≤ room → Encodes (c .capacity) (storeData (confirmation number)) s → step c (Command verdict s room) .status ≡ cond (isQuiet (c .phase)) StateWrong (cond (not (outstanding (c .phase) number)) NotHeld Done)
+unfolding wordOf
+confirm-status c verdict s room number e h encoded = written-word c verdict s room (storeData (confirmation number)) e h encoded
+
 pub confirmation-taken : ConfirmationTaken
 confirmation-taken c verdict s room number e h encoded =
-    ap isDone (sym (word-is c (Command verdict s room)) ∙ written-word c verdict s room (storeData (confirmation number)) e h encoded)
-    ∙ confirm-word c number
+    ap isDone (sym (word-is c (Command verdict s room)) ∙ confirm-status c verdict s room number e h encoded)
+    ∙ two-rows (isQuiet (c .phase)) (outstanding (c .phase) number) (none-quiet (c .phase) number)

@@ -127,6 +127,16 @@ only-tick c Tick e = absurd (false≢true (sym e))
 only-tick c Lost e = refl
 only-tick c (PolicyUpdate speaker s room) e = policy-ticks speaker (policyOf s)
 
+-- a call is a tick, or it is none
+pub by-tick : (P : Call → Type 0) → ((call : Call) → isTick call ≡ false → P call) → P Tick → (call : Call) → P call
+by-tick P f g (Command verdict s room) = f (Command verdict s room) refl
+by-tick P f g (Keyed aid) = f (Keyed aid) refl
+by-tick P f g (Stored aid n) = f (Stored aid n) refl
+by-tick P f g (Finished aid policy mark) = f (Finished aid policy mark) refl
+by-tick P f g Tick = g
+by-tick P f g Lost = f Lost refl
+by-tick P f g (PolicyUpdate speaker s room) = f (PolicyUpdate speaker s room) refl
+
 not-asked : (a b : Bool) → (a && b) ≡ false → b ≡ true → a ≡ false
 not-asked true true e h = e
 not-asked true false e h = absurd (false≢true h)

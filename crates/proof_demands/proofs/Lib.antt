@@ -33,6 +33,7 @@ pub mod Room
 pub mod RoomMet
 pub mod Listing
 pub mod ListingMet
+pub mod EndToEnd
 pub mod Summed
 pub mod InfluenceMet
 pub mod Notified

@@ -1,14 +1,15 @@
 -- The parts join to the listing: of a whole listing begun or gone on with at a place, the responses joined are the rows from that place on, by
 -- induction over it; each part but the last takes at least 229 bytes of these. Assumes nothing.
 use mathlib.Core.Path.{_≡_, refl, sym, ap, subst, _∙_}
-use Prim.Native.Nat.{ℕ, zero, suc, _+_, _*_, _-_, _≤_}
+use Prim.Native.Nat.{ℕ, zero, suc, _+_, _*_, _-_, _≤_, _<_}
 use native.Mathlib.Omega.{arith}
 use mathlib.Core.List.{List, [], _∷_, _++_, append-nil}
 use mathlib.Core.Bool.{Bool, true, false, cond, _&&_, false≢true}
-use lib.ListN.{length, drop, length-append}
+use lib.ListN.{length, drop, replicate, length-append}
 use lib.Seq.{getD-drop}
 use lib.Dec.{eqb}
 use borrow.Author.Tests.{eqb-true, eqb-false}
+use Rattle.base_choice.specs.Choice.{pick, isBelow}
 use Rattle.base_status.specs.StatusWords.{numberOf, isDone}
 use Rattle.base_status.specs.declared.Status.{Status}
 use Rattle.base_status.specs.declared.Status.the-variants.{More, Done}
@@ -25,7 +26,10 @@ use Rattle.rule_responses.specs.Responses.{mostRow, attributeOf, statusRow, row
 use Rattle.rule_responses.proofs.Parts.{Given, Given.all, Given.some, given, part-short}
 use Rattle.rule_responses.proofs.Rows.{row-sized}
 use Rattle.rule_responses.proofs.Lengths.{aidFits, row-length, all-at, sound-fits, sound-listing-length}
+use Rattle.read_tlv.specs.Encoding.{encodeTag, encodeLength, encodeElement}
 use Rattle.read_fields.specs.Grammar as field
+use Rattle.read_command.specs.Grammar.{secondOf}
+use Rattle.read_command.proofs.SameTags.{encodes-alike, second-right}
 use Rattle.rule_steps.specs.Asked.{Asked, Asked.statusOfAll}
 use Rattle.rule_steps.specs.Steps.{beginsAt, goesOnAt, partWord, stepOf, responseOf, askedWork}
 use Rattle.rule_steps.proofs.Rows.{Passed}
@@ -38,10 +42,10 @@ use Rattle.proof_demands.specs.Room.{Writes.commands}
 use Rattle.proof_demands.proofs.Written.{written-answered}
 use Rattle.proof_demands.proofs.Demand2.{standing}
 use Rattle.proof_demands.proofs.Demand1.{refusals}
-use Rattle.proof_demands.specs.Listing.{Lists, Whole, Whole.ends, Whole.goes-on, Whole.between, joined, partsAmong, EachPart, PartsJoin}
+use Rattle.proof_demands.specs.Listing.{Lists, Whole, Whole.ends, Whole.goes-on, Whole.between, joined, partsAmong, EachPart, PartsJoin, WithField, WithField.with-field, AsksForAll, SameFieldJoins, ListingEnds}
 
 -- a call for rows is answered as what it asks
-lists-answered : (c : Card) (next life shown : Bool) (call : Call) → Lists next life shown c call → step c call ≡ outcome c (askedWork c (statusOfAll next life shown))
+lists-answered : (c : Card) (next life shown : Bool) (call : Call) → Lists life shown next c call → step c call ≡ outcome c (askedWork c (statusOfAll next life shown))
 lists-answered c next life shown _ (commands verdict s room h encoded) = written-answered c verdict s room (field.getStatus (field.inquiry next [] life shown)) h encoded
 
 more-not-done : _≡_ {A = Status} More Done → ⊥
@@ -82,7 +86,7 @@ module _ (c : Card) (e : sound c ≡ true) (life shown : Bool) where
   begins false n = listing-some 0 (c .fallback) (omega arith) (standing c e .fallback-held)
 
   -- a call for rows that is accepted
-  module _ (next : Bool) (call : Call) (l : Lists next life shown c call) (d : isDone (step c call .status) ≡ true) where
+  module _ (next : Bool) (call : Call) (l : Lists life shown next c call) (d : isDone (step c call .status) ≡ true) where
     abbrev a : Asked
     a = statusOfAll next life shown
 
@@ -138,13 +142,19 @@ listing-kept : (c : Card) (i from : ℕ) (life shown : Bool) → listingFrom (ke
 unfolding listingFrom
 listing-kept c i from life shown = refl
 
+-- a part that is not the last takes 229 bytes of the rows to come
+taken-off : (c : Card) (next life shown : Bool) → sound c ≡ true → (goesOnAt c next life shown ≡ noPlace → ⊥) → length (listingFrom c (goesOnAt c next life shown) life shown) + 229 ≤ length (listingFrom c (beginsAt c next) life shown)
+taken-off c next life shown e z =
+    let q = some-given c life shown (beginsAt c next) _ (goesOnAt c next life shown) e (given c life shown (beginsAt c next)) z in
+    omega (arith, q .1, ap length (q .0), length-append (partGiven c (beginsAt c next) life shown) (listingFrom c (goesOnAt c next life shown) life shown))
+
 -- what is to be shown of a listing, begun or gone on with
 record Held (life shown next : Bool) (c : Card) (calls : List Call) : Type 0 where
   rows : joined step c calls ≡ listingFrom c (beginsAt c next) life shown
   few : 229 * partsAmong step c calls ≤ length (listingFrom c (beginsAt c next) life shown) + 229
   each : EachPart step c calls
 
-joins : (life shown next : Bool) (c : Card) (calls : List Call) → sound c ≡ true → Whole step life shown next c calls → Held life shown next c calls
+joins : (life shown next : Bool) (c : Card) (calls : List Call) → sound c ≡ true → Whole step (Lists life shown) next c calls → Held life shown next c calls
 unfolding joined partsAmong
 joins life shown next c (call ∷ []) e (ends l d) =
     let done : isDone (step c call .status) ≡ true = ap isDone d in
@@ -167,7 +177,7 @@ joins life shown next c (call ∷ calls) e (goes-on l d w) =
     let o = response-is c e life shown next call l done in
     record {
       rows = rw (o, r .rows, rest) (sym (q .0));
-      few = rw done (omega (arith, r .few, q .1, ap length (q .0), length-append (partGiven c (beginsAt c next) life shown) (listingFrom c left life shown), ap length rest));
+      few = rw done (omega (arith, r .few, taken-off c next life shown e z, ap length rest));
       each = (λ _. has-row c e life shown next call l done, r .each);
     }
 joins life shown true c (call ∷ calls) e (between n w) =
@@ -188,3 +198,81 @@ parts-join c life shown calls e w =
       four-at-most = omega (arith, h .few, sound-listing-length c e life shown);
       each = h .each;
     }
+
+-- ---- with the same data field throughout
+
+-- the data field says the tags, whichever P2 stands before it
+lists-with : (life shown next : Bool) (bytes : List ℕ) (c : Card) (call : Call) → AsksForAll life shown bytes → WithField bytes next c call → Lists life shown next c call
+unfolding encodeElement encodeTag encodeLength pick isBelow
+lists-with life shown _ bytes c _ asks (with-field next verdict class room withLe right h) =
+    let x = asks .encoded in
+    let starts : bytes ≡ 0x4F ∷ 0x00 ∷ field.encodeList (x .tags) = x .written in
+    commands verdict _ room h
+    (record {
+      command = record {
+        class = class;
+        p1 = 0x40;
+        p2 = secondOf next;
+        field = bytes;
+        withLe = withLe;
+        rightClass = right;
+        rightParameters = second-right next;
+        least = rw starts (omega arith);
+        most = asks .most;
+        encoded = encodes-alike false next life shown bytes x;
+        written = refl;
+      };
+      second = refl;
+    })
+
+-- what asks so asks otherwise too
+asks-as : {answer : Card → Call → Outcome} {A B : Bool → Card → Call → Type 0} {next : Bool} {c : Card} {calls : List Call} → ((next : Bool) (c : Card) (call : Call) → A next c call → B next c call) → Whole answer A next c calls → Whole answer B next c calls
+asks-as f (ends x d) = ends (f _ _ _ x) d
+asks-as f (goes-on x d w) = goes-on (f _ _ _ x) d (asks-as f w)
+asks-as f (between n w) = between n (asks-as f w)
+
+pub whole-lists : (answer : Card → Call → Outcome) (life shown next : Bool) (bytes : List ℕ) (c : Card) (calls : List Call) → AsksForAll life shown bytes → Whole answer (WithField bytes) next c calls → Whole answer (Lists life shown) next c calls
+whole-lists answer life shown next bytes c calls asks w = asks-as (λ n d call. lists-with life shown n bytes d call asks) w
+
+pub same-field-joins : SameFieldJoins step
+same-field-joins c life shown bytes calls e asks w = parts-join c life shown calls e (whole-lists step life shown false bytes c calls asks w)
+
+-- a call for rows is accepted, but for one with P2 03 where no place is kept
+accepted-lists : (c : Card) (life shown next : Bool) (call : Call) → sound c ≡ true → Lists life shown next c call → (next && eqb (c .kept) noPlace) ≡ false → isDone (step c call .status) ≡ true
+unfolding accepted
+accepted-lists c life shown next call e l n =
+    let left = goesOnAt c next life shown in
+    let p : Passed c (statusOfAll next life shown) = record { change = refl; target = n; already = refl; state = refl; policy = refl; verdict = refl; room = refl } in
+    ap (λ (o : Outcome). isDone (o .status)) (lists-answered c next life shown call l ∙ asked-taken-as c (statusOfAll next life shown) (partWord left) (part-done left) refl e p)
+    ∙ part-done left
+
+-- every part but the last takes 229 bytes of the rows to come, so it ends within as many parts as these allow
+module _ (life shown : Bool) (bytes : List ℕ) (asks : AsksForAll life shown bytes) (further : Call) (goes : (c : Card) → WithField bytes true c further) where
+  ends-here : (c : Card) (next : Bool) (call : Call) → sound c ≡ true → WithField bytes next c call → (next && eqb (c .kept) noPlace) ≡ false → eqb (goesOnAt c next life shown) noPlace ≡ true → Whole step (WithField bytes) next c (call ∷ [])
+  ends-here c next call e w n q =
+      let l = lists-with life shown next bytes c call asks w in
+      ends w (status-is c e life shown next call l (accepted-lists c life shown next call e l n) ∙ rw q)
+
+  ends-within : (k : ℕ) (c : Card) (next : Bool) (call : Call) (last : Bool) → sound c ≡ true → WithField bytes next c call → (next && eqb (c .kept) noPlace) ≡ false → eqb (goesOnAt c next life shown) noPlace ≡ last → length (listingFrom c (beginsAt c next) life shown) < 229 * k + 229
+      → (n : ℕ) × ((n ≤ k) × Whole step (WithField bytes) next c (call ∷ replicate n further))
+  ends-within zero c next call true e w n q h = (0, (omega arith, ends-here c next call e w n q))
+  ends-within zero c next call false e w n q h =
+      absurd (let t = taken-off c next life shown e (eqb-false _ noPlace q) in omega arith)
+  ends-within (suc k) c next call true e w n q h = (0, (omega arith, ends-here c next call e w n q))
+  ends-within (suc k) c next call false e w n q h =
+      let l = lists-with life shown next bytes c call asks w in
+      let done = accepted-lists c life shown next call e l n in
+      let d = step c call .card in
+      let left = goesOnAt c next life shown in
+      let there = card-is c e life shown next call l done in
+      let rest : listingFrom d (d .kept) life shown ≡ listingFrom c left life shown = rw there (listing-kept c left left life shown) in
+      let r = ends-within k d true further (eqb (goesOnAt d true life shown) noPlace) (step-sound c call e) (goes d) (ap (λ (x : Card). eqb (x .kept) noPlace) there ∙ q) refl (omega (arith, taken-off c next life shown e (eqb-false _ noPlace q), ap length rest)) in
+      (suc (r .0), (omega (arith, r .1 .0), goes-on w (status-is c e life shown next call l done ∙ rw q) (r .1 .1)))
+
+anywhere : {bytes : List ℕ} {next : Bool} {c : Card} {call : Call} (d : Card) → WithField bytes next c call → WithField bytes next d call
+anywhere d (with-field next verdict class room withLe right h) = with-field next verdict class room withLe right h
+
+pub listing-ends : ListingEnds step
+listing-ends c life shown bytes first next e asks f g =
+    ends-within life shown bytes asks next (λ d. anywhere d g) 3 c false first (eqb (goesOnAt c false life shown) noPlace) e f refl refl
+    (omega (arith, sound-listing-length c e life shown))

@@ -19,12 +19,13 @@ use Rattle.card_record.specs.declared.Phase.{Phase}
 use Rattle.card_record.specs.declared.Phase.the-variants.{Quiet, Trial, Back, Fallen}
 use Rattle.card_record.proofs.Sounds.{parts, choose}
 use Rattle.card_places.proofs.Numbered.{only}
-use Rattle.rule_run.specs.Calls.{Call, Call.Command, Call.Keyed, Call.Stored, Call.Finished, Call.Tick, Call.Lost, Call.PolicyUpdate, asked}
+use Rattle.rule_run.specs.Calls.{Call, Call.Tick, asked}
 use Rattle.rule_run.specs.Step.{step, run}
 use Rattle.rule_run.proofs.Kept.{step-sound, run-sound}
+use Rattle.rule_run.proofs.Runs.{run-parts}
 use Rattle.rule_run.specs.Runs.{enabledBytes, isTick, isConfirmation, confirms, ticksAmong}
 use Rattle.proof_demands.specs.Change.{staysOpen, heir, Unmoved, Change, LostChange}
-use Rattle.proof_demands.proofs.Frames.{frame, tick-step, confirm-does}
+use Rattle.proof_demands.proofs.Frames.{frame, by-tick, tick-step, confirm-does}
 use Rattle.proof_demands.proofs.Changes.{Holds, closingTick, Course, LostCourse}
 
 -- every place of d bears the AID that it bears in c
@@ -48,13 +49,8 @@ other-named c call s o t e = frame c call s o (rw (t, e)) .named
 
 -- a call that does not confirm
 step-named : (c : Card) (call : Call) → sound c ≡ true → isQuiet (c .phase) ≡ false → confirms c call ≡ false → Named c (step c call .card)
-step-named c (Command verdict s room) k o e = other-named c (Command verdict s room) k o refl e
-step-named c (Keyed aid) k o e = other-named c (Keyed aid) k o refl e
-step-named c (Stored aid n) k o e = other-named c (Stored aid n) k o refl e
-step-named c (Finished aid policy mark) k o e = other-named c (Finished aid policy mark) k o refl e
-step-named c Tick k o e = rw (tick-step c k) (tick-named c)
-step-named c Lost k o e = other-named c Lost k o refl e
-step-named c (PolicyUpdate speaker s room) k o e = other-named c (PolicyUpdate speaker s room) k o refl e
+step-named c call k o e =
+    by-tick (λ x. confirms c x ≡ false → Named c (step c x .card)) (λ x t. other-named c x k o t) (λ _. rw (tick-step c k) (tick-named c)) call e
 
 -- one that does closes
 quiet-case : (c : Card) (call : Call) (b r : Bool) → confirms c call ≡ b → sound c ≡ true → (not (isQuiet (step c call .card .phase)) && r) ≡ true → b ≡ false
@@ -109,10 +105,9 @@ heir-aid t g p f k true = holder-aid t g p f (ltb k 10) (ltb k 20)
 heir-aid t g p f k false = refl
 
 -- the card after one call more
-run-snoc : (calls : List Call) (call : Call) (c : Card) → run c (calls ++ call ∷ []) ≡ step (run c calls) call .card
+pub run-snoc : (calls : List Call) (call : Call) (c : Card) → run c (calls ++ call ∷ []) ≡ step (run c calls) call .card
 unfolding run
-run-snoc [] call c = refl
-run-snoc (x ∷ calls) call c = run-snoc calls call (step c x .card)
+run-snoc calls call c = run-parts c calls (call ∷ [])
 
 -- c is the card before the opening, d the one after it
 module _ (c d : Card) (s : sound d ≡ true) (o : isQuiet (d .phase) ≡ false) (n : Named c d) where

@@ -7,7 +7,9 @@ use mathlib.Core.Bool.{Bool, true, false, false≢true}
 use lib.Dec.{eqb}
 use borrow.Author.Tests.{eqb-true, eq-eqb, ne-eqb, not-true, not-false}
 use Rattle.base_bytes.proofs.Alike.{same-true}
+use Rattle.base_status.specs.StatusWords.{isDone}
 use Rattle.base_status.specs.Rows.{wordOf}
+use Rattle.base_status.specs.declared.Status.the-variants.{Done}
 use Rattle.card_isdp.specs.Aids.{aidOf}
 use Rattle.card_isdp.specs.Place.{held, isFor}
 use Rattle.card_isdp.specs.LifeCycle.{disabled, isEnabled}
@@ -21,18 +23,20 @@ use Rattle.card_record.specs.Cards.{isQuiet, placeOf, profileOf, enabledPlace, 
 use Rattle.card_record.specs.Sound.{sound}
 use Rattle.card_record.specs.Clock.{nextNumber, opened, fallen, withoutNetwork}
 use Rattle.card_record.specs.Steps.{lostStep}
-use Rattle.card_record.specs.Answers.{accepted}
+use Rattle.card_record.specs.Answers.{Outcome, accepted}
 use Rattle.card_record.specs.declared.Card.{Card}
 use Rattle.card_record.proofs.Sounds.{parts, whole, nonzero}
 use Rattle.rule_steps.proofs.Rows.{Passed}
+use Rattle.rule_steps.specs.Steps.{successOf}
 use Rattle.rule_steps.specs.Asked.{Act.enable, Act.disable, Asked.on}
 use Rattle.rule_steps.proofs.Opens as steps
-use Rattle.rule_run.specs.Calls.{Call.Lost}
+use Rattle.rule_run.specs.Calls.{Call, Call.Lost, asked}
 use Rattle.rule_run.specs.Step.{step, stepBy, run}
 use Rattle.rule_run.proofs.Kept.{step-sound}
-use Rattle.rule_run.specs.Runs.{enabledBytes, fallbackBytes}
-use Rattle.proof_demands.specs.Change.{Opens.enables, Opens.disables, lastTick, Change, Demand3, LostNetwork}
-use Rattle.rule_run.proofs.Taken.{card-passed, taken-sound}
+use Rattle.rule_run.specs.Runs.{enabledBytes, fallbackBytes, taken}
+use Rattle.proof_demands.specs.Change.{Opens, Opens.enables, Opens.disables, lastTick, Change, Demand3, LostNetwork}
+use Rattle.rule_run.proofs.Taken.{takes-step, card-passed, taken-sound}
+use Rattle.rule_run.proofs.Words.{word-is}
 use Rattle.proof_demands.proofs.Frames.{taken-step}
 use Rattle.proof_demands.proofs.Changes.{closingTick, Opened, opened-course, lost-course}
 use Rattle.proof_demands.proofs.Named.{Named, change-named, lost-named}
@@ -84,16 +88,48 @@ change-of : (c : Card) (t : ℕ) → sound c ≡ true → Opened t (enabledPlace
 change-of c t s o =
     rw (last-tick c s) at (change-named c (opened c t) (o .still) refl (opened-named c t) t (enabledPlace c) (c .fallback) (opened-course t (enabledPlace c) (c .fallback) (opened c t) o))
 
-pub demand-3 : Demand3
-demand-3 c call _ (enables aid a e) =
+-- the word of an accepted call
+taken-word : (c : Card) (call : Call) → taken c call ≡ true → step c call .status ≡ successOf c (asked c call)
+unfolding accepted
+taken-word c call e = ap (λ (o : Outcome). o .status) (takes-step c call (ap isDone (word-is c call) ∙ e))
+
+-- the card that an accepted enable or disable leads to
+pub record Begun (c : Card) (call : Call) (wanted : List ℕ) : Type 0 where
+  pub still : sound c ≡ true
+  pub place : ℕ
+  pub done : step c call .status ≡ Done
+  pub card-is : step c call .card ≡ opened c place
+  pub opened-there : Opened place (enabledPlace c) (c .fallback) (opened c place)
+  pub named : aidOf (at (c .places) place) ≡ wanted
+
+pub begun : (c : Card) (call : Call) (wanted : List ℕ) → Opens c call wanted → Begun c call wanted
+begun c call _ (enables aid a e) =
     let s = taken-sound c call e in
     let p : Passed c (on aid enable) = rw a at (card-passed c call e) in
-    let f = found-aid c aid (eqb-true _ _ (not-false _ (p .state))) in
-    rw (taken-step c call e, a) (rw f at (change-of c (placeOf c aid) s (enable-opens c aid s p)))
-demand-3 c call _ (disables aid a e) =
+    record {
+      still = s;
+      place = placeOf c aid;
+      done = taken-word c call e ∙ ap (successOf c) a;
+      card-is = rw (taken-step c call e, a);
+      opened-there = enable-opens c aid s p;
+      named = found-aid c aid (eqb-true _ _ (not-false _ (p .state)));
+    }
+begun c call _ (disables aid a e) =
     let s = taken-sound c call e in
     let p : Passed c (on aid disable) = rw a at (card-passed c call e) in
-    rw (taken-step c call e, a) (change-of c (c .fallback) s (disable-opens c aid s p))
+    record {
+      still = s;
+      place = c .fallback;
+      done = taken-word c call e ∙ ap (successOf c) a;
+      card-is = rw (taken-step c call e, a);
+      opened-there = disable-opens c aid s p;
+      named = refl;
+    }
+
+pub demand-3 : Demand3
+demand-3 c call wanted o =
+    let b = begun c call wanted o in
+    rw (b .card-is) (rw (b .named) at (change-of c (b .place) (b .still) (b .opened-there)))
 
 -- a lost network
 lost-card : (c : Card) → sound c ≡ true → isQuiet (c .phase) ≡ true → onFallback c ≡ false → step c Lost .card ≡ fallen c

@@ -84,17 +84,25 @@ pub past-sound : (c : Card) (success : Status) (rows : List Row) → sound c ≡
 unfolding wordOf
 past-sound c success rows e = rw e
 
+-- what a written command asks is what was written
+module _ (c : Card) (verdict : ℕ) (s : List ℕ) (room : ℕ) (w : Wanted) (h : leastBuffer ≤ room) (encoded : Encodes (c .capacity) w s) where
+  was-read : (r : Request) × ((reading.Read r ≡ readOf s (c .capacity)) × (wantedOf s r ≡ w))
+  was-read = read-some s (readOf s (c .capacity)) w (command-back s (c .capacity) w encoded)
+
+  pub written-asks : asked c (Command verdict s room) ≡ wantedAsks verdict w
+  written-asks =
+      let r = was-read in
+      asks-read c verdict s room h (r .0) (r .1 .0)
+      ∙ asks-same verdict s (c .capacity) (r .0) (read-inside s (c .capacity) (r .0) (r .1 .0))
+      ∙ ap (wantedAsks verdict) (r .1 .1)
+
 pub written-answered : statement.WrittenAnswered
 unfolding stepBy
 written-answered c verdict s room w h encoded =
-    let r = read-some s (readOf s (c .capacity)) w (command-back s (c .capacity) w encoded) in
-    let a : asked c (Command verdict s room) ≡ wantedAsks verdict w =
-    asks-read c verdict s room h (r .0) (r .1 .0)
-    ∙ asks-same verdict s (c .capacity) (r .0) (read-inside s (c .capacity) (r .0) (r .1 .0))
-    ∙ ap (wantedAsks verdict) (r .1 .1) in
+    let r = was-read c verdict s room w h encoded in
     let word = after-sound c (work c (Command verdict s room) .success) (rowsAfter c (Command verdict s room)) (cardRows c (asked c (Command verdict s room))) (word-read c verdict s room h (r .0) (r .1 .0)) in
     ap (λ (x : Status). settle c x (stepOf c (asked c (Command verdict s room))) (responseOf c (asked c (Command verdict s room)))) word
-    ∙ ap (λ (x : Asked). outcome c (askedWork c x)) a
+    ∙ ap (λ (x : Asked). outcome c (askedWork c x)) (written-asks c verdict s room w h encoded)
 
 -- on a sound card its word is that of the card's rows
 module _ (c : Card) (verdict : ℕ) (s : List ℕ) (room : ℕ) (wanted : Wanted) (e : sound c ≡ true) (h : leastBuffer ≤ room) (encoded : Encodes (c .capacity) wanted s) where

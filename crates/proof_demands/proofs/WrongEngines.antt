@@ -40,11 +40,12 @@ use Rattle.read_command.specs.Requests.{fieldOf, dataWrong}
 use Rattle.rule_responses.specs.Responses.{statusBody, statusRow, rowOf, partFrom, nextRowFrom, partGiven, nextRowAfter, oneStatus, dataResponse, deletedResponse}
 use Rattle.rule_run.specs.Calls.{Call, Call.Keyed}
 use Rattle.rule_run.proofs.Kept.{step-sound, run-sound}
+use Rattle.rule_run.proofs.Runs.{run-parts}
 use Rattle.rule_run.specs.Step.{step, stepBy, run}
 use Rattle.rule_run.specs.Runs.{isTick, confirms, ticksAmong}
 use Rattle.proof_demands.specs.Change.{staysOpen, Opens, Opens.enables}
 use Rattle.rule_run.specs.Inputs.{freshOf}
-use Rattle.rule_run.specs.Samples.{aid, inputs, getStatus, setFallBack, enable, confirm, create, loadWith, load, ticks}
+use Rattle.rule_run.specs.Samples.{aid, inputs, command, getStatus, setFallBack, enable, confirm, create, loadWith, load, ticks}
 use Rattle.proof_demands.specs.Engines.{Engine, reached, remembered, cardAfter, answerAfter, Answered, MeetsDemand3}
 use Rattle.proof_demands.specs.WrongEngines.{Refuted, refusesAll, fixedAnswer, leavesEveryCard, Along, larger, Exemplary, RefusesAll, FixedAnswer, LeavesEveryCard, isCommand, firstThen, FirstThenOnly9000, idleAnswer, NotTheSecondChange, inventsTicks, OnlyTheCount, thirtyWhileOpen, rollBackAsksPolicy, previousDeletedAtEnable, secondEnableRestartsWait, lateConfirmationTaken, ignoresMark, IgnoringMark, Caught}
 use Rattle.rule_run.proofs.Taken.{hands-back}
@@ -57,9 +58,16 @@ record Open (e : Engine) (past : List Call) (opening : Call) (wanted : List ℕ)
 abbrev waiting : List Call
 waiting = ticks 9 ++ enable 2 ∷ []
 
--- a change that is opened and confirmed: four commands
+-- a change that is opened and confirmed: three commands
 abbrev firstChange : List Call
-firstChange = load 2 0 ++ load 3 0 ++ enable 2 ∷ confirm 1 ∷ []
+firstChange = load 2 0 ++ enable 2 ∷ confirm 1 ∷ []
+
+-- after these calls no change is open and no listing, and this call opens a change
+record Opening (calls : List Call) (opening : Call) (wanted : List ℕ) : Type 0 where
+  quiet : isQuiet (run (freshOf inputs .card) calls .phase) ≡ true
+  left : nextRowAfter (run (freshOf inputs .card) calls) 0 true true ≡ noPlace
+  kept : run (freshOf inputs .card) calls .kept ≡ noPlace
+  opens : Opens (run (freshOf inputs .card) calls) opening wanted
 
 record Runs : Type 0 where
   made : isDone (freshOf inputs .status) ≡ true
@@ -75,10 +83,8 @@ record Runs : Type 0 where
   less : step (freshOf inputs .card) getStatus .card .capacity ≡ 1000
   more-room : step (freshOf larger .card) getStatus .card .capacity ≡ 2000
   made-larger : isDone (freshOf larger .status) ≡ true
-  second-quiet : isQuiet (run (freshOf inputs .card) firstChange .phase) ≡ true
-  second-left : nextRowAfter (run (freshOf inputs .card) firstChange) 0 true true ≡ noPlace
-  second-kept : run (freshOf inputs .card) firstChange .kept ≡ noPlace
-  second-opens : Opens (run (freshOf inputs .card) firstChange) (enable 3) (aid 3)
+  first-opens : Opening (load 2 0) (enable 2) (aid 2)
+  second-opens : Opening firstChange (enable 1) (aid 1)
   invented : thirtyWhileOpen (answerAfter (inventsTicks thirtyWhileOpen) inputs (load 2 0) (enable 2) .card) ≡ 30
   counted : ticksToCome (answerAfter (inventsTicks thirtyWhileOpen) inputs (load 2 0) (enable 2) .card) ≡ 20
   thirty : ticksAmong (ticks 30) ≡ 30
@@ -111,10 +117,8 @@ runs =
       less = refl;
       more-room = refl;
       made-larger = refl;
-      second-quiet = refl;
-      second-left = refl;
-      second-kept = refl;
-      second-opens = enables (aid 3) refl refl;
+      first-opens = record { quiet = refl; left = refl; kept = refl; opens = enables (aid 2) refl refl };
+      second-opens = record { quiet = refl; left = refl; kept = refl; opens = enables (aid 1) refl refl };
       invented = refl;
       counted = refl;
       thirty = refl;
@@ -274,20 +278,32 @@ unfolding reached remembered
 reached-last e [] call m c = refl
 reached-last e (x ∷ past) call m c = reached-last e past call (e .remember m c x) (e .answer m c x .card)
 
--- and by demand 3 at the second change, which it does not open
-pub not-the-second-change : NotTheSecondChange
-unfolding commandsAmong run accepted reached
-not-the-second-change n d =
+commands-append : (calls more : List Call) → commandsAmong (calls ++ more) ≡ commandsAmong calls + commandsAmong more
+unfolding commandsAmong
+commands-append [] more = omega arith
+commands-append (call ∷ calls) more = let e = commands-append calls more in omega arith
+
+-- and by demand 3 at a change that it does not open: it works on these calls, and on so many GET STATUS after them
+opens-nothing : (n k : ℕ) (calls : List Call) (s wanted : List ℕ) → commandsAmong calls + n ≡ k → Opening calls (command s) wanted → MeetsDemand3 (firstThen k idleAnswer) → ⊥
+unfolding accepted
+opens-nothing n k calls s wanted z x d =
     let c = freshOf inputs .card in
-    let k = n + 4 in
-    let past = firstChange ++ replicate n getStatus in
-    let count = listings-count n in
-    let there : cardAfter (firstThen k idleAnswer) inputs past ≡ run c firstChange = worked k idleAnswer past 0 c (omega arith) ∙ listings-leave n (run c firstChange) (listed-card (run c firstChange) (runs .second-left) (runs .second-kept)) in
+    let past = calls ++ replicate n getStatus in
+    let count = commands-append calls (replicate n getStatus) in
+    let listings = listings-count n in
+    let there : cardAfter (firstThen k idleAnswer) inputs past ≡ run c calls = worked k idleAnswer past 0 c (omega arith) ∙ run-parts c calls (replicate n getStatus) ∙ listings-leave n (run c calls) (listed-card (run c calls) (x .left) (x .kept)) in
     let number = tally k idleAnswer past 0 c in
-    let opens = coe 1 0 (i. Opens (there i) (enable 3) (aid 3)) (runs .second-opens) in
-    let quiet = ap (λ (e : Card). isQuiet (e .phase)) there ∙ runs .second-quiet in
-    let after = reached-last (firstThen k idleAnswer) past (enable 3) 0 c ∙ ap (λ (o : Outcome). o .card) (late-answer k (remembered (firstThen k idleAnswer) 0 c past) (idleAnswer (cardAfter (firstThen k idleAnswer) inputs past) (enable 3)) (step (cardAfter (firstThen k idleAnswer) inputs past) (enable 3)) (omega arith)) in
-    false≢true (sym (d inputs (runs .made) past (enable 3) (aid 3) opens .opens) ∙ ap (λ (e : Card). isQuiet (e .phase)) after ∙ quiet)
+    let opens = coe 1 0 (i. Opens (there i) (command s) wanted) (x .opens) in
+    let quiet = ap (λ (e : Card). isQuiet (e .phase)) there ∙ x .quiet in
+    let after = reached-last (firstThen k idleAnswer) past (command s) 0 c ∙ ap (λ (o : Outcome). o .card) (late-answer k (remembered (firstThen k idleAnswer) 0 c past) (idleAnswer (cardAfter (firstThen k idleAnswer) inputs past) (command s)) (step (cardAfter (firstThen k idleAnswer) inputs past) (command s)) (omega arith)) in
+    false≢true (sym (d inputs (runs .made) past (command s) wanted opens .opens) ∙ ap (λ (e : Card). isQuiet (e .phase)) after ∙ quiet)
+
+-- with one command or two at the first change, with more at the second
+pub not-the-second-change : NotTheSecondChange
+unfolding commandsAmong
+not-the-second-change zero = opens-nothing 0 1 (load 2 0) _ (aid 2) refl (runs .first-opens)
+not-the-second-change (suc zero) = opens-nothing 1 2 (load 2 0) _ (aid 2) refl (runs .first-opens)
+not-the-second-change (suc (suc n)) = opens-nothing n (suc (suc n) + 1) firstChange _ (aid 1) (omega arith) (runs .second-opens)
 
 -- the figure alone differs, so the cards reached are the manager's
 reached-run : (figure : Card → ℕ) (calls : List Call) (c : Card) → reached (inventsTicks figure) tt c calls ≡ run c calls

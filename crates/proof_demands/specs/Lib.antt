@@ -25,6 +25,7 @@ pub mod Free
 pub mod Provisioning
 pub mod Room
 pub mod Listing
+pub mod EndToEnd
 pub mod Summed
 pub mod Notified
 pub mod SilentEngines

@@ -16,8 +16,10 @@ use Rattle.card_record.specs.Sound.{sound}
 use Rattle.card_record.specs.Answers.{Outcome}
 use Rattle.card_record.specs.declared.Card.{Card}
 use Rattle.card_record.specs.declared.Phase.the-variants.{Quiet}
-use Rattle.rule_responses.specs.Responses.{listing}
+use Rattle.read_frame.specs.Framing.{classRight}
 use Rattle.read_fields.specs.Grammar as field
+use Rattle.read_command.specs.Grammar.{listingOf}
+use Rattle.rule_responses.specs.Responses.{listing}
 use Rattle.rule_responses.specs.Worked.{aidEnding}
 use Rattle.rule_run.specs.Calls.{Call, Call.Command}
 use Rattle.rule_run.specs.Step.{step}
@@ -26,13 +28,13 @@ use Rattle.proof_demands.specs.WrongEngines.{withCard}
 
 -- a call for rows of all profiles with these tags: the first ones, or the next
 abbrev pub Lists : Bool → Bool → Bool → Card → Call → Type 0
-Lists next life shown c call = Writes (c .capacity) (field.getStatus (field.inquiry next [] life shown)) call
+Lists life shown next c call = Writes (c .capacity) (field.getStatus (field.inquiry next [] life shown)) call
 
--- a whole listing: GET STATUS of all, then P2 03 for the same tags until 90 00; refused calls may stand between (decision B77)
-pub data Whole (answer : Card → Call → Outcome) (life shown : Bool) : Bool → Card → List Call → Type 0 where
-  ends : {next : Bool} {c : Card} {call : Call} → Lists next life shown c call → answer c call .status ≡ Done → Whole answer life shown next c (call ∷ [])
-  goes-on : {next : Bool} {c : Card} {call : Call} {calls : List Call} → Lists next life shown c call → answer c call .status ≡ More → Whole answer life shown true (answer c call .card) calls → Whole answer life shown next c (call ∷ calls)
-  between : {c : Card} {call : Call} {calls : List Call} → isDone (answer c call .status) ≡ false → Whole answer life shown true (answer c call .card) calls → Whole answer life shown true c (call ∷ calls)
+-- a whole listing, of calls that ask so: for the first rows, then for the next ones until 90 00; refused calls may stand between (decision B77)
+pub data Whole (answer : Card → Call → Outcome) (Asks : Bool → Card → Call → Type 0) : Bool → Card → List Call → Type 0 where
+  ends : {next : Bool} {c : Card} {call : Call} → Asks next c call → answer c call .status ≡ Done → Whole answer Asks next c (call ∷ [])
+  goes-on : {next : Bool} {c : Card} {call : Call} {calls : List Call} → Asks next c call → answer c call .status ≡ More → Whole answer Asks true (answer c call .card) calls → Whole answer Asks next c (call ∷ calls)
+  between : {c : Card} {call : Call} {calls : List Call} → isDone (answer c call .status) ≡ false → Whole answer Asks true (answer c call .card) calls → Whole answer Asks true c (call ∷ calls)
 
 -- all responses, one after the other; a refused call has none
 unfoldable pub joined : (Card → Call → Outcome) → Card → List Call → List ℕ
@@ -60,7 +62,29 @@ pub record Joins (answer : Card → Call → Outcome) (life shown : Bool) (c : C
 -- from any sound card, whatever it keeps of an earlier listing (decision B77)
 abbrev pub PartsJoin : (Card → Call → Outcome) → Type 0
 PartsJoin answer =
-    (c : Card) (life shown : Bool) (calls : List Call) → sound c ≡ true → Whole answer life shown false c calls → Joins answer life shown c calls
+    (c : Card) (life shown : Bool) (calls : List Call) → sound c ≡ true → Whole answer (Lists life shown) false c calls → Joins answer life shown c calls
+
+-- a GET STATUS with these bytes for its data field, P2 02 or 03, whatever the card; class, Le, token verdict and buffer may differ from call to call
+pub data WithField (bytes : List ℕ) : Bool → Card → Call → Type 0 where
+  with-field : {c : Card} (next : Bool) (verdict class room : ℕ) (withLe : Bool) → classRight class ≡ true → 256 ≤ room → WithField bytes next c (Command verdict (listingOf class next bytes withLe) room)
+
+-- a data field that asks for all profiles: 4F of length 0, then 5C or not, which says which tags
+pub record AsksForAll (life shown : Bool) (bytes : List ℕ) : Type 0 where
+  pub encoded : field.EncodesListed (field.inquiry false [] life shown) bytes
+  pub most : length bytes ≤ 255
+
+-- "With the same data field throughout, the joined responses equal the one long listing."
+abbrev pub SameFieldJoins : (Card → Call → Outcome) → Type 0
+SameFieldJoins answer =
+    (c : Card) (life shown : Bool) (bytes : List ℕ) (calls : List Call) → sound c ≡ true → AsksForAll life shown bytes
+    → Whole answer (WithField bytes) false c calls → Joins answer life shown c calls
+
+-- and it ends: of any two such commands, one with P2 02 and then at most three times the one with P2 03 are a whole listing
+abbrev pub ListingEnds : (Card → Call → Outcome) → Type 0
+ListingEnds answer =
+    (c : Card) (life shown : Bool) (bytes : List ℕ) (first next : Call) → sound c ≡ true → AsksForAll life shown bytes
+    → WithField bytes false c first → WithField bytes true c next
+    → (n : ℕ) × ((n ≤ 3) × Whole answer (WithField bytes) false c (first ∷ replicate n next))
 
 -- 17 profiles with AIDs of five bytes, the first enabled and the fall-back
 unfoldable pub profilesFrom : ℕ → ℕ → List Isdp
@@ -85,7 +109,8 @@ refusedCommand = Command 0 [] 256
 pub record ListingMet : Type 0 where
   pub is-sound : sound crowded ≡ true
   -- fifteen rows, a refused call, and the other two
-  pub whole : Whole step true true false crowded (getFirst ∷ refusedCommand ∷ getNext ∷ [])
+  pub asks-for-all : AsksForAll true true (0x4F ∷ 0x00 ∷ [])
+  pub whole : Whole step (WithField (0x4F ∷ 0x00 ∷ [])) false crowded (getFirst ∷ refusedCommand ∷ getNext ∷ [])
   pub bytes : length (joined step crowded (getFirst ∷ refusedCommand ∷ getNext ∷ [])) ≡ 272
 
 -- the manager, but for the place that a part leaves

@@ -133,10 +133,10 @@ FirstThenOnly9000 =
 abbrev pub idleAnswer : Card → Call → Outcome
 idleAnswer c call = accepted Done (stepTo c c noAid) []
 
--- by demand 3 from the second change on: the first takes four commands (two creations, the enable and its confirmation), and it may work
--- on any number more (decision B41)
+-- by demand 3, from one command on: with three (a creation, an enable and its confirmation) or more it makes the first change and does not open
+-- the second, with fewer not even the first (decision B41)
 abbrev pub NotTheSecondChange : Type 0
-NotTheSecondChange = (n : ℕ) → MeetsDemand3 (firstThen (n + 4) idleAnswer) → ⊥
+NotTheSecondChange = (n : ℕ) → MeetsDemand3 (firstThen (n + 1) idleAnswer) → ⊥
 
 -- "one that invents its ticks-left figure", from the card handed back
 abbrev pub inventsTicks : (Card → ℕ) → Engine

@@ -13,11 +13,11 @@ use Rattle.read_frame.proofs.Framed.{field-window}
 use Rattle.read_command.proofs.ReadBack.{command-back}
 use Rattle.read_command.proofs.Written.{command-written}
 
-encodes-alike : (next next′ life shown : Bool) (bytes : List ℕ) → EncodesListed (inquiry next [] life shown) bytes → EncodesListed (inquiry next′ [] life shown) bytes
+pub encodes-alike : (next next′ life shown : Bool) (bytes : List ℕ) → EncodesListed (inquiry next [] life shown) bytes → EncodesListed (inquiry next′ [] life shown) bytes
 encodes-alike next next′ life shown bytes e =
     record { tags = e .tags; sought = all; short = e .short; lifeAsked = e .lifeAsked; fallBackAsked = e .fallBackAsked; written = e .written }
 
-second-right : (next : Bool) → parametersRight 0xF2 0x40 (secondOf next) ≡ true
+pub second-right : (next : Bool) → parametersRight 0xF2 0x40 (secondOf next) ≡ true
 unfolding parametersRight
 second-right false = refl
 second-right true = refl
