@@ -53,18 +53,25 @@ fn take_file(fd: i32, buf: &mut [u8]) -> Taken
     }
 }
 
+// Bytes written to standard output; where they could not be, all of them, that is told on standard error.
+fn put_out(bytes: &[u8]) {
+    if !io::write_all(STDOUT_FILENO, bytes) {
+        os::fail(b"standard output");
+    }
+}
+
 // One file, read and reported by one write; a read that fails is told instead.
 fn tell(fd: i32, explain: bool) {
     let mut file = [0u8; FILE];
     let mut out = [0u8; OUT];
     let taken = take_file(fd, &mut file);
     if !taken.whole {
-        io::write_all(STDOUT_FILENO, b"the read failed\n");
+        put_out(b"the read failed\n");
         return;
     }
     let n = taken.filled;
     let end = write_month(&file[..n], explain, &mut out, 0);
-    io::write_all(STDOUT_FILENO, &out[..end]);
+    put_out(&out[..end]);
 }
 
 // What the words before a file ask of its report, and whether a file was named.

@@ -85,12 +85,19 @@ fn put_reading(out: &mut [u8], bytes: &[u8]) -> usize {
     }
 }
 
+// Bytes written to standard output; where they could not be, all of them, that is told on standard error.
+fn put_out(bytes: &[u8]) {
+    if !io::write_all(STDOUT_FILENO, bytes) {
+        os::fail(b"standard output");
+    }
+}
+
 fn write_line(out: &mut [u8], at: usize) {
     let end = put_byte(out, at, b'\n');
     if out.len() < end {
         return;
     }
-    io::write_all(STDOUT_FILENO, &out[..end]);
+    put_out(&out[..end]);
 }
 
 fn answer(out: &mut [u8], bytes: &[u8]) {

@@ -51,12 +51,19 @@ fn counted(state: State) -> State {
     after
 }
 
+// Bytes written to standard output; where they could not be, all of them, that is told on standard error.
+fn put_out(bytes: &[u8]) {
+    if !io::write_all(STDOUT_FILENO, bytes) {
+        os::fail(b"standard output");
+    }
+}
+
 // The first n bytes written out; none are left to write.
 fn write_out(out: &[u8], n: usize) -> usize
     requires { ⌜ n ≤ length (now out) ⌝ }
     ensures { λ r. ⌜ r ≡ 0 ⌝ }
 {
-    io::write_all(STDOUT_FILENO, &out[..n]);
+    put_out(&out[..n]);
     0
 }
 
@@ -86,7 +93,7 @@ fn more(state: State, fd: i32, buf: &mut [u8]) -> State {
             after
         }
         Arrival::Failed => {
-            io::write_all(STDOUT_FILENO, b"the read failed\n");
+            put_out(b"the read failed\n");
             after.goes = false;
             after
         }

@@ -12,8 +12,8 @@ slice-aggregate-write-month c = sym (length-take-le (c .before .before .before .
 array-share-prefix-out : tie.Need-array-share-prefix-out
 array-share-prefix-out c = within (c .before .write-month .ensures) (search needs)
 
-slice-aggregate-write-all-2 : tie.Need-slice-aggregate-write-all-2
-slice-aggregate-write-all-2 c = sym (length-take-le (c .before .before .write-month .result) _ (within (c .before .before .write-month .ensures) (search needs)))
+slice-aggregate-put-out-2 : tie.Need-slice-aggregate-put-out-2
+slice-aggregate-put-out-2 c = sym (length-take-le (c .before .before .write-month .result) _ (within (c .before .before .write-month .ensures) (search needs)))
 
 pub tell-spec : {M : Type 1} → statement M
 tell-spec =
@@ -29,6 +29,6 @@ tell-spec =
     (λ c. search needs)
     (λ c κs. search needs)
     array-share-prefix-out
-    slice-aggregate-write-all-2
+    slice-aggregate-put-out-2
     (λ c κs. search needs)
     (λ c. search needs))

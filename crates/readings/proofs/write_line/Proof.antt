@@ -5,8 +5,8 @@ use borrow.Author.Needs.{needs}
 use Rattle.readings.proofs.write_line.Statement.{statement}
 use Rattle.readings.proofs.write_line.Tie as tie
 
-slice-aggregate-write-all : tie.Need-slice-aggregate-write-all
-slice-aggregate-write-all c = sym (length-take-le _ _ (search needs))
+slice-aggregate-put-out : tie.Need-slice-aggregate-put-out
+slice-aggregate-put-out c = sym (length-take-le _ _ (search needs))
 
 pub write-line-spec : {M : Type 1} → statement M
 write-line-spec =
@@ -16,7 +16,7 @@ write-line-spec =
     (λ c. search needs)
     (λ c. search needs)
     (λ c. search needs)
-    slice-aggregate-write-all
+    slice-aggregate-put-out
     (λ c κs. search needs)
     (λ c. search needs)
     (λ c. search needs))

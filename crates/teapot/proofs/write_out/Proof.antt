@@ -8,9 +8,9 @@ use borrow.Author.Needs.{needs}
 use Rattle.teapot.proofs.write_out.Statement.{statement}
 use Rattle.teapot.proofs.write_out.Tie as tie
 
-slice-aggregate-write-all : tie.Need-slice-aggregate-write-all
-slice-aggregate-write-all c = let h : c .before .before .args .n ≤ length (now (c .before .before .args .out)) = search needs in
+slice-aggregate-put-out : tie.Need-slice-aggregate-put-out
+slice-aggregate-put-out c = let h : c .before .before .args .n ≤ length (now (c .before .before .args .out)) = search needs in
     sym (length-take-le _ _ h)
 
 pub write-out-spec : {M : Type 1} → statement M
-write-out-spec = tie.close (tie.spec slice-aggregate-write-all (λ c κs. search needs) (λ c. search needs))
+write-out-spec = tie.close (tie.spec slice-aggregate-put-out (λ c κs. search needs) (λ c. search needs))
