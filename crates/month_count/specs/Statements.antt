@@ -5,19 +5,24 @@ use mathlib.Core.Path.{_≡_}
 use mathlib.Core.List.{List, [], _∷_, _++_, map}
 use mathlib.Core.Bool.{Bool, false, not, cond, _&&_, _||_}
 use lib.ListN.{length, getD, take}
-use lib.Dec.{ltb}
+use lib.Dec.{ltb, eqb}
 use Rattle.base_status.specs.StatusWords.{isDone}
 use Rattle.card_isdp.specs.Aids.{noAid}
 use Rattle.card_isdp.specs.declared.Aid.{Aid}
 use Rattle.card_record.specs.Cards.{enabledAid}
 use Rattle.card_record.specs.Answers.{Outcome}
 use Rattle.card_record.specs.declared.Card.{Card}
+use Rattle.read_tlv.specs.Encoding.{Bytes}
 use Rattle.rule_run.specs.Calls.{Call}
 use Rattle.rule_run.specs.Step.{step, run, answers}
 use Rattle.rule_run.specs.Runs.{isTick, ticksAmong}
 use Rattle.month_tally.specs.Lines.{restLine, sameAid, aidsIn, minutesIn}
 use Rattle.month_tally.specs.Statements.{firsts}
-use Rattle.month_file.specs.File.{verdictOf, fileEvents, fileCalls}
+use Rattle.month_contents.specs.Contents.{freshKind}
+use Rattle.month_events.specs.Events.{Event}
+use Rattle.month_file.specs.Inputs.{inputsOf}
+use Rattle.month_file.specs.File.{bodyOf, verdictOf, fileEvents, fileCalls}
+use Rattle.month_file.specs.Grammar.{WrittenFrom}
 use Rattle.month_file.specs.declared.Refusal.{Refusal}
 use Rattle.month_file.specs.declared.Verdict.the-variants.{Accepted, Refused}
 use Rattle.month_count.specs.Month.{Counted, atFirst, counting, fileCard, nothing, fileCounted}
@@ -135,6 +140,18 @@ pub record FileTold (s : List ℕ) (k : Counted) : Type 0 where
 
 abbrev pub FileCounted : Type 0
 FileCounted = (s : List ℕ) → verdictOf s ≡ Accepted → FileTold s (fileCounted s)
+
+-- "the ticks in the file": the events of kind 5 among those that its bytes write; so many are the ticks among its calls, and so many are told
+abbrev pub isOfKindFive : Event → Bool
+isOfKindFive e = eqb (e .kind) 5
+
+pub record TicksOf (s : List ℕ) : Type 0 where
+  pub bytes : WrittenFrom s (inputsOf (bodyOf s freshKind)) (fileEvents s)
+  pub ticks : ticksAmong (fileCalls s) ≡ howMany isOfKindFive (fileEvents s)
+  pub told : fileCounted s .tally .ticks ≡ howMany isOfKindFive (fileEvents s)
+
+abbrev pub TicksInFile : Type 0
+TicksInFile = (s : List ℕ) → Bytes s → verdictOf s ≡ Accepted → TicksOf s
 
 -- of a file that is refused nothing is counted: no line, no tick, no event
 abbrev pub RefusedUncounted : Type 0

@@ -169,7 +169,7 @@ module _ (b : List ℕ) (from n : ℕ) where
       omega (arith, length-take n (drop from b))
 
   -- the call over the body is the call of the event's bytes, where these are neither too few nor too many
-  call-in : (k : Kind) → eventLengthWrong k (take n (drop from b)) ≡ false → door.callOf b leastBuffer (callOver b k from (from + n)) ≡ callFor k (take n (drop from b))
+  pub call-in : (k : Kind) → eventLengthWrong k (take n (drop from b)) ≡ false → door.callOf b leastBuffer (callOver b k from (from + n)) ≡ callFor k (take n (drop from b))
   call-in kind.Command e =
       let h = least 1 e in
       rw (byte-first (omega arith), part-in 1 (omega arith))

@@ -13,6 +13,7 @@ use Rattle.base_choice.proofs.Branches.{on-lt}
 use Rattle.read_tlv.specs.Encoding.{Bytes}
 use Rattle.month_events.specs.Events.{Event, firstStop, firstEvent, eventsOf, cutShort, someEvent, ofUnknownKind, ofWrongLength, kindUnknown, wrongLength, checkedOf}
 use Rattle.month_events.specs.Written.{encodeEvent, encodeEvents, Writable, AllWritable, EventsBack, EventsWritten}
+use Rattle.month_events.proofs.Numbers.{kinds-in-numbers}
 use Rattle.month_events.proofs.Turns.{cut-none, events-none, cut-here, cut-on, events-on, none-first, right-tests}
 
 -- a body that begins with a written event
@@ -66,12 +67,12 @@ written-whole (e ∷ es) = begun-cut e (encodeEvents es) ∙ written-whole es
 known-all : (es : List Event) → AllWritable es → someEvent ofUnknownKind es ≡ false
 unfolding someEvent
 known-all [] p = refl
-known-all (e ∷ es) p = rw (p .0 .known) (known-all es (p .1))
+known-all (e ∷ es) p = rw (kinds-in-numbers .known e (p .0 .least) (p .0 .most)) (known-all es (p .1))
 
 right-all : (es : List Event) → AllWritable es → someEvent ofWrongLength es ≡ false
 unfolding someEvent
 right-all [] p = refl
-right-all (e ∷ es) p = rw (p .0 .right) (right-all es (p .1))
+right-all (e ∷ es) p = rw (kinds-in-numbers .right e (p .0 .right)) (right-all es (p .1))
 
 pub events-back : EventsBack
 unfolding checkedOf kindUnknown wrongLength pick
@@ -122,7 +123,14 @@ module _ (b : List ℕ) (w : Bytes b) (h : 0 < length b) (k : firstStop b ≤ le
       let l = first-length in
       let y = w 1 in
       let z = w 2 in
-      record { known = p; right = q; short = omega arith; octets = bytes-take (pairAt b 1) (drop 3 b) (bytes-drop 3 b w) }
+      let known = kinds-in-numbers .only-known (firstEvent b) p in
+      record {
+        least = known .0;
+        most = known .1;
+        right = kinds-in-numbers .only-right (firstEvent b) q;
+        short = omega arith;
+        octets = bytes-take (pairAt b 1) (drop 3 b) (bytes-drop 3 b w);
+      }
 
   first-sound : Sound b → Sound (drop (firstStop b) b)
   first-sound s =

@@ -1,29 +1,23 @@
 -- A file of two bodies, written and read: numbers of four bytes are read back (`four-back`), so the contents list what was written, and each
 -- body is the part that its entry names.
-use Prim.Native.Nat.{ℕ, _+_, _*_, _/_, _%_, _≤_, _<_}
+use Prim.Native.Nat.{ℕ, _+_, _≤_, _<_}
 use mathlib.Core.Path.{_≡_, refl, sym, ap, _∙_}
-use mathlib.Core.List.{List, [], _∷_, _++_}
+use mathlib.Core.List.{List, _++_}
 use mathlib.Core.Bool.{Bool, true, false}
 use mathlib.Core.Logic.{_⊎_, inl, inr, ⊎-elim}
 use native.Mathlib.Omega.{arith}
-use native.Mathlib.Nat.{add-zero, div-div-eq-div-mul}
+use native.Mathlib.Nat.{add-zero}
 use lib.ListN.{length, take, drop, length-append, length-drop, take-append-drop}
 use lib.Seq.{take-at, drop-at, drop-drop, take-length, take-all, getD-drop, length-take-le}
 use Rattle.read_tlv.specs.Encoding.{Bytes}
 use Rattle.month_events.proofs.Written.{bytes-drop}
+use Rattle.month_events.proofs.Logged.{four-back, four-is}
 use Rattle.base_bytes.specs.Bytes.{fourAt, fourBytes, partOf}
 use Rattle.base_bytes.specs.declared.Part.{Part}
 use Rattle.month_contents.specs.Contents.{mostFile}
 use Rattle.month_contents.specs.Written.{entry, twoSections}
 use Rattle.month_contents.proofs.TwoSections.{Lists, Chain, TwoSections, Accepted, two-accepted}
 use Rattle.month_file.specs.Grammar.{fileOf}
-
-pub four-back : (n : ℕ) → n < 4294967296 → (n / 16777216 % 256 * 256 + n / 65536 % 256) * 65536 + (n / 256 % 256 * 256 + n % 256) ≡ n
-four-back n h =
-    let two : n / 256 / 256 ≡ n / 65536 = div-div-eq-div-mul n 256 256 in
-    let three : n / 65536 / 256 ≡ n / 16777216 = div-div-eq-div-mul n 65536 256 in
-    let top : n / 16777216 % 256 ≡ n / 16777216 = omega arith in
-    omega arith
 
 -- the contents list what was written
 module _ (k : ℕ) (p : Part) (l : ℕ) (q : Part) (bodies : List ℕ) (k-four : k < 4294967296) (l-four : l < 4294967296) where
@@ -110,27 +104,7 @@ file-holds false false f b h =
     events-first b f (fileOf false false f b) (omega arith) refl h
     (inr (lists 2 (first b f) 1 (second b f) (b ++ f) (omega arith) (omega arith) (omega arith) (omega arith)))
 
--- the other way round: four bytes are those of their number
-four-is : (l : List ℕ) → Bytes l → 4 ≤ length l → l ≡ fourBytes (fourAt l 0) ++ drop 4 l
-four-is [] w h = absurd (omega arith)
-four-is (a ∷ []) w h = absurd (omega arith)
-four-is (a ∷ b ∷ []) w h = absurd (omega arith)
-four-is (a ∷ b ∷ c ∷ []) w h = absurd (omega arith)
-four-is (a ∷ b ∷ c ∷ d ∷ r) w h =
-    let a-byte : a < 256 = w 0 in
-    let b-byte : b < 256 = w 1 in
-    let c-byte : c < 256 = w 2 in
-    let d-byte : d < 256 = w 3 in
-    let n = (a * 256 + b) * 65536 + (c * 256 + d) in
-    let ea : n / 16777216 % 256 ≡ a = omega arith in
-    let eb : n / 65536 % 256 ≡ b = omega arith in
-    let ec : n / 256 % 256 ≡ c = omega arith in
-    let ed : n % 256 ≡ d = omega arith in
-    sym (ap (λ (x : ℕ). x ∷ n / 65536 % 256 ∷ n / 256 % 256 ∷ n % 256 ∷ r) ea
-    ∙ ap (λ (x : ℕ). a ∷ x ∷ n / 256 % 256 ∷ n % 256 ∷ r) eb
-    ∙ ap (λ (x : ℕ). a ∷ b ∷ x ∷ n % 256 ∷ r) ec
-    ∙ ap (λ (x : ℕ). a ∷ b ∷ c ∷ x ∷ r) ed)
-
+-- the other way round: the numbers in a file are the bytes that stand there
 pub four-from : (s : List ℕ) (at i : ℕ) → fourAt (drop at s) i ≡ fourAt s (at + i)
 four-from s at i =
     let one : at + (i + 1) ≡ at + i + 1 = omega arith in

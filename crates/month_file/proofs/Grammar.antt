@@ -2,14 +2,12 @@
 -- written, and what is accepted is the file of its own two bodies, each of which was so written.
 use Prim.Native.Nat.{ℕ, _+_, _≤_, _<_}
 use mathlib.Core.Path.{_≡_, refl, sym, ap, _∙_}
-use mathlib.Core.List.{List, _++_}
+use mathlib.Core.List.{List, [], _++_}
 use mathlib.Core.Bool.{false}
 use native.Mathlib.Omega.{arith}
-use lib.ListN.{length, take, drop, length-append, take-append-drop, replicate, getD-replicate, length-replicate, List·getD-eq-default}
+use lib.ListN.{length, take, drop, length-append, take-append-drop}
 use lib.Seq.{take-at, drop-at, drop-drop, length-take-le}
 use Rattle.base_bytes.specs.Bytes.{fourAt, fourBytes, partOf}
-use Rattle.base_choice.specs.Choice.{pick, isSame}
-use Rattle.base_choice.proofs.Branches.{on-lt}
 use Rattle.base_status.specs.StatusWords.{isDone}
 use Rattle.base_status.specs.Rows.{wordOf}
 use Rattle.card_record.specs.Answers.{accepted}
@@ -18,25 +16,27 @@ use Rattle.read_tlv.specs.Encoding.{Bytes}
 use Rattle.month_contents.specs.Contents.{freshKind, eventsKind, sectionOf}
 use Rattle.month_contents.specs.declared.Section.{Section}
 use Rattle.month_contents.proofs.TwoSections.{two-sections}
-use Rattle.month_events.specs.Kinds.{kindOf}
-use Rattle.month_events.specs.Events.{Event, eventsOf, checkedOf}
+use Rattle.month_events.specs.Events.{eventsOf, checkedOf}
 use Rattle.month_events.specs.Written.{encodeEvents}
+use Rattle.month_events.specs.Logged.{event, LoggedAs.tick}
 use Rattle.month_events.specs.declared.Checked.the-variants as checked
 use Rattle.month_events.proofs.Written.{bytes-drop, bytes-take, events-back, events-written}
+use Rattle.month_events.proofs.Logged.{four-back, bytes-same, logged-writable}
+use Rattle.rule_run.specs.Calls as manager
 use Rattle.rule_run.specs.Inputs.{Inputs, freshOf}
 use Rattle.month_file.specs.Inputs.{inputsOf, freshAnswer, freshBad}
 use Rattle.month_file.specs.File.{partIn, bodyOf}
-use Rattle.month_file.specs.Grammar.{encodeInputs, fileOf, written, CanBeWritten, ReadBack, WrittenBack, GrammarMet}
+use Rattle.month_file.specs.Grammar.{encodeInputs, fileOf, written, InputsWritable, ReadBack, WrittenBack, GrammarMet}
 use Rattle.month_file.proofs.Opening.{checked-stop, not-bad}
 use Rattle.month_file.proofs.Accepted as file
-use Rattle.month_file.proofs.Bodies.{four-back, four-from, four-on, file-holds, file-laid}
+use Rattle.month_file.proofs.Bodies.{four-from, four-on, file-holds, file-laid}
 
 inputs-same : {e e′ a a′ : List ℕ} {c c′ q q′ u u′ v v′ : ℕ} → e ≡ e′ → c ≡ c′ → q ≡ q′ → u ≡ u′ → v ≡ v′ → a ≡ a′
     → _≡_ {A = Inputs} (record { eid = e; capacity = c; quota = q; used = u; volatile = v; aid = a }) (record { eid = e′; capacity = c′; quota = q′; used = u′; volatile = v′; aid = a′ })
 inputs-same eid capacity quota used volatile aid = rw (eid, capacity, quota, used, volatile, aid)
 
 -- the inputs that are written are read
-module _ (x : Inputs) (es : List Event) (can : CanBeWritten x es) where
+module _ (x : Inputs) (can : InputsWritable x) where
   abbrev after : List ℕ
   after = fourBytes (x .capacity) ++ (fourBytes (x .quota) ++ (fourBytes (x .used) ++ (fourBytes (x .volatile) ++ x .aid)))
 
@@ -74,8 +74,8 @@ read-back listedFirst laidFirst x es can size =
     record {
       accepted =
           sym (checked-stop s (a .right) (h .fresh) (a .fresh-found) (h .events) (a .events-found)
-          (ap freshBad (h .fresh-is) ∙ inputs-taken x es can) checked.Right (ap checkedOf (h .events-is) ∙ back .0));
-      inputs = ap inputsOf fresh ∙ inputs-back x es can;
+          (ap freshBad (h .fresh-is) ∙ inputs-taken x (can .inputs)) checked.Right (ap checkedOf (h .events-is) ∙ back .0));
+      inputs = ap inputsOf fresh ∙ inputs-back x (can .inputs);
       events = ap eventsOf events ∙ back .1;
     }
 
@@ -118,36 +118,34 @@ written-back s w e =
           ∙ ap (λ (g : List ℕ). fileOf (l .listedFirst) (l .laidFirst) g b) (sym (inputs-written f fw (a .enough)))
           ∙ ap (λ (g : List ℕ). fileOf (l .listedFirst) (l .laidFirst) (encodeInputs (inputsOf f)) g) (sym (v .0));
       can = record {
-        eid-16 = length-take-le 16 f (omega (arith, a .enough));
-        eid-octets = bytes-take 16 f fw;
-        aid-octets = bytes-drop 32 f fw;
-        capacity-four = four-small f fw 16;
-        quota-four = four-small f fw 20;
-        used-four = four-small f fw 24;
-        volatile-four = four-small f fw 28;
-        taken = a .made;
+        inputs = record {
+          eid-16 = length-take-le 16 f (omega (arith, a .enough));
+          eid-octets = bytes-take 16 f fw;
+          aid-octets = bytes-drop 32 f fw;
+          capacity-four = four-small f fw 16;
+          quota-four = four-small f fw 20;
+          used-four = four-small f fw 24;
+          volatile-four = four-small f fw 28;
+          taken = a .made;
+        };
         events = v .1;
       };
       size = a .size;
     }
 
-bytes-same : (n v : ℕ) → v < 256 → Bytes (replicate n v)
-bytes-same n v h i =
-    on-lt i n
-    (λ k. let e = getD-replicate n i v 0 k in omega arith)
-    (λ k. let e = List·getD-eq-default (replicate n v) 0 {n = i} (omega (arith, length-replicate n v)) in omega arith)
-
 pub grammar-met : GrammarMet
-unfolding freshOutcome wordOf accepted kindOf pick isSame
+unfolding freshOutcome wordOf accepted
 grammar-met =
     record {
-      eid-16 = refl;
-      eid-octets = bytes-same 16 0xE1 (omega arith);
-      aid-octets = bytes-same 5 0xA0 (omega arith);
-      capacity-four = omega arith;
-      quota-four = omega arith;
-      used-four = omega arith;
-      volatile-four = omega arith;
-      taken = refl;
-      events = (record { known = refl; right = refl; short = omega arith; octets = bytes-same 0 0 (omega arith) }, tt);
+      inputs = record {
+        eid-16 = refl;
+        eid-octets = bytes-same 16 0xE1 (omega arith);
+        aid-octets = bytes-same 5 0xA0 (omega arith);
+        capacity-four = omega arith;
+        quota-four = omega arith;
+        used-four = omega arith;
+        volatile-four = omega arith;
+        taken = refl;
+      };
+      events = (logged-writable manager.Call.Tick (event 5 []) (record { row = tick; short = omega arith; octets = bytes-same 0 0 (omega arith) }), tt);
     }

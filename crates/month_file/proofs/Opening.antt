@@ -1,5 +1,5 @@
 -- How a file is opened: a row of the table that holds after rows that do not gives the file's answer, and an accepted file passed every row.
--- By the rows in their order; the last three are what the walk over the events tells (`last-rows`).
+-- By the rows in their order; the last three are what the walk over the events tells (`one-order`).
 use Prim.Native.Nat.{ℕ, _≤_, _<_}
 use mathlib.Core.Path.{_≡_, refl, sym, ap, _∙_}
 use mathlib.Core.List.{List, [], _∷_}
@@ -17,16 +17,10 @@ use Rattle.month_events.specs.declared.Checked.{Checked}
 use Rattle.month_events.specs.declared.Checked.the-variants as checked
 use Rattle.month_file.specs.Inputs.{freshAnswer, freshBad}
 use Rattle.month_file.specs.File.{refusalRow, refusalRows, firstOf, verdictOf, refusedFile, openedBy, openedOf}
+use Rattle.month_file.specs.Refusals.{verdictFor, OneOrder}
 use Rattle.month_file.specs.declared.Refusal.the-variants.{ContentsWrong, SectionMissing, FreshBad, CutShort, UnknownKind, WrongLength}
 use Rattle.month_file.specs.declared.Verdict.{Verdict}
 use Rattle.month_file.specs.declared.Verdict.the-variants.{Accepted, Refused}
-
--- the verdict on the events, from what the walk over them tells
-abbrev pub verdictFor : Checked → Verdict
-verdictFor checked.CutShort = Refused CutShort
-verdictFor checked.UnknownKind = Refused UnknownKind
-verdictFor checked.WrongLength = Refused WrongLength
-verdictFor checked.Right = Accepted
 
 last-rows : (cut unknown wrong : Bool) → firstOf (refusalRow cut CutShort ∷ refusalRow unknown UnknownKind ∷ refusalRow wrong WrongLength ∷ [])
     ≡ verdictFor (pick cut checked.CutShort (pick unknown checked.UnknownKind (pick wrong checked.WrongLength checked.Right)))
@@ -35,6 +29,10 @@ last-rows true unknown wrong = refl
 last-rows false true wrong = refl
 last-rows false false true = refl
 last-rows false false false = refl
+
+pub one-order : OneOrder
+unfolding checkedOf
+one-order b = last-rows (cutShort b) (kindUnknown b) (wrongLength b)
 
 -- a file whose verdict is known
 pub opened-as : (s : List ℕ) (v : Verdict) → v ≡ verdictOf s → openedBy v s ≡ openedOf s
@@ -62,10 +60,8 @@ module _ (s : List ℕ) where
         bad-stop e = opened-as s (Refused FreshBad) (rw (passed, listed, also, e))
 
         pub checked-stop : freshBad (partOf s inputs) ≡ false → (k : Checked) → checkedOf (partOf s events) ≡ k → verdictFor k ≡ verdictOf s
-        unfolding checkedOf firstOf
-        checked-stop e k q =
-            let b = partOf s events in
-            ap verdictFor (sym q) ∙ sym (last-rows (cutShort b) (kindUnknown b) (wrongLength b)) ∙ rw (passed, listed, also, e)
+        unfolding firstOf
+        checked-stop e k q = ap verdictFor (sym q) ∙ sym (one-order (partOf s events)) ∙ rw (passed, listed, also, e)
 
         pub accept : freshBad (partOf s inputs) ≡ false → checkedOf (partOf s events) ≡ checked.Right
             → record { verdict = Accepted; card = freshAnswer (partOf s inputs) .card; events = events } ≡ openedOf s

@@ -43,16 +43,21 @@ pub record RefusalRow : Type 0 where
 abbrev pub refusalRow : Bool → Refusal → RefusalRow
 refusalRow condition refusal = record { when = condition; refusal = refusal }
 
+-- the rows on the body of the events: what one walk over it answers (`OneOrder` in Refusals)
+abbrev pub eventRows : List ℕ → List RefusalRow
+eventRows b =
+    refusalRow (cutShort b) CutShort
+    ∷ refusalRow (kindUnknown b) UnknownKind
+    ∷ refusalRow (wrongLength b) WrongLength
+    ∷ []
+
 -- each row is asked of the whole file before the next (decision B44)
 abbrev pub refusalRows : List ℕ → List RefusalRow
 refusalRows s =
     refusalRow (contentsWrong s) ContentsWrong
     ∷ refusalRow (isMissing (sectionOf s freshKind) || isMissing (sectionOf s eventsKind)) SectionMissing
     ∷ refusalRow (freshBad (bodyOf s freshKind)) FreshBad
-    ∷ refusalRow (cutShort (bodyOf s eventsKind)) CutShort
-    ∷ refusalRow (kindUnknown (bodyOf s eventsKind)) UnknownKind
-    ∷ refusalRow (wrongLength (bodyOf s eventsKind)) WrongLength
-    ∷ []
+    ∷ eventRows (bodyOf s eventsKind)
 
 unfoldable pub firstOf : List RefusalRow → Verdict
 firstOf [] = Accepted

@@ -32,8 +32,8 @@ fileOf false false f b = twoSections (entry 2 28 (length b)) (entry 1 (28 + leng
 abbrev pub written : Bool → Bool → Inputs → List Event → List ℕ
 written listedFirst laidFirst x es = fileOf listedFirst laidFirst (encodeInputs x) (encodeEvents es)
 
--- inputs and events that can be written, and of which a card is made
-pub record CanBeWritten (x : Inputs) (es : List Event) : Type 0 where
+-- inputs that can be written, and of which a card is made
+pub record InputsWritable (x : Inputs) : Type 0 where
   pub eid-16 : length (x .eid) ≡ 16
   pub eid-octets : Bytes (x .eid)
   pub aid-octets : Bytes (x .aid)
@@ -42,6 +42,9 @@ pub record CanBeWritten (x : Inputs) (es : List Event) : Type 0 where
   pub used-four : x .used < 4294967296
   pub volatile-four : x .volatile < 4294967296
   pub taken : isDone (freshOf x .status) ≡ true
+
+pub record CanBeWritten (x : Inputs) (es : List Event) : Type 0 where
+  pub inputs : InputsWritable x
   pub events : AllWritable es
 
 -- the file is accepted, and says these inputs and these events

@@ -9,8 +9,10 @@ use Rattle.base_bytes.specs.Bytes.{fourBytes, partOf}
 use Rattle.card_record.specs.Fresh.{zeroCard}
 use Rattle.card_record.specs.declared.Card.{Card}
 use Rattle.month_contents.specs.Written.{entry}
-use Rattle.month_events.specs.Events.{Event, eventsOf}
-use Rattle.month_file.specs.File.{RefusalRow, refusalRows, verdictOf, openedOf}
+use Rattle.month_events.specs.Events.{Event, eventsOf, checkedOf}
+use Rattle.month_events.specs.declared.Checked.{Checked}
+use Rattle.month_events.specs.declared.Checked.the-variants as checked
+use Rattle.month_file.specs.File.{RefusalRow, eventRows, refusalRows, firstOf, verdictOf, openedOf}
 use Rattle.month_file.specs.Grammar.{encodeInputs, fileOf, sample}
 use Rattle.month_file.specs.declared.Refusal.{Refusal}
 use Rattle.month_file.specs.declared.Refusal.the-variants.{ContentsWrong, SectionMissing, FreshBad, CutShort, UnknownKind, WrongLength}
@@ -48,6 +50,17 @@ pub record Refusing : Type 0 where
   pub told : (s : List ℕ) → openedOf s .verdict ≡ verdictOf s
   pub no-card : (s : List ℕ) (r : Refusal) → verdictOf s ≡ Refused r → cardRun s ≡ zeroCard
   pub none-run : (s : List ℕ) (r : Refusal) → verdictOf s ≡ Refused r → eventsRun s ≡ []
+
+-- the verdict on the events, from what the walk over them tells
+abbrev pub verdictFor : Checked → Verdict
+verdictFor checked.CutShort = Refused CutShort
+verdictFor checked.UnknownKind = Refused UnknownKind
+verdictFor checked.WrongLength = Refused WrongLength
+verdictFor checked.Right = Accepted
+
+-- one order: the walk asks in the order of the table's rows
+abbrev pub OneOrder : Type 0
+OneOrder = (b : List ℕ) → firstOf (eventRows b) ≡ verdictFor (checkedOf b)
 
 abbrev pub inputBytes : ℕ → ℕ → ℕ → List ℕ
 inputBytes quota used n = encodeInputs (sample quota used n)

@@ -3,3 +3,4 @@ pub mod Reports
 pub mod RollBack
 pub mod WrongReports
 pub mod Written
+pub mod Logged

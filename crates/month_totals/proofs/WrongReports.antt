@@ -36,10 +36,10 @@ use Rattle.month_count.specs.Statements.{monthFrom, linesIn}
 use Rattle.month_file.specs.File.{fileCalls}
 use Rattle.month_totals.specs.Reports.{Report, onFile, MeetsLines}
 use Rattle.month_totals.specs.Examples.{told, start, SmallMonths}
-use Rattle.month_totals.specs.RollBack.{file}
+use Rattle.month_totals.specs.RollBack.{file, calls}
 use Rattle.month_totals.specs.WrongReports.{countingNamed, namedReport, countingAfter, afterReport, Beside, WrongReports}
 use Rattle.month_totals.proofs.Reports.{month-meets, one-report}
-use Rattle.month_totals.proofs.RollBack.{calls, read}
+use Rattle.month_totals.proofs.RollBack.{read}
 
 record Computed : Type 0 where
   enabled : monthFrom start calls ≡ told 5 10 15 20

@@ -1,7 +1,14 @@
 -- A file of an enable that rolls back, byte for byte: F = A0 00 00 00 01 is enabled from the fresh call on, 02 is created and enabled, nobody
 -- confirms it, ten ticks pass and F is back, and five more pass.
 use Prim.Native.Nat.{ℕ}
+use mathlib.Core.Path.{_≡_}
 use mathlib.Core.List.{List, [], _∷_, _++_}
+use Rattle.rule_run.specs.Calls.{Call}
+use Rattle.rule_run.specs.Samples.{load, enable, ticks}
+use Rattle.month_file.specs.File.{verdictOf, fileCalls}
+use Rattle.month_file.specs.declared.Verdict.the-variants.{Accepted}
+use Rattle.month_count.specs.Month.{fileCard}
+use Rattle.month_totals.specs.Examples.{start}
 
 -- two sections: the fresh card's inputs from byte 28 on, the events from byte 65 on
 abbrev pub contents : List ℕ
@@ -41,3 +48,12 @@ fiveTicks = 0x05 ∷ 0x00 ∷ 0x00 ∷ 0x05 ∷ 0x00 ∷ 0x00 ∷ 0x05 ∷ 0x00 
 -- the file
 abbrev pub file : List ℕ
 file = contents ++ inputsSection ++ createdEvents ++ keyed ++ stored ++ finished ++ enabledEvents ++ fiveTicks ++ fiveTicks ++ fiveTicks
+
+-- it is read so, by computing; of every file that a logger writes: FromLoggerToPage, in Logged
+abbrev pub calls : List Call
+calls = load 2 0 ++ enable 2 ∷ ticks 15
+
+pub record Read : Type 0 where
+  pub accepted : verdictOf file ≡ Accepted
+  pub card : fileCard file ≡ start
+  pub calls : fileCalls file ≡ calls

@@ -30,12 +30,17 @@ use Rattle.card_record.proofs.Free.{free-kept}
 use Rattle.proof_demands.proofs.Listing.{parts-join, same-field-joins, listing-ends}
 use Rattle.read_frame.proofs.Classes.{class-byte}
 use Rattle.month_contents.proofs.Laid.{end-to-end, nothing-else-wrong}
+use Rattle.month_events.proofs.Numbers.{kinds-in-numbers}
+use Rattle.month_events.proofs.Logged.{calls-back, calls-written, calls-met, one-table}
 use Rattle.month_file.proofs.Grammar.{read-back, written-back, grammar-met}
 use Rattle.month_file.proofs.Refusals.{refusal-table}
+use Rattle.month_file.proofs.Opening.{one-order}
 use Rattle.month_count.proofs.Sums.{ticks-add-up}
 use Rattle.month_count.proofs.Events.{events-reported}
 use Rattle.month_count.proofs.Figures.{what-a-line-says}
+use Rattle.month_count.proofs.Files.{ticks-in-file}
 use Rattle.month_totals.proofs.Written.{what-is-written}
+use Rattle.month_totals.proofs.Logged.{from-logger-to-page, from-page-to-logger, logged-met}
 use Rattle.month_totals.proofs.WrongReports.{wrong-reports}
 use Rattle.proof_demands.proofs.Examples.{marked-examples}
 use Rattle.proof_demands.proofs.Engines.{manager-meets}
@@ -93,13 +98,21 @@ delivered =
       class-byte = class-byte;
       end-to-end = end-to-end;
       nothing-else-wrong = nothing-else-wrong;
+      kinds-in-numbers = kinds-in-numbers;
+      calls-back = calls-back;
+      calls-written = calls-written;
+      one-table = one-table;
       read-back = read-back;
       written-back = written-back;
       refusal-table = refusal-table;
+      one-order = one-order;
       ticks-add-up = ticks-add-up;
+      ticks-in-file = ticks-in-file;
       events-reported = events-reported;
       what-a-line-says = what-a-line-says;
       what-is-written = what-is-written;
+      from-logger-to-page = from-logger-to-page;
+      from-page-to-logger = from-page-to-logger;
       wrong-reports = wrong-reports;
       marked-examples = marked-examples;
       manager-meets = manager-meets;
@@ -122,5 +135,7 @@ hypotheses-met =
       room-met = room-met;
       listing-met = listing-met;
       promise-met = promise-met;
+      calls-met = calls-met;
       grammar-met = grammar-met;
+      logged-met = logged-met;
     }

@@ -36,10 +36,13 @@ use Rattle.proof_demands.specs.WrongEngines.{Caught}
 use Rattle.proof_demands.specs.SilentEngines.{SilenceCaught}
 use Rattle.proof_demands.specs.Witnesses.{Witnesses}
 use Rattle.month_contents.specs.Statements.{EndToEnd, NothingElseWrong}
+use Rattle.month_events.specs.Numbers.{KindsInNumbers}
+use Rattle.month_events.specs.Logged.{CallsBack, CallsWritten, CallsMet, OneTable}
 use Rattle.month_file.specs.Grammar.{ReadBack, WrittenBack, GrammarMet}
-use Rattle.month_file.specs.Refusals.{RefusalTable}
-use Rattle.month_count.specs.Statements.{TicksAddUp, EventsReported, WhatALineSays}
+use Rattle.month_file.specs.Refusals.{RefusalTable, OneOrder}
+use Rattle.month_count.specs.Statements.{TicksAddUp, TicksInFile, EventsReported, WhatALineSays}
 use Rattle.month_totals.specs.Written.{WhatIsWritten}
+use Rattle.month_totals.specs.Logged.{FromLoggerToPage, FromPageToLogger, LoggedMet}
 use Rattle.month_totals.specs.WrongReports.{WrongReports}
 
 pub record Delivered : Type 0 where
@@ -96,13 +99,22 @@ pub record Delivered : Type 0 where
   -- the report, request 2026-01
   pub end-to-end : EndToEnd
   pub nothing-else-wrong : NothingElseWrong
+  -- what an event's bytes mean: the kinds and lengths in numbers, and the call that each event is
+  pub kinds-in-numbers : KindsInNumbers
+  pub calls-back : CallsBack
+  pub calls-written : CallsWritten
+  pub one-table : OneTable
   pub read-back : ReadBack
   pub written-back : WrittenBack
   pub refusal-table : RefusalTable
+  pub one-order : OneOrder
   pub ticks-add-up : TicksAddUp
+  pub ticks-in-file : TicksInFile
   pub events-reported : EventsReported
   pub what-a-line-says : WhatALineSays
   pub what-is-written : WhatIsWritten
+  pub from-logger-to-page : FromLoggerToPage
+  pub from-page-to-logger : FromPageToLogger
   pub wrong-reports : WrongReports
   -- the twelve marked examples, and the engines that have to be caught
   pub marked-examples : MarkedExamples
@@ -124,4 +136,6 @@ pub record HypothesesMet : Type 0 where
   pub room-met : RoomMet
   pub listing-met : ListingMet
   pub promise-met : PromiseMet
+  pub calls-met : CallsMet
   pub grammar-met : GrammarMet
+  pub logged-met : LoggedMet

@@ -18,7 +18,8 @@ use Rattle.month_file.specs.Inputs.{freshAnswer, freshBad}
 use Rattle.month_file.specs.File.{refusedFile, openedBy, openedOf}
 use Rattle.month_file.specs.declared.Refusal.the-variants.{FreshBad}
 use Rattle.month_file.specs.declared.Verdict.the-variants.{Accepted}
-use Rattle.month_file.proofs.Opening.{verdictFor, contents-stop, fresh-missing, events-missing, bad-stop, checked-stop, accept}
+use Rattle.month_file.specs.Refusals.{verdictFor}
+use Rattle.month_file.proofs.Opening.{contents-stop, fresh-missing, events-missing, bad-stop, checked-stop, accept}
 use Rattle.month_file.proofs.Opening.{bad-short, bad-refused, not-bad, opened-as}
 use borrow.Author.Needs.{needs}
 use Rattle.month_file.proofs.open.Statement.{statement}
