@@ -2,3 +2,4 @@
 pub mod Refusals
 pub mod Account
 pub mod Statements
+pub mod ByName

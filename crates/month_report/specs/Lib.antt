@@ -1,3 +1,4 @@
--- docs/EVENTS.md: the text of a report, plain and for a person.
+-- docs/EVENTS.md: the text of a report, plain and for a person, and what is read off it.
 pub mod Report
 pub mod Statements
+pub mod ReadOff

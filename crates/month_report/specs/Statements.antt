@@ -33,19 +33,19 @@ sampleMinutes first second rest = first ∷ second ∷ (replicate 62 0 ++ rest �
 
 pub record Shown : Type 0 where
   pub plain :
-      reportText false (tallyOf true 25) (sampleMinutes 10 10 5)
+      reportText false (tallyOf true 27) (sampleMinutes 10 12 5)
       ≡ text "A000000001 10\n"
-      ++ text "A000000002 10\n"
+      ++ text "A000000002 12\n"
       ++ text "rest 5\n"
-      ++ text "ticks 25\n"
+      ++ text "ticks 27\n"
       ++ text "events 41\n"
   pub explained :
-      reportText true (tallyOf true 25) (sampleMinutes 10 10 5)
+      reportText true (tallyOf true 27) (sampleMinutes 10 12 5)
       ≡ text "AID                               minutes   share\n"
-      ++ text "A000000001                             10   40.0%\n"
-      ++ text "A000000002                             10   40.0%\n"
-      ++ text "rest                                    5   20.0%\n"
-      ++ text "ticks                                  25\n"
+      ++ text "A000000001                             10   37.0%\n"
+      ++ text "A000000002                             12   44.4%\n"
+      ++ text "rest                                    5   18.5%\n"
+      ++ text "ticks                                  27\n"
       ++ text "events                                 41\n"
       ++ text "refused                                 3\n"
   -- one with no tick has a line with 0; where the file has no ticks the share is `-`; there is no rest

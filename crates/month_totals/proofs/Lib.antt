@@ -4,3 +4,4 @@ pub mod RollBack
 pub mod WrongReports
 pub mod Written
 pub mod Logged
+pub mod Printed

@@ -39,8 +39,11 @@ use Rattle.month_count.proofs.Sums.{ticks-add-up}
 use Rattle.month_count.proofs.Events.{events-reported}
 use Rattle.month_count.proofs.Figures.{what-a-line-says}
 use Rattle.month_count.proofs.Files.{ticks-in-file}
+use Rattle.month_report.proofs.ReadOff.{reports-read}
+use Rattle.month_account.proofs.ByName.{refused-by-name}
 use Rattle.month_totals.proofs.Written.{what-is-written}
 use Rattle.month_totals.proofs.Logged.{from-logger-to-page, from-page-to-logger, logged-met}
+use Rattle.month_totals.proofs.Printed.{printed-adds-up}
 use Rattle.month_totals.proofs.WrongReports.{wrong-reports}
 use Rattle.proof_demands.proofs.Examples.{marked-examples}
 use Rattle.proof_demands.proofs.Engines.{manager-meets}
@@ -113,6 +116,9 @@ delivered =
       what-is-written = what-is-written;
       from-logger-to-page = from-logger-to-page;
       from-page-to-logger = from-page-to-logger;
+      reports-read = reports-read;
+      printed-adds-up = printed-adds-up;
+      refused-by-name = refused-by-name;
       wrong-reports = wrong-reports;
       marked-examples = marked-examples;
       manager-meets = manager-meets;

@@ -41,8 +41,11 @@ use Rattle.month_events.specs.Logged.{CallsBack, CallsWritten, CallsMet, OneTab
 use Rattle.month_file.specs.Grammar.{ReadBack, WrittenBack, GrammarMet}
 use Rattle.month_file.specs.Refusals.{RefusalTable, OneOrder}
 use Rattle.month_count.specs.Statements.{TicksAddUp, TicksInFile, EventsReported, WhatALineSays}
+use Rattle.month_report.specs.ReadOff.{ReportsRead}
+use Rattle.month_account.specs.ByName.{RefusedByName}
 use Rattle.month_totals.specs.Written.{WhatIsWritten}
 use Rattle.month_totals.specs.Logged.{FromLoggerToPage, FromPageToLogger, LoggedMet}
+use Rattle.month_totals.specs.Printed.{PrintedAddsUp}
 use Rattle.month_totals.specs.WrongReports.{WrongReports}
 
 pub record Delivered : Type 0 where
@@ -115,6 +118,10 @@ pub record Delivered : Type 0 where
   pub what-is-written : WhatIsWritten
   pub from-logger-to-page : FromLoggerToPage
   pub from-page-to-logger : FromPageToLogger
+  -- what is read off the printed text, and what each refusal is called
+  pub reports-read : ReportsRead
+  pub printed-adds-up : PrintedAddsUp
+  pub refused-by-name : RefusedByName
   pub wrong-reports : WrongReports
   -- the twelve marked examples, and the engines that have to be caught
   pub marked-examples : MarkedExamples
