@@ -1,5 +1,5 @@
 // Document 01, 'Steps': the card after a tick, after a lost network, and with a change opened.
-// Each answers for every record; whatever enables another place issues the next number and opens a phase (`moved`).
+// Each answers for every record; whatever enables another place issues the next number and opens a phase (`switched`).
 use crate::Card;
 use crate::Phase;
 use card_isdp::Isdp;

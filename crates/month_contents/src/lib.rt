@@ -61,7 +61,7 @@ fn start_at(s: &[u8], i: u32) -> usize
     start as usize
 }
 
-fn length_at(s: &[u8], i: u32) -> usize
+fn body_length(s: &[u8], i: u32) -> usize
     ensures { λ r. ⌜ r ≡ bodyLength (now (s .entry)) i ⌝ }
 {
     let at = entry_at(i) + 8;
@@ -192,7 +192,7 @@ fn not_filled(s: &[u8]) -> bool
     let mut left = s.len() - end;
     let mut i = 0;
     while i < count {
-        let length = length_at(s, i);
+        let length = body_length(s, i);
         if left < length {
             return true;
         }
@@ -233,7 +233,7 @@ pub fn section_of(s: &[u8], kind: u32) -> Section
     while i < count {
         if kind_at(s, i) == kind {
             let start = start_at(s, i);
-            let len = length_at(s, i);
+            let len = body_length(s, i);
             return Section::Body(Part { start, len });
         }
         i += 1;

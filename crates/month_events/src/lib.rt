@@ -76,7 +76,7 @@ impl Kind {
     }
 
     // Are these too few or too many bytes for an event of this kind?
-    fn is_wrong(self, bytes: &[u8]) -> bool
+    fn length_wrong(self, bytes: &[u8]) -> bool
         ensures { λ r. ⌜ r ≡ eventLengthWrong self (now (bytes .entry)) ⌝ }
     {
         let length = bytes.len();
@@ -125,7 +125,7 @@ fn stop_of(b: &[u8], at: usize) -> usize
 }
 
 // The call of an event whose bytes stand from `from` up to `to`.
-fn call_in(b: &[u8], kind: Kind, from: usize, to: usize) -> Call
+fn call_over(b: &[u8], kind: Kind, from: usize, to: usize) -> Call
     requires { ⌜ from ≤ length (now b) ⌝ }
     ensures { λ r. ⌜ r ≡ callOver (now (b .entry)) kind from to ⌝ }
 {
@@ -177,7 +177,7 @@ pub fn check_events(b: &[u8]) -> Checked
         let kind = Kind::of(b[at]);
         unknown = unknown | kind.is_unknown();
         let from = at + HEAD;
-        wrong = wrong | kind.is_wrong(&b[from..stop]);
+        wrong = wrong | kind.length_wrong(&b[from..stop]);
         at = stop;
     }
     if unknown {
@@ -202,7 +202,7 @@ pub fn next_event(b: &[u8], at: usize) -> Next
     }
     let kind = Kind::of(b[at]);
     Next::Event {
-        call: call_in(b, kind, at + HEAD, stop),
+        call: call_over(b, kind, at + HEAD, stop),
         stop,
     }
 }

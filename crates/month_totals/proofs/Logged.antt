@@ -18,7 +18,7 @@ use Rattle.month_file.specs.declared.Verdict.the-variants.{Accepted}
 use Rattle.month_file.proofs.Grammar.{read-back, written-back, grammar-met}
 use Rattle.month_count.specs.Month.{fileCard}
 use Rattle.month_totals.specs.Written.{reportSaid}
-use Rattle.month_totals.specs.Logged.{Tells, FromLoggerToPage, FromPageToLogger, LoggedMet}
+use Rattle.month_totals.specs.Logged.{ReportedAs, FromLoggerToPage, FromPageToLogger, LoggedMet}
 use Rattle.month_totals.proofs.Written.{what-is-written}
 
 -- the card of a file is the one that the fresh call makes of its inputs
@@ -26,7 +26,7 @@ card-of : (s : List ℕ) (x : Inputs) → inputsOf (bodyOf s freshKind) ≡ x �
 unfolding freshAnswer
 card-of s x e = ap (λ (y : Inputs). freshOf y .card) e
 
-tells : (s : List ℕ) (x : Inputs) (calls : List Call) → verdictOf s ≡ Accepted → inputsOf (bodyOf s freshKind) ≡ x → fileCalls s ≡ calls → Tells s x calls
+tells : (s : List ℕ) (x : Inputs) (calls : List Call) → verdictOf s ≡ Accepted → inputsOf (bodyOf s freshKind) ≡ x → fileCalls s ≡ calls → ReportedAs s x calls
 tells s x calls a e f =
     let card = card-of s x e in
     record {

@@ -20,7 +20,7 @@ use Rattle.month_account.specs.Account.{accountText}
 use Rattle.month_totals.specs.Written.{reportSaid}
 
 -- what a file tells: from which card on, which calls, and in which words
-pub record Tells (s : List ℕ) (x : Inputs) (calls : List Call) : Type 0 where
+pub record ReportedAs (s : List ℕ) (x : Inputs) (calls : List Call) : Type 0 where
   pub accepted : verdictOf s ≡ Accepted
   pub begins-on : fileCard s ≡ freshOf x .card
   pub runs : fileCalls s ≡ calls
@@ -32,13 +32,13 @@ FromLoggerToPage =
     → InputsWritable x
     → AllLogged calls es
     → length (written listedFirst laidFirst x es) ≤ 65536
-    → Tells (written listedFirst laidFirst x es) x calls
+    → ReportedAs (written listedFirst laidFirst x es) x calls
 
 -- the other way: the bytes of an accepted file are those that a logger writes of the inputs and the calls that are read in it
 pub record WasLogged (s : List ℕ) : Type 0 where
   pub bytes : WrittenFrom s (inputsOf (bodyOf s freshKind)) (fileEvents s)
   pub events : AllLogged (fileCalls s) (fileEvents s)
-  pub tells : Tells s (inputsOf (bodyOf s freshKind)) (fileCalls s)
+  pub tells : ReportedAs s (inputsOf (bodyOf s freshKind)) (fileCalls s)
 
 abbrev pub FromPageToLogger : Type 0
 FromPageToLogger = (s : List ℕ) → Bytes s → verdictOf s ≡ Accepted → WasLogged s

@@ -177,7 +177,7 @@ pub enum Tags {
     Wrong,
 }
 
-fn note(tag: u16, life: bool, fall_back: bool) -> Tags
+fn tag_noted(tag: u16, life: bool, fall_back: bool) -> Tags
     ensures { λ r. ⌜ r ≡ tagNoted tag life «fall_back» ⌝ }
 {
     if tag == 0x4F {
@@ -216,7 +216,7 @@ fn read_listed(s: &[u8], at: usize, end: usize) -> Tags
         let Tags::Shown {
             life: l,
             fall_back: f,
-        } = note(tag, life, fall_back)
+        } = tag_noted(tag, life, fall_back)
         else {
             return Tags::Wrong;
         };

@@ -91,7 +91,7 @@ fn verb_of(w: &[u8]) -> Verb
 }
 
 // The order, where the line has the words that it should have.
-fn counted(least: usize, most: usize, n: usize, order: Order) -> Order
+fn words_counted(least: usize, most: usize, n: usize, order: Order) -> Order
     ensures { λ r. ⌜ r ≡ wordsCounted least most n order ⌝ }
 {
     if n < least {
@@ -270,15 +270,15 @@ fn order_by(verb: Verb, n: usize, s: &[u8], at: usize) -> Order
     ensures { λ r. ⌜ r ≡ orderBy verb n (now (s .entry)) at ⌝ }
 {
     match verb {
-        Verb::Fresh => counted(7, 7, n, fresh_order(s, at)),
-        Verb::Command => counted(3, 4, n, command_order(s, at)),
-        Verb::Keyed => counted(2, 2, n, keyed_order(s, at)),
-        Verb::Stored => counted(3, 3, n, stored_order(s, at)),
-        Verb::Finished => counted(3, 4, n, finished_order(s, at)),
-        Verb::Tick => counted(1, 1, n, inner(Call::Tick)),
-        Verb::Lost => counted(1, 1, n, inner(Call::Lost)),
-        Verb::Policy => counted(3, 4, n, policy_order(s, at)),
-        Verb::Card => counted(RECORD, RECORD, n, Order::Record(at)),
+        Verb::Fresh => words_counted(7, 7, n, fresh_order(s, at)),
+        Verb::Command => words_counted(3, 4, n, command_order(s, at)),
+        Verb::Keyed => words_counted(2, 2, n, keyed_order(s, at)),
+        Verb::Stored => words_counted(3, 3, n, stored_order(s, at)),
+        Verb::Finished => words_counted(3, 4, n, finished_order(s, at)),
+        Verb::Tick => words_counted(1, 1, n, inner(Call::Tick)),
+        Verb::Lost => words_counted(1, 1, n, inner(Call::Lost)),
+        Verb::Policy => words_counted(3, 4, n, policy_order(s, at)),
+        Verb::Card => words_counted(RECORD, RECORD, n, Order::Record(at)),
         Verb::Unknown => Order::Wrong(Reason::UnknownWord),
     }
 }

@@ -146,7 +146,7 @@ pub struct Placed {
     pub place: Isdp,
 }
 
-fn no_place() -> Placed
+fn wrong_place() -> Placed
     ensures { λ r. ⌜ r ≡ wrongPlace ⌝ }
 {
     let place = Isdp::none();
@@ -158,10 +158,10 @@ fn place_with(w: &[u8], at: usize, aid: Aid) -> Placed
     ensures { λ r. ⌜ r ≡ placeWith (now (w .entry)) at aid ⌝ }
 {
     let Word::Span { from, to } = next_field(w, at, b':') else {
-        return no_place();
+        return wrong_place();
     };
     let Byte::Value(life) = hex_byte(&w[from..to]) else {
-        return no_place();
+        return wrong_place();
     };
     let Sizes::Are {
         quota,
@@ -170,7 +170,7 @@ fn place_with(w: &[u8], at: usize, aid: Aid) -> Placed
         mark,
     } = sizes_at(w, to + 1)
     else {
-        return no_place();
+        return wrong_place();
     };
     let place = Isdp {
         quota,
@@ -191,7 +191,7 @@ pub fn read_place(w: &[u8]) -> Placed
         return Placed { ok: true, place };
     }
     let Word::Span { from, to } = next_field(w, 0, b':') else {
-        return no_place();
+        return wrong_place();
     };
     let mut bytes = [0u8; 16];
     match read_hex(&w[from..to], &mut bytes) {
@@ -199,7 +199,7 @@ pub fn read_place(w: &[u8]) -> Placed
             let len = n as u8;
             place_with(w, to + 1, Aid { bytes, len })
         }
-        HexRead::NoRoom => no_place(),
-        HexRead::Wrong => no_place(),
+        HexRead::NoRoom => wrong_place(),
+        HexRead::Wrong => wrong_place(),
     }
 }

@@ -96,7 +96,7 @@ pub enum Memory {
     Wrong(Reason),
 }
 
-fn memory_at(s: &[u8], at: usize) -> Memory
+fn record_memory_at(s: &[u8], at: usize) -> Memory
     ensures { λ r. ⌜ r ≡ recordMemoryAt (now (s .entry)) at ⌝ }
 {
     match next_value(s, at, MOST_NUMBER) {
@@ -137,10 +137,10 @@ pub enum Head {
     Wrong(Reason),
 }
 
-fn head_at(s: &[u8], at: usize) -> Head
+fn record_head_at(s: &[u8], at: usize) -> Head
     ensures { λ r. ⌜ r ≡ recordHeadAt (now (s .entry)) at ⌝ }
 {
-    match memory_at(s, at) {
+    match record_memory_at(s, at) {
         Memory::Wrong(why) => Head::Wrong(why),
         Memory::Is {
             capacity,
@@ -269,7 +269,7 @@ fn fine(
 fn record_with(s: &[u8], at: usize, eid: [u8; 16]) -> Record
     ensures { λ r. ⌜ r ≡ recordWith (now (s .entry)) at eid ⌝ }
 {
-    match head_at(s, at) {
+    match record_head_at(s, at) {
         Head::Wrong(why) => no_record(why),
         Head::Is {
             capacity,

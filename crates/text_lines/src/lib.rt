@@ -50,7 +50,7 @@ fn least(a: usize, b: usize) -> usize
     if a < b { a } else { b }
 }
 
-fn found_at(from: usize, to: usize) -> Found
+fn found_line(from: usize, to: usize) -> Found
     requires { ⌜ from ≤ to ⌝ }
     ensures { λ r. ⌜ r ≡ foundLine from to ⌝ }
 {
@@ -96,7 +96,7 @@ fn unended(s: &[u8], from: usize, last: bool) -> Step
                 end,
                 skipping: false,
             },
-            found: found_at(from, end),
+            found: found_line(from, end),
         };
     }
     if LONGEST < end - from {
@@ -132,7 +132,7 @@ fn line_from(s: &[u8], from: usize, last: bool) -> Step
                 end,
                 skipping: false,
             },
-            found: found_at(from, to),
+            found: found_line(from, to),
         };
     }
     unended(s, from, last)

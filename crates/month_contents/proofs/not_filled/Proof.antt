@@ -32,7 +32,7 @@ sub-left c = search needs
 loop-holds : tie.Need-loop-holds Inv-loop μ-loop
 loop-holds c = let z = sum-none (bodyLength (c .before .before .before .before .args .s .now)) in (omega arith, omega arith)
 
-length-at-requires : tie.Need-length-at-requires Inv-loop μ-loop
+length-at-requires : tie.Need-body-length-requires Inv-loop μ-loop
 length-at-requires c κs = search needs
 
 returns-2 : tie.Need-returns-2 Inv-loop μ-loop

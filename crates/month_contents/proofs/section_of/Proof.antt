@@ -30,14 +30,14 @@ kind-at-requires c κs = search needs
 start-at-requires : tie.Need-start-at-requires Inv-loop μ-loop
 start-at-requires c κs = search needs
 
-length-at-requires : tie.Need-length-at-requires Inv-loop μ-loop
+length-at-requires : tie.Need-body-length-requires Inv-loop μ-loop
 length-at-requires c κs = search needs
 
 returns : tie.Need-returns Inv-loop μ-loop
 returns c = let t = c .before .before in
     let o = t .before .before .before .loop in
     let s = t .before .before .before .before .before .before in
-    rw (c .before .start-at .ensures, c .length-at .ensures)
+    rw (c .before .start-at .ensures, c .body-length .ensures)
     (section-hit (s .args .s .now) (s .args .kind) (o .i) (o .inv .1) (eq-eqb _ _ (sym (t .before .kind-at .ensures) ∙ t .if1 .taken)) (omega arith))
 
 add-i : tie.Need-add-i Inv-loop μ-loop

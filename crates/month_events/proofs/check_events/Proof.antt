@@ -49,7 +49,7 @@ part-is-wrong-start c = search needs
 part-is-wrong-end : tie.Need-part-is-wrong-end Inv-loop μ-loop
 part-is-wrong-end c = search needs
 
-is-wrong-requires : tie.Need-is-wrong-requires Inv-loop μ-loop
+is-wrong-requires : tie.Need-length-wrong-requires Inv-loop μ-loop
 is-wrong-requires c κs = search needs
 
 loop-less : tie.Need-loop-less Inv-loop μ-loop
@@ -62,7 +62,7 @@ loop-again c =
     let l = stopped .before .before .loop in
     let s = stopped .before .before .before .before .args .b .now in
     let e = stopped .stop-of .ensures in
-    (omega arith, rw (c .is-wrong .ensures, unknown .is-unknown .ensures, unknown .before .of .ensures, e) (sym (checked-on s (l .at) (l .unknown) (l .wrong) (omega arith) (omega arith)) ∙ l .inv .1))
+    (omega arith, rw (c .length-wrong .ensures, unknown .is-unknown .ensures, unknown .before .of .ensures, e) (sym (checked-on s (l .at) (l .unknown) (l .wrong) (omega arith) (omega arith)) ∙ l .inv .1))
 
 returns-2 : tie.Need-returns-2 Inv-loop μ-loop
 returns-2 c =

@@ -15,7 +15,7 @@ returns-2 c = sym (next-ends _ _ (omega arith))
 returns-3 : tie.Need-returns-3
 returns-3 c =
     let e = c .before .before .before .before .stop-of .ensures in
-    rw (c .call-in .ensures, c .before .of .ensures, e) (sym (next-is _ _ (omega arith)))
+    rw (c .call-over .ensures, c .before .of .ensures, e) (sym (next-is _ _ (omega arith)))
 
 pub next-event-spec : {M : Type 1} → statement M
 next-event-spec =

@@ -31,7 +31,7 @@ enum-told c = search needs
 returns : tie.Need-returns Inv-loop μ-loop
 returns c = left-no-tag _ _ _ _ _ _ (omega arith) (sym (c .enum-told .given .1) ∙ c .before .before .read-tag .ensures) (c .before .before .before .before .loop .inv)
 
-note-requires : tie.Need-note-requires Inv-loop μ-loop
+note-requires : tie.Need-tag-noted-requires Inv-loop μ-loop
 note-requires c κs = search needs
 
 enum-known-l : tie.Need-enum-known-l Inv-loop μ-loop
@@ -45,7 +45,7 @@ returns-2 c =
     let l = c .before .before .before .before .before .before .before .before .loop in
     let g = c .before .before .before .before .tag .given in
     let e = sym (g .1) ∙ c .before .before .before .before .before .before .read-tag .ensures in
-    left-unknown _ _ _ _ _ _ (g .0 .0) (g .0 .1 .0) (g .0 .1 .1 .0) (omega arith) e (sym (c .enum-told2 .given .1) ∙ c .before .before .note .ensures) (l .inv)
+    left-unknown _ _ _ _ _ _ (g .0 .0) (g .0 .1 .0) (g .0 .1 .1 .0) (omega arith) e (sym (c .enum-told2 .given .1) ∙ c .before .before .tag-noted .ensures) (l .inv)
 
 loop-less : tie.Need-loop-less Inv-loop μ-loop
 loop-less c =
@@ -61,7 +61,7 @@ loop-again c =
     let g = c .before .before .before .before .before .tag .given in
     let e = sym (g .1) ∙ c .before .before .before .before .before .before .before .read-tag .ensures in
     let i = tag-inside _ _ _ (g .0 .0) (g .0 .1 .0) (g .0 .1 .1 .0) e in
-    left-next _ _ _ _ _ _ (g .0 .0) (g .0 .1 .0) (g .0 .1 .1 .0) (omega arith) e _ _ (sym (c .before .l .given .1) ∙ c .before .before .before .note .ensures) (i .past) (l .inv)
+    left-next _ _ _ _ _ _ (g .0 .0) (g .0 .1 .0) (g .0 .1 .1 .0) (omega arith) e _ _ (sym (c .before .l .given .1) ∙ c .before .before .before .tag-noted .ensures) (i .past) (l .inv)
 
 returns-3 : tie.Need-returns-3 Inv-loop μ-loop
 returns-3 c = left-end _ _ _ _ _ _ (omega arith) (c .before .loop .inv)

@@ -46,50 +46,50 @@ abbrev pub AcceptsInner : Card → ℕ → Act → Type 0
 AcceptsInner c n act = outcome c (innerWork c (aidEnding n) act) .status ≡ Done
 
 -- the word of a refusal; of a command that asks for no open change, in each open phase
-abbrev pub Gives : ℕ → Card → Asked → Type 0
-Gives word c a = numberOf (outcome c (askedWork c a) .status) ≡ word
+abbrev pub GivesWord : ℕ → Card → Asked → Type 0
+GivesWord word c a = numberOf (outcome c (askedWork c a) .status) ≡ word
 
 abbrev pub GivesInner : ℕ → Card → List ℕ → Act → Type 0
 GivesInner word c aid act = numberOf (outcome c (innerWork c aid act) .status) ≡ word
 
 abbrev pub WhileOpen : Asked → Type 0
-WhileOpen a = Gives 0x6985 (on02 1 (Trial 0 10 1)) a × Gives 0x6985 (on01 2 (Back 10 2)) a × Gives 0x6985 (on01 3 (Fallen 10 3)) a
+WhileOpen a = GivesWord 0x6985 (on02 1 (Trial 0 10 1)) a × GivesWord 0x6985 (on01 2 (Back 10 2)) a × GivesWord 0x6985 (on01 3 (Fallen 10 3)) a
 
 -- another profile at this place; and one with this policy
-abbrev pub changing : Card → ℕ → (Isdp → Isdp) → Card
-changing c i f = rewritten c i (f (at (c .places) i))
+abbrev pub inChange : Card → ℕ → (Isdp → Isdp) → Card
+inChange c i f = rewritten c i (f (at (c .places) i))
 
 abbrev pub ruling : Card → ℕ → ℕ → Card
-ruling c i policy = changing c i (λ p. withPolicy p policy)
+ruling c i policy = inChange c i (λ p. withPolicy p policy)
 
 -- each row of each call gives its word, where it can be on a card on which a later row holds too; 09 is not held
 pub record RowsMet : Type 0 where
   pub create-open : WhileOpen (create (aidEnding 2) 601)
-  pub create : Gives 0x6A80 (on01 0 Quiet) (create (aidEnding 2) 601) × Gives 0x6A84 (on01 0 Quiet) (create (aidEnding 5) 601)
+  pub create : GivesWord 0x6A80 (on01 0 Quiet) (create (aidEnding 2) 601) × GivesWord 0x6A84 (on01 0 Quiet) (create (aidEnding 5) 601)
   pub enable-open : WhileOpen (on (aidEnding 9) enable)
-  pub enable : Gives 0x6A88 (ruling (on01 0 Quiet) 0 1) (on (aidEnding 9) enable) × Gives 0x6985 (ruling (on01 0 Quiet) 0 1) (on (aidEnding 4) enable) × Gives 0x69E1 (ruling (on01 0 Quiet) 0 1) (on (aidEnding 2) enable)
+  pub enable : GivesWord 0x6A88 (ruling (on01 0 Quiet) 0 1) (on (aidEnding 9) enable) × GivesWord 0x6985 (ruling (on01 0 Quiet) 0 1) (on (aidEnding 4) enable) × GivesWord 0x69E1 (ruling (on01 0 Quiet) 0 1) (on (aidEnding 2) enable)
   pub disable-open : WhileOpen (on (aidEnding 9) disable)
   -- not ENABLED, the fall-back
-  pub disable : Gives 0x6A88 (on01 0 Quiet) (on (aidEnding 9) disable) × Gives 0x6985 (ruling (on01 0 Quiet) 1 1) (on (aidEnding 2) disable) × Gives 0x6985 (ruling (on01 0 Quiet) 0 1) (on (aidEnding 1) disable) × Gives 0x69E1 (ruling (on02 0 Quiet) 1 1) (on (aidEnding 2) disable)
+  pub disable : GivesWord 0x6A88 (on01 0 Quiet) (on (aidEnding 9) disable) × GivesWord 0x6985 (ruling (on01 0 Quiet) 1 1) (on (aidEnding 2) disable) × GivesWord 0x6985 (ruling (on01 0 Quiet) 0 1) (on (aidEnding 1) disable) × GivesWord 0x69E1 (ruling (on02 0 Quiet) 1 1) (on (aidEnding 2) disable)
   pub delete-open : WhileOpen (on (aidEnding 9) delete)
   -- ENABLED, the fall-back
-  pub delete : Gives 0x6A88 (on01 0 Quiet) (on (aidEnding 9) delete) × Gives 0x6985 (ruling (on02 0 Quiet) 1 2) (on (aidEnding 2) delete) × Gives 0x6985 (ruling (on02 0 Quiet) 0 2) (on (aidEnding 1) delete) × Gives 0x69E1 (ruling (on01 0 Quiet) 1 2) (on (aidEnding 2) delete)
+  pub delete : GivesWord 0x6A88 (on01 0 Quiet) (on (aidEnding 9) delete) × GivesWord 0x6985 (ruling (on02 0 Quiet) 1 2) (on (aidEnding 2) delete) × GivesWord 0x6985 (ruling (on02 0 Quiet) 0 2) (on (aidEnding 1) delete) × GivesWord 0x69E1 (ruling (on01 0 Quiet) 1 2) (on (aidEnding 2) delete)
   pub master-delete-open : WhileOpen (on (aidEnding 9) (masterDelete 0))
   -- not DISABLED, the fall-back
-  pub master-delete : Gives 0x6A88 (on01 0 Quiet) (on (aidEnding 9) (masterDelete 0)) × Gives 0x6985 (on01 0 Quiet) (on (aidEnding 3) (masterDelete 0)) × Gives 0x6985 (on02 0 Quiet) (on (aidEnding 1) (masterDelete 0)) × Gives 0x6982 (on01 0 Quiet) (on (aidEnding 2) (masterDelete 0))
+  pub master-delete : GivesWord 0x6A88 (on01 0 Quiet) (on (aidEnding 9) (masterDelete 0)) × GivesWord 0x6985 (on01 0 Quiet) (on (aidEnding 3) (masterDelete 0)) × GivesWord 0x6985 (on02 0 Quiet) (on (aidEnding 1) (masterDelete 0)) × GivesWord 0x6982 (on01 0 Quiet) (on (aidEnding 2) (masterDelete 0))
   pub set-fall-back-open : WhileOpen (on (aidEnding 9) setFallBack)
   -- not finished, not marked
-  pub set-fall-back : Gives 0x6A88 (on01 0 Quiet) (on (aidEnding 9) setFallBack) × Gives 0x6985 (on01 0 Quiet) (on (aidEnding 4) setFallBack) × Gives 0x6985 (changing (on01 0 Quiet) 1 (λ p. withMark p 0)) (on (aidEnding 2) setFallBack)
-  pub confirmation : Gives 0x6985 (on01 0 Quiet) (confirm 1) × Gives 0x6A88 (on02 1 (Trial 0 10 1)) (confirm 0) × Gives 0x6A88 (on01 2 (Back 10 2)) (confirm 1) × Gives 0x6A88 (on01 3 (Fallen 10 3)) (confirm 2)
-  pub status-of-next : Gives 0x6A88 (on01 0 Quiet) (statusOfAll true true true)
-  pub status-of-one : (life attribute : Bool) → Gives 0x6A88 (on01 0 Quiet) (on (aidEnding 9) (status life attribute))
+  pub set-fall-back : GivesWord 0x6A88 (on01 0 Quiet) (on (aidEnding 9) setFallBack) × GivesWord 0x6985 (on01 0 Quiet) (on (aidEnding 4) setFallBack) × GivesWord 0x6985 (inChange (on01 0 Quiet) 1 (λ p. withMark p 0)) (on (aidEnding 2) setFallBack)
+  pub confirmation : GivesWord 0x6985 (on01 0 Quiet) (confirm 1) × GivesWord 0x6A88 (on02 1 (Trial 0 10 1)) (confirm 0) × GivesWord 0x6A88 (on01 2 (Back 10 2)) (confirm 1) × GivesWord 0x6A88 (on01 3 (Fallen 10 3)) (confirm 2)
+  pub status-of-next : GivesWord 0x6A88 (on01 0 Quiet) (statusOfAll true true true)
+  pub status-of-one : (life attribute : Bool) → GivesWord 0x6A88 (on01 0 Quiet) (on (aidEnding 9) (status life attribute))
   -- an AID of 1 byte; the inner calls in an open phase
   pub keyed : GivesInner 0x6A80 (on01 3 (Fallen 10 3)) (0xA0 ∷ []) keyed × GivesInner 0x6A88 (on01 3 (Fallen 10 3)) (aidEnding 9) keyed × GivesInner 0x6985 (on01 3 (Fallen 10 3)) (aidEnding 4) keyed
   pub stored : GivesInner 0x6A80 (on01 3 (Fallen 10 3)) (0xA0 ∷ []) (stored 101) × GivesInner 0x6A88 (on01 3 (Fallen 10 3)) (aidEnding 9) (stored 101) × GivesInner 0x6985 (on01 3 (Fallen 10 3)) (aidEnding 3) (stored 101) × GivesInner 0x6A84 (on01 3 (Fallen 10 3)) (aidEnding 4) (stored 91)
   -- the AID, the policy, the mark
   pub finished-values : GivesInner 0x6A80 (on01 3 (Fallen 10 3)) (0xA0 ∷ []) (finished 0 0) × GivesInner 0x6A80 (on01 3 (Fallen 10 3)) (aidEnding 9) (finished 5 0) × GivesInner 0x6A80 (on01 3 (Fallen 10 3)) (aidEnding 9) (finished 0 2)
   -- another life cycle, used 0
-  pub finished : GivesInner 0x6A88 (on01 3 (Fallen 10 3)) (aidEnding 9) (finished 0 0) × GivesInner 0x6985 (on01 3 (Fallen 10 3)) (aidEnding 2) (finished 0 0) × GivesInner 0x6985 (changing (on01 3 (Fallen 10 3)) 3 (λ p. withUsed p 0)) (aidEnding 4) (finished 0 0)
+  pub finished : GivesInner 0x6A88 (on01 3 (Fallen 10 3)) (aidEnding 9) (finished 0 0) × GivesInner 0x6985 (on01 3 (Fallen 10 3)) (aidEnding 2) (finished 0 0) × GivesInner 0x6985 (inChange (on01 3 (Fallen 10 3)) 3 (λ p. withUsed p 0)) (aidEnding 4) (finished 0 0)
   pub set-policy : GivesInner 0x6A80 (on01 3 (Fallen 10 3)) (aidEnding 9) (setPolicy 5) × GivesInner 0x6985 (on01 3 (Fallen 10 3)) (aidEnding 9) (setPolicy 4) × GivesInner 0x6A88 (on01 0 Quiet) (aidEnding 9) (setPolicy 4) × GivesInner 0x6985 (on01 0 Quiet) (aidEnding 2) (setPolicy 4)
 
 pub record LawsMet : Type 0 where

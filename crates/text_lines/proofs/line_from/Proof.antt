@@ -9,7 +9,7 @@ use Rattle.text_lines.proofs.line_from.Tie as tie
 
 returns : tie.Need-returns
 unfolding lineFrom stopFrom
-returns c = rw (← c .before .before .until .ensures) (lt! _ (omega arith) (ap (gives _) (c .found-at .ensures)))
+returns c = rw (← c .before .before .until .ensures) (lt! _ (omega arith) (ap (gives _) (c .found-line .ensures)))
 
 returns-2 : tie.Need-returns-2
 unfolding lineFrom stopFrom

@@ -13,7 +13,7 @@ returns c = le! _ (omega arith) (c .none-left .ensures)
 
 returns-2 : tie.Need-returns-2
 unfolding unended
-returns-2 c = nle! _ (omega arith) (yes! _ (c .before .if2 .taken) (ap (gives _) (c .found-at .ensures)))
+returns-2 c = nle! _ (omega arith) (yes! _ (c .before .if2 .taken) (ap (gives _) (c .found-line .ensures)))
 
 returns-3 : tie.Need-returns-3
 unfolding unended

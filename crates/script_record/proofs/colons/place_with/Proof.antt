@@ -28,20 +28,20 @@ returns : tie.Need-returns
 unfolding placeWith
 returns c =
     let e = c .before in
-    rw (← (sym (e .enum-told .given .1) ∙ e .before .before .next-field .ensures)) (c .no-place .ensures)
+    rw (← (sym (e .enum-told .given .1) ∙ e .before .before .next-field .ensures)) (c .wrong-place .ensures)
 
 returns-2 : tie.Need-returns-2
 unfolding placeWith
 returns-2 c =
     let b = c .before .before .before in
-    rw (← (field (stated b)), ← (sym (c .before .enum-told2 .given .1) ∙ b .hex-byte .ensures)) (c .no-place2 .ensures)
+    rw (← (field (stated b)), ← (sym (c .before .enum-told2 .given .1) ∙ b .hex-byte .ensures)) (c .wrong-place2 .ensures)
 
 returns-3 : tie.Need-returns-3
 unfolding placeWith
 returns-3 c =
     let z = c .before .before .before in
     let l = z .before .before in
-    rw (← (field (stated (l .before .before))), ← (life l), ← (sym (c .before .enum-told3 .given .1) ∙ z .sizes-at .ensures)) (c .no-place3 .ensures)
+    rw (← (field (stated (l .before .before))), ← (life l), ← (sym (c .before .enum-told3 .given .1) ∙ z .sizes-at .ensures)) (c .wrong-place3 .ensures)
 
 returns-4 : tie.Need-returns-4
 unfolding placeWith

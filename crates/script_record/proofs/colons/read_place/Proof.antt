@@ -50,7 +50,7 @@ returns-2 : tie.Need-returns-2
 unfolding placeWord
 returns-2 c =
     let n = c .before .before .before in
-    no! _ (held (n .before)) (rw (← (sym (c .before .enum-told .given .1) ∙ n .next-field .ensures)) (c .no-place .ensures))
+    no! _ (held (n .before)) (rw (← (sym (c .before .enum-told .given .1) ∙ n .next-field .ensures)) (c .wrong-place .ensures))
 
 returns-3 : tie.Need-returns-3
 unfolding placeWord
@@ -65,14 +65,14 @@ unfolding placeWord
 returns-4 c =
     let r = c .before .before .before .before in
     let f = named r in
-    no! _ (held (asking f)) (rw (← (field f), ← (sym (c .before .enum-told2 .given .1) ∙ r .read-hex .ensures .0)) (c .no-place2 .ensures))
+    no! _ (held (asking f)) (rw (← (field f), ← (sym (c .before .enum-told2 .given .1) ∙ r .read-hex .ensures .0)) (c .wrong-place2 .ensures))
 
 returns-5 : tie.Need-returns-5
 unfolding placeWord
 returns-5 c =
     let r = c .before .before .before .before in
     let f = named r in
-    no! _ (held (asking f)) (rw (← (field f), ← (sym (c .before .enum-told3 .given .1) ∙ r .read-hex .ensures .0)) (c .no-place3 .ensures))
+    no! _ (held (asking f)) (rw (← (field f), ← (sym (c .before .enum-told3 .given .1) ∙ r .read-hex .ensures .0)) (c .wrong-place3 .ensures))
 
 pub read-place-spec : {M : Type 1} → statement M
 read-place-spec =

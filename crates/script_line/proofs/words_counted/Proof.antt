@@ -3,8 +3,8 @@ use mathlib.Core.Path.{refl}
 use native.Mathlib.Omega.{arith}
 use Rattle.base_choice.proofs.Branches.{lt!, nlt! }
 use Rattle.script_line.specs.Orders.{wordsCounted}
-use Rattle.script_line.proofs.counted.Statement.{statement}
-use Rattle.script_line.proofs.counted.Tie as tie
+use Rattle.script_line.proofs.words_counted.Statement.{statement}
+use Rattle.script_line.proofs.words_counted.Tie as tie
 
 returns : tie.Need-returns
 unfolding wordsCounted
@@ -18,5 +18,5 @@ returns-3 : tie.Need-returns-3
 unfolding wordsCounted
 returns-3 c = nlt! _ (omega arith) (nlt! _ (omega arith) refl)
 
-pub counted-spec : {M : Type 1} → statement M
-counted-spec = tie.close (tie.spec returns returns-2 returns-3)
+pub words-counted-spec : {M : Type 1} → statement M
+words-counted-spec = tie.close (tie.spec returns returns-2 returns-3)

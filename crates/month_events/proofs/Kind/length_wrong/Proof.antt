@@ -1,7 +1,7 @@
--- `Kind::is_wrong` meets its contract: each row of the table of kinds.
+-- `Kind::length_wrong` meets its contract: each row of the table of kinds.
 use borrow.Author.Needs.{needs}
-use Rattle.month_events.proofs.Kind.is_wrong.Statement.{statement}
-use Rattle.month_events.proofs.Kind.is_wrong.Tie as tie
+use Rattle.month_events.proofs.Kind.length_wrong.Statement.{statement}
+use Rattle.month_events.proofs.Kind.length_wrong.Tie as tie
 
 returns : tie.Need-returns
 returns c = rw (c .enum-told .given .1)
@@ -24,8 +24,8 @@ returns-7 c = rw (c .enum-told7 .given .1)
 returns-8 : tie.Need-returns-8
 returns-8 c = rw (c .before .enum-told8 .given .1, c .speaker-size .ensures)
 
-pub is-wrong-spec : {M : Type 1} → statement M
-is-wrong-spec =
+pub length-wrong-spec : {M : Type 1} → statement M
+length-wrong-spec =
     tie.close
     (tie.spec
     (λ c. search needs)

@@ -3,8 +3,8 @@ use Rattle.read_fields.specs.GetStatus.{tagNoted}
 use Rattle.base_choice.proofs.Branches.{eq!, ne! }
 use mathlib.Core.Path.{refl}
 use native.Mathlib.Omega.{arith}
-use Rattle.read_fields.proofs.note.Statement.{statement}
-use Rattle.read_fields.proofs.note.Tie as tie
+use Rattle.read_fields.proofs.tag_noted.Statement.{statement}
+use Rattle.read_fields.proofs.tag_noted.Tie as tie
 
 returns : tie.Need-returns
 unfolding tagNoted
@@ -22,5 +22,5 @@ returns-4 : tie.Need-returns-4
 unfolding tagNoted
 returns-4 c = ne! _ (omega arith) (ne! _ (omega arith) (ne! _ (omega arith) refl))
 
-pub note-spec : {M : Type 1} → statement M
-note-spec = tie.close (tie.spec returns returns-2 returns-3 returns-4)
+pub tag-noted-spec : {M : Type 1} → statement M
+tag-noted-spec = tie.close (tie.spec returns returns-2 returns-3 returns-4)

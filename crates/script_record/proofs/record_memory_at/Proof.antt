@@ -1,11 +1,11 @@
--- `script_record::memory_at` meets its contract: the three numbers in turn. Each that was read is named once, with the place after it.
+-- `script_record::record_memory_at` meets its contract: the three numbers in turn. Each that was read is named once, with the place after it.
 use mathlib.Core.Path.{_≡_, refl, sym, _∙_}
 use Rattle.script_words.specs.Arguments.{most32, valueAt}
 use Rattle.script_words.specs.declared.Value.the-variants.{Is}
 use Rattle.script_record.specs.Records.{recordMemoryAt}
 use borrow.Author.Needs.{needs}
-use Rattle.script_record.proofs.memory_at.Statement.{statement}
-use Rattle.script_record.proofs.memory_at.Tie as tie
+use Rattle.script_record.proofs.record_memory_at.Statement.{statement}
+use Rattle.script_record.proofs.record_memory_at.Tie as tie
 
 abbrev start : tie.After-capacity → tie.Start
 start c = c .before .before .before .before
@@ -48,8 +48,8 @@ returns-4 c =
     let v = n .before .before in
     rw (← (capacity (first v)), ← (volatile v), ← (sym (c .before .free .given .1) ∙ n .next-value3 .ensures)) refl
 
-pub memory-at-spec : {M : Type 1} → statement M
-memory-at-spec =
+pub record-memory-at-spec : {M : Type 1} → statement M
+record-memory-at-spec =
     tie.close
     (tie.spec
     (λ c κs. search needs)

@@ -1,4 +1,4 @@
--- `script_record::head_at` meets its contract: the figures of the memory, two numbers, then what is open. What was read is named once, with
+-- `script_record::record_head_at` meets its contract: the figures of the memory, two numbers, then what is open. What was read is named once, with
 -- the place after it; the casts fit, by `value-within`.
 use Prim.Native.Nat.{ℕ}
 use mathlib.Core.Path.{_≡_, refl, sym, _∙_}
@@ -9,8 +9,8 @@ use Rattle.script_words.proofs.Within.{value-within}
 use Rattle.script_record.specs.Records.{recordMemoryAt, recordHeadAt}
 use Rattle.script_record.specs.declared.Memory.the-variants as memory
 use borrow.Author.Needs.{needs}
-use Rattle.script_record.proofs.head_at.Statement.{statement}
-use Rattle.script_record.proofs.head_at.Tie as tie
+use Rattle.script_record.proofs.record_head_at.Statement.{statement}
+use Rattle.script_record.proofs.record_head_at.Tie as tie
 
 abbrev start : tie.After-capacity → tie.Start
 start c = c .before .before .before .before
@@ -23,7 +23,7 @@ next c = c .capacity .given .0 .1 .1 .1 .0
 
 figures : (c : tie.After-capacity)
     → let g = c .capacity .given .0 in memory.Is (g .0) (g .1 .0) (g .1 .1 .0) (next c) ≡ recordMemoryAt (line c) (start c .args .at)
-figures c = sym (c .capacity .given .1) ∙ c .before .before .memory-at .ensures
+figures c = sym (c .capacity .given .1) ∙ c .before .before .record-memory-at .ensures
 
 abbrev first : tie.After-last → tie.After-capacity
 first c = c .before .before .before .before
@@ -54,7 +54,7 @@ returns : tie.Need-returns
 unfolding recordHeadAt
 returns c =
     let w = c .before in
-    rw (← (sym (w .why .given .1) ∙ w .before .before .memory-at .ensures)) refl
+    rw (← (sym (w .why .given .1) ∙ w .before .before .record-memory-at .ensures)) refl
 
 returns-2 : tie.Need-returns-2
 unfolding recordHeadAt
@@ -85,8 +85,8 @@ returns-5 c =
     let e = sym (c .before .phase .given .1) ∙ n .pending-at .ensures in
     rw (← (figures (first l)), ← (last l), ← (fallback (third n)), ← e) refl
 
-pub head-at-spec : {M : Type 1} → statement M
-head-at-spec =
+pub record-head-at-spec : {M : Type 1} → statement M
+record-head-at-spec =
     tie.close
     (tie.spec
     (λ c κs. search needs)

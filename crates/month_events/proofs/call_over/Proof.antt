@@ -1,8 +1,8 @@
 -- `call_in` meets its contract: each row of the table of kinds.
 use native.Mathlib.Omega.{arith}
 use borrow.Author.Needs.{needs}
-use Rattle.month_events.proofs.call_in.Statement.{statement}
-use Rattle.month_events.proofs.call_in.Tie as tie
+use Rattle.month_events.proofs.call_over.Statement.{statement}
+use Rattle.month_events.proofs.call_over.Tie as tie
 
 add-stop : tie.Need-add-stop
 add-stop c =
@@ -27,8 +27,8 @@ returns-7 c = rw (c .before .before .before .enum-told7 .given .1, c .before .be
 returns-8 : tie.Need-returns-8
 returns-8 c = rw (c .before .before .before .enum-told8 .given .1, c .before .part6 .ensures, c .part7 .ensures, c .before .before .speaker-size .ensures)
 
-pub call-in-spec : {M : Type 1} → statement M
-call-in-spec =
+pub call-over-spec : {M : Type 1} → statement M
+call-over-spec =
     tie.close
     (tie.spec
     (λ c. search needs)

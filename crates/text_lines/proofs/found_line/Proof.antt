@@ -4,8 +4,8 @@ use mathlib.Core.Path.{refl}
 use Rattle.text_lines.specs.Window.{foundLine}
 use Rattle.base_choice.proofs.Branches.{lt!, nlt! }
 use borrow.Author.Needs.{needs}
-use Rattle.text_lines.proofs.found_at.Statement.{statement}
-use Rattle.text_lines.proofs.found_at.Tie as tie
+use Rattle.text_lines.proofs.found_line.Statement.{statement}
+use Rattle.text_lines.proofs.found_line.Tie as tie
 
 returns : tie.Need-returns
 unfolding foundLine
@@ -15,5 +15,5 @@ returns-2 : tie.Need-returns-2
 unfolding foundLine
 returns-2 c = nlt! _ (omega arith) refl
 
-pub found-at-spec : {M : Type 1} → statement M
-found-at-spec = tie.close (tie.spec (λ c. search needs) returns returns-2)
+pub found-line-spec : {M : Type 1} → statement M
+found-line-spec = tie.close (tie.spec (λ c. search needs) returns returns-2)
