@@ -16,24 +16,12 @@ Inv-loop n a i₀ i = zeros (drop i a) ≡ zeros (drop n a)
 abbrev μ-loop : tie.MeasureT-loop
 μ-loop n a i₀ i = 16 - i
 
-loop-holds : tie.Need-loop-holds Inv-loop μ-loop
-loop-holds c = search needs
-
-array-read-if1 : tie.Need-array-read-if1 Inv-loop μ-loop
-array-read-if1 c = search needs
-
 returns : tie.Need-returns Inv-loop μ-loop
 returns c = let s = c .before .before .before in
     let o = c .before .before .loop in
     let n : length (s .args .t1) ≡ 16 = search needs in
     let e = zeros-step (s .args .t1) (o .i) (omega arith) in
     sym (rw (ne-eqb (getD (s .args .t1) (o .i) 0) 0 (c .if1 .taken)) at e) ∙ o .inv
-
-add-i : tie.Need-add-i Inv-loop μ-loop
-add-i c = search needs
-
-loop-less : tie.Need-loop-less Inv-loop μ-loop
-loop-less c = search needs
 
 loop-again : tie.Need-loop-again Inv-loop μ-loop
 loop-again c = let s = c .before .before .before in
@@ -53,10 +41,10 @@ zeros-from-spec =
     (tie.spec
     Inv-loop
     μ-loop
-    loop-holds
-    array-read-if1
+    (λ c. search needs)
+    (λ c. search needs)
     returns
-    add-i
-    loop-less
+    (λ c. search needs)
+    (λ c. search needs)
     loop-again
     returns-2)

@@ -18,18 +18,6 @@ Inv-loop p from places i₀ i = anyOf (clash p) (drop i places) ≡ anyOf (clash
 abbrev μ-loop : tie.MeasureT-loop
 μ-loop p from places i₀ i = mostPlaces - i
 
-loop-holds : tie.Need-loop-holds Inv-loop μ-loop
-loop-holds c = search needs
-
-mul-q : tie.Need-mul-q Inv-loop μ-loop
-mul-q c = search needs
-
-array-copy-out-q : tie.Need-array-copy-out-q Inv-loop μ-loop
-array-copy-out-q c = search needs
-
-clashes-requires : tie.Need-clashes-requires Inv-loop μ-loop
-clashes-requires c κs = search needs
-
 returns : tie.Need-returns Inv-loop μ-loop
 returns c = let s = c .before .before .before .before .before in
     let o = c .before .before .before .before .loop in
@@ -37,12 +25,6 @@ returns c = let s = c .before .before .before .before .before in
     let e = any-step (clash (s .args .p)) (s .args .t1) unread (o .i) (omega arith) in
     let f = sym (c .before .clashes .ensures) ∙ c .if1 .taken in
     sym (rw f at e) ∙ o .inv
-
-add-i : tie.Need-add-i Inv-loop μ-loop
-add-i c = search needs
-
-loop-less : tie.Need-loop-less Inv-loop μ-loop
-loop-less c = search needs
 
 loop-again : tie.Need-loop-again Inv-loop μ-loop
 loop-again c = let s = c .before .before .before .before .before in
@@ -63,12 +45,12 @@ again-spec =
     (tie.spec
     Inv-loop
     μ-loop
-    loop-holds
-    mul-q
-    array-copy-out-q
-    clashes-requires
+    (λ c. search needs)
+    (λ c. search needs)
+    (λ c. search needs)
+    (λ c κs. search needs)
     returns
-    add-i
-    loop-less
+    (λ c. search needs)
+    (λ c. search needs)
     loop-again
     returns-2)

@@ -17,21 +17,6 @@ Inv-loop places i₀ i = (i ≤ mostPlaces) × (distinct (drop i places) ≡ dis
 abbrev μ-loop : tie.MeasureT-loop
 μ-loop places i₀ i = mostPlaces - i
 
-loop-holds : tie.Need-loop-holds Inv-loop μ-loop
-loop-holds c = search needs
-
-mul-p : tie.Need-mul-p Inv-loop μ-loop
-mul-p c = search needs
-
-array-copy-out-p : tie.Need-array-copy-out-p Inv-loop μ-loop
-array-copy-out-p c = search needs
-
-add-again : tie.Need-add-again Inv-loop μ-loop
-add-again c = search needs
-
-again-requires : tie.Need-again-requires Inv-loop μ-loop
-again-requires c κs = search needs
-
 returns : tie.Need-returns Inv-loop μ-loop
 returns c = let s = c .before .before .before .before .before in
     let o = c .before .before .before .before .loop in
@@ -39,12 +24,6 @@ returns c = let s = c .before .before .before .before .before in
     let e = distinct-step (s .args .t1) unread (o .i) (omega arith) in
     let f = sym (c .before .again .ensures) ∙ c .if1 .taken in
     sym (rw f at e) ∙ o .inv .1
-
-add-i : tie.Need-add-i Inv-loop μ-loop
-add-i c = search needs
-
-loop-less : tie.Need-loop-less Inv-loop μ-loop
-loop-less c = search needs
 
 loop-again : tie.Need-loop-again Inv-loop μ-loop
 loop-again c = let s = c .before .before .before .before .before in
@@ -65,13 +44,13 @@ all-distinct-spec =
     (tie.spec
     Inv-loop
     μ-loop
-    loop-holds
-    mul-p
-    array-copy-out-p
-    add-again
-    again-requires
+    (λ c. search needs)
+    (λ c. search needs)
+    (λ c. search needs)
+    (λ c. search needs)
+    (λ c κs. search needs)
     returns
-    add-i
-    loop-less
+    (λ c. search needs)
+    (λ c. search needs)
     loop-again
     returns-2)

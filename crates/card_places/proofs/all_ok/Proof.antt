@@ -19,18 +19,6 @@ Inv-loop capacity places i₀ i = (i ≤ mostPlaces) × (allOf (placeOk capacity
 abbrev μ-loop : tie.MeasureT-loop
 μ-loop capacity places i₀ i = mostPlaces - i
 
-loop-holds : tie.Need-loop-holds Inv-loop μ-loop
-loop-holds c = search needs
-
-mul-p : tie.Need-mul-p Inv-loop μ-loop
-mul-p c = search needs
-
-array-copy-out-p : tie.Need-array-copy-out-p Inv-loop μ-loop
-array-copy-out-p c = search needs
-
-place-ok-requires : tie.Need-place-ok-requires Inv-loop μ-loop
-place-ok-requires c κs = search needs
-
 returns : tie.Need-returns Inv-loop μ-loop
 returns c = let s = c .before .before .before .before .before in
     let o = c .before .before .before .before .loop in
@@ -38,12 +26,6 @@ returns c = let s = c .before .before .before .before .before in
     let e = all-step (placeOk (s .args .capacity)) (s .args .t1) unread (o .i) (omega arith) in
     let f = sym (c .before .place-ok .ensures) ∙ not-true _ (c .if1 .taken) in
     sym (rw f at e) ∙ o .inv .1
-
-add-i : tie.Need-add-i Inv-loop μ-loop
-add-i c = search needs
-
-loop-less : tie.Need-loop-less Inv-loop μ-loop
-loop-less c = search needs
 
 loop-again : tie.Need-loop-again Inv-loop μ-loop
 loop-again c = let s = c .before .before .before .before .before in
@@ -64,12 +46,12 @@ all-ok-spec =
     (tie.spec
     Inv-loop
     μ-loop
-    loop-holds
-    mul-p
-    array-copy-out-p
-    place-ok-requires
+    (λ c. search needs)
+    (λ c. search needs)
+    (λ c. search needs)
+    (λ c κs. search needs)
     returns
-    add-i
-    loop-less
+    (λ c. search needs)
+    (λ c. search needs)
     loop-again
     returns-2)

@@ -18,24 +18,6 @@ Inv-loop places i₀ i = (i ≤ mostPlaces) × (i + seek isFree (drop i places) 
 abbrev μ-loop : tie.MeasureT-loop
 μ-loop places i₀ i = mostPlaces - i
 
-loop-holds : tie.Need-loop-holds Inv-loop μ-loop
-loop-holds c = search needs
-
-mul-if2 : tie.Need-mul-if2 Inv-loop μ-loop
-mul-if2 c = search needs
-
-element-copy-out-if2 : tie.Need-element-copy-out-if2 Inv-loop μ-loop
-element-copy-out-if2 c = search needs
-
-cast-t10 : tie.Need-cast-t10 Inv-loop μ-loop
-cast-t10 c = search needs
-
-add-i : tie.Need-add-i Inv-loop μ-loop
-add-i c = search needs
-
-loop-less : tie.Need-loop-less Inv-loop μ-loop
-loop-less c = search needs
-
 loop-again : tie.Need-loop-again Inv-loop μ-loop
 loop-again c = let s = c .before .before .before in
     let o = c .before .before .loop in
@@ -63,12 +45,12 @@ free-place-spec =
     (tie.spec
     Inv-loop
     μ-loop
-    loop-holds
-    mul-if2
-    element-copy-out-if2
-    cast-t10
-    add-i
-    loop-less
+    (λ c. search needs)
+    (λ c. search needs)
+    (λ c. search needs)
+    (λ c. search needs)
+    (λ c. search needs)
+    (λ c. search needs)
     loop-again
     returns
     returns-2)

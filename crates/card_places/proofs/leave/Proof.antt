@@ -20,27 +20,12 @@ Inv-loop capacity free places left₀ i₀ left i = (i ≤ mostPlaces) × (eqb (
 abbrev μ-loop : tie.MeasureT-loop
 μ-loop capacity free places left₀ i₀ left i = mostPlaces - i
 
-loop-holds : tie.Need-loop-holds Inv-loop μ-loop
-loop-holds c = search needs
-
-mul-q : tie.Need-mul-q Inv-loop μ-loop
-mul-q c = search needs
-
-element-copy-out-q : tie.Need-element-copy-out-q Inv-loop μ-loop
-element-copy-out-q c = search needs
-
 returns : tie.Need-returns Inv-loop μ-loop
 returns c = let s = c .before .before .before in
     let o = c .before .before .loop in
     let n : length (s .args .t1) ≡ mostPlaces = search needs in
     let e = quotas-step (s .args .t1) unread (o .i) (omega arith) in
     sym (ne-eqb (s .args .free + quotas (drop (o .i) (s .args .t1))) (o .left) (λ h. omega arith)) ∙ o .inv .1
-
-add-i : tie.Need-add-i Inv-loop μ-loop
-add-i c = search needs
-
-loop-less : tie.Need-loop-less Inv-loop μ-loop
-loop-less c = search needs
 
 loop-again : tie.Need-loop-again Inv-loop μ-loop
 loop-again c = let s = c .before .before .before in
@@ -62,11 +47,11 @@ leave-spec =
     (tie.spec
     Inv-loop
     μ-loop
-    loop-holds
-    mul-q
-    element-copy-out-q
+    (λ c. search needs)
+    (λ c. search needs)
+    (λ c. search needs)
     returns
-    add-i
-    loop-less
+    (λ c. search needs)
+    (λ c. search needs)
     loop-again
     returns-2)

@@ -19,19 +19,10 @@ abbrev μ-loop : tie.MeasureT-loop
 loop-holds : tie.Need-loop-holds Inv-loop μ-loop
 loop-holds c = (omega arith, some-none _)
 
-same-kind-requires : tie.Need-same-kind-requires Inv-loop μ-loop
-same-kind-requires c κs = search needs
-
 returns : tie.Need-returns Inv-loop μ-loop
 returns c = let s = c .before .before .before .before .before in
     let o = c .before .before .before .loop in
     sym (some-hit (sameKind (s .args .s .now) (s .args .i)) (o .j) (sym (c .before .same-kind .ensures) ∙ c .if1 .taken) (s .args .i) (omega arith))
-
-add-j : tie.Need-add-j Inv-loop μ-loop
-add-j c = search needs
-
-loop-less : tie.Need-loop-less Inv-loop μ-loop
-loop-less c = search needs
 
 loop-again : tie.Need-loop-again Inv-loop μ-loop
 loop-again c = (omega arith, some-next _ _ (c .before .before .before .loop .inv .1) (sym (c .before .same-kind .ensures) ∙ c .if1 .left))
@@ -46,9 +37,9 @@ listed-before-spec =
     Inv-loop
     μ-loop
     loop-holds
-    same-kind-requires
+    (λ c κs. search needs)
     returns
-    add-j
-    loop-less
+    (λ c. search needs)
+    (λ c. search needs)
     loop-again
     returns-2)

@@ -17,34 +17,16 @@ Inv-loop s end count left₀ i₀ left i = (i ≤ count) × (contentsEnd s + sum
 abbrev μ-loop : tie.MeasureT-loop
 μ-loop s end count left₀ i₀ left i = count - i
 
-contents-end-requires : tie.Need-contents-end-requires Inv-loop μ-loop
-contents-end-requires c κs = search needs
-
 returns : tie.Need-returns Inv-loop μ-loop
 returns c = filled-past (c .before .before .before .args .s .now) (omega arith)
 
-sections-requires : tie.Need-sections-requires Inv-loop μ-loop
-sections-requires c κs = search needs
-
-sub-left : tie.Need-sub-left Inv-loop μ-loop
-sub-left c = search needs
-
 loop-holds : tie.Need-loop-holds Inv-loop μ-loop
 loop-holds c = let z = sum-none (bodyLength (c .before .before .before .before .args .s .now)) in (omega arith, omega arith)
-
-length-at-requires : tie.Need-body-length-requires Inv-loop μ-loop
-length-at-requires c κs = search needs
 
 returns-2 : tie.Need-returns-2 Inv-loop μ-loop
 returns-2 c = let o = c .before .before .before .loop in
     let s = c .before .before .before .before .before .before .before .before in
     filled-over (s .args .s .now) (o .i) (o .left) (o .inv .1) (omega arith) (omega arith)
-
-add-i : tie.Need-add-i Inv-loop μ-loop
-add-i c = search needs
-
-loop-less : tie.Need-loop-less Inv-loop μ-loop
-loop-less c = search needs
 
 loop-again : tie.Need-loop-again Inv-loop μ-loop
 loop-again c = let o = c .before .before .before .loop in
@@ -63,14 +45,14 @@ not-filled-spec =
     (tie.spec
     Inv-loop
     μ-loop
-    contents-end-requires
+    (λ c κs. search needs)
     returns
-    sections-requires
-    sub-left
+    (λ c κs. search needs)
+    (λ c. search needs)
     loop-holds
-    length-at-requires
+    (λ c κs. search needs)
     returns-2
-    add-i
-    loop-less
+    (λ c. search needs)
+    (λ c. search needs)
     loop-again
     returns-3)

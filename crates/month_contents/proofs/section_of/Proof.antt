@@ -18,20 +18,8 @@ Inv-loop s kind count i₀ i = (i ≤ count) × (someBelow i (ofKind s kind) ≡
 abbrev μ-loop : tie.MeasureT-loop
 μ-loop s kind count i₀ i = count - i
 
-sections-requires : tie.Need-sections-requires Inv-loop μ-loop
-sections-requires c κs = search needs
-
 loop-holds : tie.Need-loop-holds Inv-loop μ-loop
 loop-holds c = (omega arith, some-none _)
-
-kind-at-requires : tie.Need-kind-at-requires Inv-loop μ-loop
-kind-at-requires c κs = search needs
-
-start-at-requires : tie.Need-start-at-requires Inv-loop μ-loop
-start-at-requires c κs = search needs
-
-length-at-requires : tie.Need-body-length-requires Inv-loop μ-loop
-length-at-requires c κs = search needs
 
 returns : tie.Need-returns Inv-loop μ-loop
 returns c = let t = c .before .before in
@@ -39,12 +27,6 @@ returns c = let t = c .before .before in
     let s = t .before .before .before .before .before .before in
     rw (c .before .start-at .ensures, c .body-length .ensures)
     (section-hit (s .args .s .now) (s .args .kind) (o .i) (o .inv .1) (eq-eqb _ _ (sym (t .before .kind-at .ensures) ∙ t .if1 .taken)) (omega arith))
-
-add-i : tie.Need-add-i Inv-loop μ-loop
-add-i c = search needs
-
-loop-less : tie.Need-loop-less Inv-loop μ-loop
-loop-less c = search needs
 
 loop-again : tie.Need-loop-again Inv-loop μ-loop
 loop-again c = let o = c .before .before .before .loop in
@@ -61,13 +43,13 @@ section-of-spec =
     (tie.spec
     Inv-loop
     μ-loop
-    sections-requires
+    (λ c κs. search needs)
     loop-holds
-    kind-at-requires
-    start-at-requires
-    length-at-requires
+    (λ c κs. search needs)
+    (λ c κs. search needs)
+    (λ c κs. search needs)
     returns
-    add-i
-    loop-less
+    (λ c. search needs)
+    (λ c. search needs)
     loop-again
     returns-2)

@@ -16,25 +16,13 @@ Inv-loop s count i₀ i = (i ≤ count) × (someBelow i (kindWrong s) ≡ false)
 abbrev μ-loop : tie.MeasureT-loop
 μ-loop s count i₀ i = count - i
 
-sections-requires : tie.Need-sections-requires Inv-loop μ-loop
-sections-requires c κs = search needs
-
 loop-holds : tie.Need-loop-holds Inv-loop μ-loop
 loop-holds c = (omega arith, some-none _)
-
-kind-wrong-requires : tie.Need-kind-wrong-requires Inv-loop μ-loop
-kind-wrong-requires c κs = search needs
 
 returns : tie.Need-returns Inv-loop μ-loop
 returns c = let o = c .before .before .before in
     let s = o .before .before .before .args .s .now in
     sym (some-hit (kindWrong s) (o .loop .i) (sym (c .before .kind-wrong .ensures) ∙ c .if1 .taken) (sections s) (omega arith))
-
-add-i : tie.Need-add-i Inv-loop μ-loop
-add-i c = search needs
-
-loop-less : tie.Need-loop-less Inv-loop μ-loop
-loop-less c = search needs
 
 loop-again : tie.Need-loop-again Inv-loop μ-loop
 loop-again c = (omega arith, some-next _ _ (c .before .before .before .loop .inv .1) (sym (c .before .kind-wrong .ensures) ∙ c .if1 .left))
@@ -50,11 +38,11 @@ some-kind-wrong-spec =
     (tie.spec
     Inv-loop
     μ-loop
-    sections-requires
+    (λ c κs. search needs)
     loop-holds
-    kind-wrong-requires
+    (λ c κs. search needs)
     returns
-    add-i
-    loop-less
+    (λ c. search needs)
+    (λ c. search needs)
     loop-again
     returns-2)

@@ -19,41 +19,11 @@ abbrev μ-loop : tie.MeasureT-loop
 loop-holds : tie.Need-loop-holds Inv-loop μ-loop
 loop-holds c = (omega arith, checked-first _)
 
-stop-of-requires : tie.Need-stop-of-requires Inv-loop μ-loop
-stop-of-requires c κs = search needs
-
 returns : tie.Need-returns Inv-loop μ-loop
 returns c = let s = c .before .before .before .before .before .args .b .now in
     let l = c .before .before .before .loop in
     let e = c .before .stop-of .ensures in
     sym (checked-cut s (l .at) (l .unknown) (l .wrong) (omega arith) (omega arith)) ∙ l .inv .1
-
-shared-slice-read-of : tie.Need-shared-slice-read-of Inv-loop μ-loop
-shared-slice-read-of c = search needs
-
-of-requires : tie.Need-of-requires Inv-loop μ-loop
-of-requires c κs = search needs
-
-is-unknown-requires : tie.Need-is-unknown-requires Inv-loop μ-loop
-is-unknown-requires c κs = search needs
-
-add-from : tie.Need-add-from Inv-loop μ-loop
-add-from c = search needs
-
-sub-is-wrong : tie.Need-sub-is-wrong Inv-loop μ-loop
-sub-is-wrong c = search needs
-
-part-is-wrong-start : tie.Need-part-is-wrong-start Inv-loop μ-loop
-part-is-wrong-start c = search needs
-
-part-is-wrong-end : tie.Need-part-is-wrong-end Inv-loop μ-loop
-part-is-wrong-end c = search needs
-
-is-wrong-requires : tie.Need-length-wrong-requires Inv-loop μ-loop
-is-wrong-requires c κs = search needs
-
-loop-less : tie.Need-loop-less Inv-loop μ-loop
-loop-less c = search needs
 
 loop-again : tie.Need-loop-again Inv-loop μ-loop
 loop-again c =
@@ -86,17 +56,17 @@ check-events-spec =
     Inv-loop
     μ-loop
     loop-holds
-    stop-of-requires
+    (λ c κs. search needs)
     returns
-    shared-slice-read-of
-    of-requires
-    is-unknown-requires
-    add-from
-    sub-is-wrong
-    part-is-wrong-start
-    part-is-wrong-end
-    is-wrong-requires
-    loop-less
+    (λ c. search needs)
+    (λ c κs. search needs)
+    (λ c κs. search needs)
+    (λ c. search needs)
+    (λ c. search needs)
+    (λ c. search needs)
+    (λ c. search needs)
+    (λ c κs. search needs)
+    (λ c. search needs)
     loop-again
     returns-2
     returns-3

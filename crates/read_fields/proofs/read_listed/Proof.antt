@@ -19,26 +19,11 @@ abbrev μ-loop : tie.MeasureT-loop
 loop-holds : tie.Need-loop-holds Inv-loop μ-loop
 loop-holds c = left-start _ _ _
 
-read-tag-requires : tie.Need-read-tag-requires Inv-loop μ-loop
-read-tag-requires c κs = search needs
-
-enum-known-tag : tie.Need-enum-known-tag Inv-loop μ-loop
-enum-known-tag c = search needs
-
 enum-told : tie.Need-enum-told Inv-loop μ-loop
 enum-told c = search needs
 
 returns : tie.Need-returns Inv-loop μ-loop
 returns c = left-no-tag _ _ _ _ _ _ (omega arith) (sym (c .enum-told .given .1) ∙ c .before .before .read-tag .ensures) (c .before .before .before .before .loop .inv)
-
-note-requires : tie.Need-tag-noted-requires Inv-loop μ-loop
-note-requires c κs = search needs
-
-enum-known-l : tie.Need-enum-known-l Inv-loop μ-loop
-enum-known-l c = search needs
-
-enum-told-2 : tie.Need-enum-told-2 Inv-loop μ-loop
-enum-told-2 c = search needs
 
 returns-2 : tie.Need-returns-2 Inv-loop μ-loop
 returns-2 c =
@@ -73,13 +58,13 @@ read-listed-spec =
     Inv-loop
     μ-loop
     loop-holds
-    read-tag-requires
-    enum-known-tag
+    (λ c κs. search needs)
+    (λ c. search needs)
     enum-told
     returns
-    note-requires
-    enum-known-l
-    enum-told-2
+    (λ c κs. search needs)
+    (λ c. search needs)
+    (λ c. search needs)
     returns-2
     loop-less
     loop-again

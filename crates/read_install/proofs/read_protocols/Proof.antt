@@ -18,12 +18,6 @@ abbrev μ-loop : tie.MeasureT-loop
 loop-holds : tie.Need-loop-holds Inv-loop μ-loop
 loop-holds c = left-start _ _ _
 
-next-element-requires : tie.Need-next-element-requires Inv-loop μ-loop
-next-element-requires c κs = search needs
-
-enum-known-stop : tie.Need-enum-known-stop Inv-loop μ-loop
-enum-known-stop c = search needs
-
 enum-told : tie.Need-enum-told Inv-loop μ-loop
 enum-told c = search needs
 
@@ -46,8 +40,8 @@ read-protocols-spec =
     Inv-loop
     μ-loop
     loop-holds
-    next-element-requires
-    enum-known-stop
+    (λ c κs. search needs)
+    (λ c. search needs)
     enum-told
     returns
     loop-less

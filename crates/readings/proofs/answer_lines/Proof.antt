@@ -12,69 +12,24 @@ Inv-loop text bytes₀ out₀ at₀ bytes out at = (length bytes ≡ length byte
 abbrev μ-loop : tie.MeasureT-loop
 μ-loop text bytes₀ out₀ at₀ bytes out at = length text - at
 
-loop-holds : tie.Need-loop-holds Inv-loop μ-loop
-loop-holds c = search needs
-
-until-requires : tie.Need-until-requires Inv-loop μ-loop
-until-requires c κs = search needs
-
-same-length : tie.Need-same-length Inv-loop μ-loop
-same-length c = search needs
-
-same-length-2 : tie.Need-same-length-2 Inv-loop μ-loop
-same-length-2 c = search needs
-
-returns : tie.Need-returns Inv-loop μ-loop
-returns c = search needs
-
-sub-answer-line : tie.Need-sub-answer-line Inv-loop μ-loop
-sub-answer-line c = search needs
-
-part-answer-line-start : tie.Need-part-answer-line-start Inv-loop μ-loop
-part-answer-line-start c = search needs
-
-part-answer-line-end : tie.Need-part-answer-line-end Inv-loop μ-loop
-part-answer-line-end c = search needs
-
-answer-line-requires : tie.Need-answer-line-requires Inv-loop μ-loop
-answer-line-requires c κs = search needs
-
-add-at : tie.Need-add-at Inv-loop μ-loop
-add-at c = search needs
-
-loop-less : tie.Need-loop-less Inv-loop μ-loop
-loop-less c = search needs
-
-loop-again : tie.Need-loop-again Inv-loop μ-loop
-loop-again c = search needs
-
-same-length-3 : tie.Need-same-length-3 Inv-loop μ-loop
-same-length-3 c = search needs
-
-same-length-4 : tie.Need-same-length-4 Inv-loop μ-loop
-same-length-4 c = search needs
-
-returns-2 : tie.Need-returns-2 Inv-loop μ-loop
-returns-2 c = search needs
-
 pub answer-lines-spec : {M : Type 1} → statement M
 answer-lines-spec =
     tie.close
     (tie.spec
     Inv-loop
     μ-loop
-    loop-holds
-    until-requires
-    same-length
-    same-length-2
-    returns
-    sub-answer-line
-    part-answer-line-start
-    part-answer-line-end
-    answer-line-requires
-    add-at
-    loop-less
-    loop-again
-    same-length-3
-    same-length-4
-    returns-2)
+    (λ c. search needs)
+    (λ c κs. search needs)
+    (λ c. search needs)
+    (λ c. search needs)
+    (λ c. search needs)
+    (λ c. search needs)
+    (λ c. search needs)
+    (λ c. search needs)
+    (λ c κs. search needs)
+    (λ c. search needs)
+    (λ c. search needs)
+    (λ c. search needs)
+    (λ c. search needs)
+    (λ c. search needs)
+    (λ c. search needs))

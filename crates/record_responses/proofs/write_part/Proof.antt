@@ -22,18 +22,6 @@ abbrev μ-loop : tie.MeasureT-loop
 loop-holds : tie.Need-loop-holds Inv-loop μ-loop
 loop-holds c = (writing-starts _ _ _, refl)
 
-mul-p : tie.Need-mul-p Inv-loop μ-loop
-mul-p c = search needs
-
-array-copy-out-p : tie.Need-array-copy-out-p Inv-loop μ-loop
-array-copy-out-p c = search needs
-
-row-size-requires : tie.Need-row-size-requires Inv-loop μ-loop
-row-size-requires c κs = search needs
-
-cast-t20 : tie.Need-cast-t20 Inv-loop μ-loop
-cast-t20 c = search needs
-
 same-length : tie.Need-same-length Inv-loop μ-loop
 same-length c = c .before .before .before .before .loop .inv .0 .size
 
@@ -47,21 +35,6 @@ returns c = let o = c .before .before .before .before .loop in
     let e = part-stops (a .card .fallback) (a .life) (a .fallback) (a .card .places) (o .i) (o .room) (omega arith) (omega (arith, z, c .if1 .taken)) in
     let f = left-stops (a .card .fallback) (a .life) (a .fallback) (a .card .places) (o .i) (o .room) (omega arith) (omega (arith, z, c .if1 .taken)) in
     (writing-ends (writing-as _ e (o .inv .0)), sym f ∙ o .inv .1)
-
-cast-attribute-of : tie.Need-cast-attribute-of Inv-loop μ-loop
-cast-attribute-of c = search needs
-
-attribute-of-requires : tie.Need-attribute-of-requires Inv-loop μ-loop
-attribute-of-requires c κs = search needs
-
-write-place-requires : tie.Need-write-place-requires Inv-loop μ-loop
-write-place-requires c κs = search needs
-
-add-i : tie.Need-add-i Inv-loop μ-loop
-add-i c = search needs
-
-loop-less : tie.Need-loop-less Inv-loop μ-loop
-loop-less c = search needs
 
 loop-again : tie.Need-loop-again Inv-loop μ-loop
 loop-again c = let e = c .before .before .before .before .before in
@@ -95,17 +68,17 @@ write-part-spec =
     Inv-loop
     μ-loop
     loop-holds
-    mul-p
-    array-copy-out-p
-    row-size-requires
-    cast-t20
+    (λ c. search needs)
+    (λ c. search needs)
+    (λ c κs. search needs)
+    (λ c. search needs)
     same-length
     returns
-    cast-attribute-of
-    attribute-of-requires
-    write-place-requires
-    add-i
-    loop-less
+    (λ c. search needs)
+    (λ c κs. search needs)
+    (λ c κs. search needs)
+    (λ c. search needs)
+    (λ c. search needs)
     loop-again
     same-length-2
     returns-2)

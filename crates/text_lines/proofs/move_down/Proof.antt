@@ -17,26 +17,8 @@ Inv-loop buf₀ from to i₀ count buf i = (i ≤ to - from) × ((length buf ≡
 abbrev μ-loop : tie.MeasureT-loop
 μ-loop buf₀ from to i₀ count buf i = (to - from) - i
 
-sub-count : tie.Need-sub-count Inv-loop μ-loop
-sub-count c = search needs
-
 loop-holds : tie.Need-loop-holds Inv-loop μ-loop
 loop-holds c = (omega arith, (refl, sym (put-none _ _)))
-
-add-buf : tie.Need-add-buf Inv-loop μ-loop
-add-buf c = search needs
-
-slice-read-buf : tie.Need-slice-read-buf Inv-loop μ-loop
-slice-read-buf c = search needs
-
-slice-write-buf : tie.Need-slice-write-buf Inv-loop μ-loop
-slice-write-buf c = search needs
-
-add-i : tie.Need-add-i Inv-loop μ-loop
-add-i c = search needs
-
-loop-less : tie.Need-loop-less Inv-loop μ-loop
-loop-less c = search needs
 
 loop-again : tie.Need-loop-again Inv-loop μ-loop
 loop-again c = let l = c .before .before .loop in (omega arith, (simp length-set (l .inv .1 .0), move-turn _ _ _ _ _ (l .inv .1 .1) (omega arith) (omega arith) (omega arith)))
@@ -53,13 +35,13 @@ move-down-spec =
     (tie.spec
     Inv-loop
     μ-loop
-    sub-count
+    (λ c. search needs)
     loop-holds
-    add-buf
-    slice-read-buf
-    slice-write-buf
-    add-i
-    loop-less
+    (λ c. search needs)
+    (λ c. search needs)
+    (λ c. search needs)
+    (λ c. search needs)
+    (λ c. search needs)
     loop-again
     same-length
     returns)

@@ -17,27 +17,6 @@ Inv-loop aid self n i₀ i = (i ≤ n) × (i + seekAid aid (drop i (aidsIn self)
 abbrev μ-loop : tie.MeasureT-loop
 μ-loop aid self n i₀ i = n - i
 
-lines-requires : tie.Need-lines-requires Inv-loop μ-loop
-lines-requires c κs = search needs
-
-loop-holds : tie.Need-loop-holds Inv-loop μ-loop
-loop-holds c = search needs
-
-mul-name : tie.Need-mul-name Inv-loop μ-loop
-mul-name c = search needs
-
-element-copy-out-name : tie.Need-element-copy-out-name Inv-loop μ-loop
-element-copy-out-name c = search needs
-
-same-aid-requires : tie.Need-same-aid-requires Inv-loop μ-loop
-same-aid-requires c κs = search needs
-
-add-i : tie.Need-add-i Inv-loop μ-loop
-add-i c = search needs
-
-loop-less : tie.Need-loop-less Inv-loop μ-loop
-loop-less c = search needs
-
 loop-again : tie.Need-loop-again Inv-loop μ-loop
 loop-again c = let s = c .before .before .before .before .before .before in
     let o = c .before .before .before .before .loop in
@@ -71,13 +50,13 @@ line-spec =
     (tie.spec
     Inv-loop
     μ-loop
-    lines-requires
-    loop-holds
-    mul-name
-    element-copy-out-name
-    same-aid-requires
-    add-i
-    loop-less
+    (λ c κs. search needs)
+    (λ c. search needs)
+    (λ c. search needs)
+    (λ c. search needs)
+    (λ c κs. search needs)
+    (λ c. search needs)
+    (λ c. search needs)
     loop-again
     returns
     returns-2)

@@ -36,17 +36,11 @@ add-byte-of c = omega arith
 shared-slice-read-byte-of-2 : tie.Need-shared-slice-read-byte-of-2 Inv-loop μ-loop
 shared-slice-read-byte-of-2 c = omega arith
 
-byte-of-requires : tie.Need-byte-of-requires Inv-loop μ-loop
-byte-of-requires c κs = search needs
-
 slice-write-out : tie.Need-slice-write-out Inv-loop μ-loop
 slice-write-out c = omega arith
 
 add-k : tie.Need-add-k Inv-loop μ-loop
 add-k c = omega arith
-
-loop-less : tie.Need-loop-less Inv-loop μ-loop
-loop-less c = search needs
 
 loop-again : tie.Need-loop-again Inv-loop μ-loop
 loop-again c = let l = c .before .before .before .before .loop in
@@ -70,10 +64,10 @@ spell-spec =
     mul-byte-of-2
     add-byte-of
     shared-slice-read-byte-of-2
-    byte-of-requires
+    (λ c κs. search needs)
     slice-write-out
     add-k
-    loop-less
+    (λ c. search needs)
     loop-again
     same-length
     returns)

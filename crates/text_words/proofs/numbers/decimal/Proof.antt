@@ -23,9 +23,6 @@ returns c = decimal-none _ _ (c .if1 .taken)
 loop-holds : tie.Need-loop-holds Inv-loop μ-loop
 loop-holds c = (omega arith, ap (digitsOn _ 0) (rest-all _) ∙ sym (decimal-some _ _ (c .if1 .left)))
 
-shared-slice-read-c : tie.Need-shared-slice-read-c Inv-loop μ-loop
-shared-slice-read-c c = search needs
-
 cast-c : tie.Need-cast-c Inv-loop μ-loop
 cast-c c = fits-8-64 (c .shared-slice-known .given _)
 
@@ -35,26 +32,11 @@ returns-2 c = digits-low _ _ _ _ _ (c .before .before .before .loop .inv .1) (om
 returns-3 : tie.Need-returns-3 Inv-loop μ-loop
 returns-3 c = digits-high _ _ _ _ _ (c .before .before .before .before .loop .inv .1) (omega arith) (omega arith) (omega arith)
 
-mul-next : tie.Need-mul-next Inv-loop μ-loop
-mul-next c = search needs
-
-add-next : tie.Need-add-next Inv-loop μ-loop
-add-next c = search needs
-
 returns-4 : tie.Need-returns-4 Inv-loop μ-loop
 returns-4 c = digits-much _ _ _ _ _ (c .before .before .before .before .before .loop .inv .1) (omega arith) (omega arith) (omega arith) (omega arith)
 
-add-i : tie.Need-add-i Inv-loop μ-loop
-add-i c = search needs
-
-loop-less : tie.Need-loop-less Inv-loop μ-loop
-loop-less c = search needs
-
 loop-again : tie.Need-loop-again Inv-loop μ-loop
 loop-again c = (omega arith, digits-next _ _ _ _ _ (c .before .before .before .before .before .loop .inv .1) (omega arith) (omega arith) (omega arith) (omega arith))
-
-cast-t16 : tie.Need-cast-t16 Inv-loop μ-loop
-cast-t16 c = search needs
 
 returns-5 : tie.Need-returns-5 Inv-loop μ-loop
 returns-5 c = digits-end _ _ _ _ _ (c .before .loop .inv .1) (omega arith)
@@ -67,15 +49,15 @@ decimal-spec =
     μ-loop
     returns
     loop-holds
-    shared-slice-read-c
+    (λ c. search needs)
     cast-c
     returns-2
     returns-3
-    mul-next
-    add-next
+    (λ c. search needs)
+    (λ c. search needs)
     returns-4
-    add-i
-    loop-less
+    (λ c. search needs)
+    (λ c. search needs)
     loop-again
-    cast-t16
+    (λ c. search needs)
     returns-5)

@@ -19,24 +19,12 @@ abbrev μ-loop : tie.MeasureT-loop
 loop-holds : tie.Need-loop-holds Inv-loop μ-loop
 loop-holds c = (omega arith, (omega arith, omega arith))
 
-next-word-requires : tie.Need-next-word-requires Inv-loop μ-loop
-next-word-requires c κs = search needs
-
-enum-known-to : tie.Need-enum-known-to Inv-loop μ-loop
-enum-known-to c = search needs
-
 enum-told : tie.Need-enum-told Inv-loop μ-loop
 enum-told c = search needs
 
 returns : tie.Need-returns Inv-loop μ-loop
 returns c = let q = sym (c .enum-told .given .1) ∙ c .before .before .next-word .ensures in
     let e = ap length (word-none _ _ q) in omega arith
-
-add-count : tie.Need-add-count Inv-loop μ-loop
-add-count c = search needs
-
-loop-less : tie.Need-loop-less Inv-loop μ-loop
-loop-less c = search needs
 
 loop-again : tie.Need-loop-again Inv-loop μ-loop
 loop-again c = let q = sym (c .before .to .given .1) ∙ c .before .before .before .next-word .ensures in
@@ -59,11 +47,11 @@ count-words-spec =
     Inv-loop
     μ-loop
     loop-holds
-    next-word-requires
-    enum-known-to
+    (λ c κs. search needs)
+    (λ c. search needs)
     enum-told
     returns
-    add-count
-    loop-less
+    (λ c. search needs)
+    (λ c. search needs)
     loop-again
     returns-2)

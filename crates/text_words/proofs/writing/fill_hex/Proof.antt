@@ -22,12 +22,6 @@ loop-holds : tie.Need-loop-holds Inv-loop μ-loop
 unfolding rest
 loop-holds c = (omega arith, (refl, simp unary-clauses refl))
 
-shared-slice-read-n : tie.Need-shared-slice-read-n Inv-loop μ-loop
-shared-slice-read-n c = search needs
-
-glyph-requires : tie.Need-glyph-requires Inv-loop μ-loop
-glyph-requires c κs = search needs
-
 mul-buf : tie.Need-mul-buf Inv-loop μ-loop
 mul-buf c = omega arith
 
@@ -36,9 +30,6 @@ add-buf c = omega arith
 
 slice-write-buf : tie.Need-slice-write-buf Inv-loop μ-loop
 slice-write-buf c = omega arith
-
-glyph-requires-2 : tie.Need-glyph-requires-2 Inv-loop μ-loop
-glyph-requires-2 c κs = search needs
 
 mul-buf-2 : tie.Need-mul-buf-2 Inv-loop μ-loop
 mul-buf-2 c = omega arith
@@ -54,9 +45,6 @@ slice-write-buf-2 c = simp length-set (omega arith)
 
 add-i : tie.Need-add-i Inv-loop μ-loop
 add-i c = omega arith
-
-loop-less : tie.Need-loop-less Inv-loop μ-loop
-loop-less c = search needs
 
 loop-again : tie.Need-loop-again Inv-loop μ-loop
 loop-again c = let l = c .before .before .before .before .loop in
@@ -75,18 +63,18 @@ fill-hex-spec =
     Inv-loop
     μ-loop
     loop-holds
-    shared-slice-read-n
-    glyph-requires
+    (λ c. search needs)
+    (λ c κs. search needs)
     mul-buf
     add-buf
     slice-write-buf
-    glyph-requires-2
+    (λ c κs. search needs)
     mul-buf-2
     add-buf-2
     add-buf-3
     slice-write-buf-2
     add-i
-    loop-less
+    (λ c. search needs)
     loop-again
     same-length
     returns)

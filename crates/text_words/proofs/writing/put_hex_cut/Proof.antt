@@ -19,18 +19,6 @@ abbrev μ-loop : tie.MeasureT-loop
 loop-holds : tie.Need-loop-holds Inv-loop μ-loop
 loop-holds c = (omega arith, writing-as _ (ap hexText (sym (rest-all _))) (writing-starts _ _ _))
 
-shared-slice-read-put-hex-8 : tie.Need-shared-slice-read-put-hex-8 Inv-loop μ-loop
-shared-slice-read-put-hex-8 c = search needs
-
-put-hex-8-requires : tie.Need-put-hex-8-requires Inv-loop μ-loop
-put-hex-8-requires c κs = search needs
-
-add-i : tie.Need-add-i Inv-loop μ-loop
-add-i c = search needs
-
-loop-less : tie.Need-loop-less Inv-loop μ-loop
-loop-less c = search needs
-
 loop-again : tie.Need-loop-again Inv-loop μ-loop
 unfolding hexText
 loop-again c = (omega arith, writing-goes _ (writing-as _ (ap hexText (rest-one _ _ (omega arith))) (c .before .before .before .before .before .before .loop .inv .1)) (c .before .before .put-hex-8 .ensures))
@@ -49,10 +37,10 @@ put-hex-cut-spec =
     Inv-loop
     μ-loop
     loop-holds
-    shared-slice-read-put-hex-8
-    put-hex-8-requires
-    add-i
-    loop-less
+    (λ c. search needs)
+    (λ c κs. search needs)
+    (λ c. search needs)
+    (λ c. search needs)
     loop-again
     same-length
     returns)
