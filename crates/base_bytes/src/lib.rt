@@ -1,11 +1,13 @@
 // Byte strings: their parts, two of them compared, numbers of two and four bytes, and bytes written into a lent buffer.
 // Every function is total, and its contract gives its whole answer and what it leaves in the buffer.
+#![tactic(auto)]
+
 ghost use Rattle.std.specs.Prelude.{◌≡◌, ◌∷◌, []};
 ghost use Rattle.base_bytes.specs.Bytes.{byte, pair_at, four_at, part_of, same_bytes};
 ghost use Rattle.base_bytes.specs.Put.{Wrote};
 
 // Bytes told by their place in a byte string: where the first stands, and how many there are.
-#[derive(Drop)]
+#[derive(Clone, Copy)]
 pub struct Part {
     pub start: usize,
     pub len: usize,

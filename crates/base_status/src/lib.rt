@@ -1,9 +1,11 @@
 // The status words of document 01, each a case of one enum, and their numbers.
 // The order of the cases is that of the table's rows; the two words of success stand last, 90 00 at the end, as in the paper.
+#![tactic(auto)]
+
 ghost use Rattle.std.specs.Prelude.{◌≡◌};
 ghost use Rattle.base_status.specs.StatusWords.{number_of, is_done};
 
-#[derive(Drop)]
+#[derive(Clone, Copy)]
 pub enum Status {
     Unsound,
     BufferShort,

@@ -1,5 +1,7 @@
 // One ISD-P as the card holds it: AID, life cycle, quota, used bytes, policy and mark, and the tests on it alone.
 // A place that is not held is the record of zeros; every function answers for every record, sound or not.
+#![tactic(auto)]
+
 ghost use Rattle.std.specs.Prelude.{◌≡◌, cond, ◌&&◌, ◌+◌, ◌≤◌, length, drop, leb, ltb, eqb};
 ghost use Rattle.card_isdp.specs.Sizes.{most_aid};
 ghost use Rattle.card_isdp.specs.Aids.{aid_ok, padded, named, no_aid, bytes_of};
@@ -11,14 +13,14 @@ ghost use Rattle.card_isdp.specs.Place.{vacant, made, is_for, zeros, life_ok, em
 use base_bytes::same;
 
 // An AID: its bytes with zeros after them, and its length; length 0 where there is none.
-#[derive(Drop)]
+#[derive(Clone, Copy)]
 pub struct Aid {
     pub bytes: [u8; 16],
     pub len: u8,
 }
 
 // The numbers stand first, so that a profile takes 28 bytes (decision B35). The mark is that of provisioning capability.
-#[derive(Drop)]
+#[derive(Clone, Copy)]
 pub struct Isdp {
     pub quota: u32,
     pub used: u32,

@@ -1,5 +1,7 @@
 // The card's places, searched and written over as a whole: nothing here knows of a phase or a command.
 // Every search answers for every record; a place's number is a byte, and past the last place it reads as a place that is not held.
+#![tactic(auto)]
+
 ghost use Rattle.std.specs.Prelude.{◌≡◌, ◌&&◌, ◌+◌, ◌<◌, set, drop, eqb};
 ghost use Rattle.card_isdp.specs.Aids.{aid_of};
 ghost use Rattle.card_isdp.specs.LifeCycle.{is_enabled};
@@ -14,7 +16,7 @@ pub const PLACES: usize = 32;
 // An AID's hash is below this.
 const HASHES: usize = 256;
 
-#[derive(Drop)]
+#[derive(Clone, Copy)]
 pub enum Found {
     At(u8),
     Nothing,

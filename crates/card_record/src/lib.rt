@@ -1,5 +1,7 @@
 // The card record, its phases, and what it hands out; its functions stand in the modules, which bear the names of the definitions' files.
 // Everything goes by value and answers for every record; that a record is sound is asked once, by `is_sound`, in the calls above.
+#![tactic(auto)]
+
 mod answers;
 mod cards;
 mod clock;
@@ -13,7 +15,7 @@ use base_status::Status;
 use card_isdp::{Aid, Isdp};
 use card_places::PLACES;
 
-#[derive(Drop)]
+#[derive(Clone, Copy)]
 pub enum Phase {
     Quiet,
     Trial { previous: u8, left: u8, number: u16 },
@@ -22,7 +24,7 @@ pub enum Phase {
 }
 
 // The record goes by value: its fields stand in an order that leaves no gaps (decision B35).
-#[derive(Drop)]
+#[derive(Clone, Copy)]
 pub struct Card {
     pub capacity: u32,
     pub volatile: u32,
@@ -36,7 +38,7 @@ pub struct Card {
     pub eid: [u8; 16],
 }
 
-#[derive(Drop)]
+#[derive(Clone, Copy)]
 pub enum Kind {
     Silent,
     Changed,
@@ -45,7 +47,7 @@ pub enum Kind {
 }
 
 // A notification as values; kind Silent with zeros is the one value for 'no notification'.
-#[derive(Drop)]
+#[derive(Clone, Copy)]
 pub struct Notification {
     pub kind: Kind,
     pub number: u16,
@@ -54,7 +56,7 @@ pub struct Notification {
 }
 
 // The card after a step, with what the step handed out: the notification, and the AID that a confirmation deleted (length 0: none).
-#[derive(Drop)]
+#[derive(Clone, Copy)]
 pub struct Step {
     pub card: Card,
     pub notification: Notification,
@@ -62,7 +64,7 @@ pub struct Step {
 }
 
 // What every call answers; `length` counts the response bytes, which stand in the caller's buffer.
-#[derive(Drop)]
+#[derive(Clone, Copy)]
 pub struct Answer {
     pub status: Status,
     pub card: Card,

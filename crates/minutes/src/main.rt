@@ -1,6 +1,8 @@
 // minutes: reports how many minutes each profile was enabled, from event files (docs/EVENTS.md). Its words are taken from left to right:
 // `explain`, what follows is written for a person; `-`, standard input is read as a file; any other names an event file (decision B52).
 // What a file means and what is written of it is proved below, in `month_account`; here only bytes are moved.
+#![tactic(auto)]
+
 ghost use Rattle.std.specs.Prelude.{◌≤◌, length};
 
 use base_bytes::same;
@@ -16,7 +18,7 @@ const FILE: usize = MOST_FILE + 1;
 const OUT: usize = 8192;
 
 // How many bytes were read, and whether no read failed.
-#[derive(Drop)]
+#[derive(Clone, Copy)]
 struct Taken {
     filled: usize,
     whole: bool,
@@ -74,7 +76,7 @@ fn tell(fd: i32, explain: bool) {
 }
 
 // What the words before a file ask of its report, and whether a file was named.
-#[derive(Drop)]
+#[derive(Clone, Copy)]
 struct Options {
     explain: bool,
     named: bool,

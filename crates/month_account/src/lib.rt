@@ -1,5 +1,7 @@
 // The account of an event file: its report, or by which name it is refused (docs/EVENTS.md).
 // Every byte string is answered, in every buffer: what does not fit is dropped.
+#![tactic(auto)]
+
 mod refusals;
 
 ghost use Rattle.std.specs.Prelude.{◌≤◌, length};

@@ -1,5 +1,7 @@
 // The contents of an event file: which sections it lists, and whether their bodies lie end to end (docs/EVENTS.md, 'The file').
 // Every function answers for every byte string. What a body holds is not asked here.
+#![tactic(auto)]
+
 ghost use Rattle.std.specs.Prelude.{◌≡◌};
 ghost use Rattle.month_contents.specs.Below.{some_below};
 ghost use Rattle.month_contents.specs.Contents.{is_known, sections, entry_at, kind_at, start_at, body_length, stop_at, contents_end, same_kind, kind_wrong, apart, overlap, body_wrong, not_filled, contents_wrong, section_of};
@@ -15,7 +17,7 @@ pub const FRESH: u32 = 1;
 pub const EVENTS: u32 = 2;
 
 // A section of the file: where its body lies, or that the contents do not list it.
-#[derive(Drop)]
+#[derive(Clone, Copy)]
 pub enum Section {
     Body(Part),
     Missing,

@@ -1,5 +1,7 @@
 // A month counted: the events of a file run through the manager, a tick for the profile that was enabled before it (docs/EVENTS.md).
 // Soundness is made by fresh and kept by every call, so it is not asked at any event (decision B49).
+#![tactic(auto)]
+
 ghost use Rattle.std.specs.Prelude.{◌≡◌, [], cond};
 ghost use Rattle.base_status.specs.StatusWords.{is_done};
 ghost use Rattle.rule_run.specs.Runs.{is_tick};
@@ -18,7 +20,7 @@ use month_tally::{MINUTES, Names, Tally};
 use record_door::{Call, LEAST_BUFFER, answer_on_sound};
 
 // The verdict on a file and its tally; the minutes stand in lent memory.
-#[derive(Drop)]
+#[derive(Clone, Copy)]
 pub struct Month {
     pub verdict: Verdict,
     pub tally: Tally,

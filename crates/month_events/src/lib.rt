@@ -1,5 +1,7 @@
 // The events of an event file: their kinds, what is wrong with them, and the manager's call that each is (docs/EVENTS.md, 'The file').
 // Every function answers for every byte string. Nothing is run here.
+#![tactic(auto)]
+
 ghost use Rattle.std.specs.Prelude.{◌≡◌, ◌+◌, ◌≤◌, ◌<◌, length};
 ghost use Rattle.base_bytes.specs.Bytes.{between};
 ghost use Rattle.month_events.specs.Kinds.{kind_of, is_unknown, speaker_size, event_length_wrong};
@@ -8,7 +10,7 @@ ghost use Rattle.month_events.specs.Events.{call_over, checked_of, head_size, ne
 use base_bytes::{Part, byte_at, read_four, read_pair};
 use record_door::Call;
 
-#[derive(Drop)]
+#[derive(Clone, Copy)]
 pub enum Kind {
     Command,
     Keyed,
@@ -23,7 +25,7 @@ pub enum Kind {
 }
 
 // What a walk over all events finds; of several faults the first of this list.
-#[derive(Drop)]
+#[derive(Clone, Copy)]
 pub enum Checked {
     CutShort,
     UnknownKind,
@@ -32,7 +34,7 @@ pub enum Checked {
 }
 
 // The event at a place, as the manager's call over the same bytes, and the place after it.
-#[derive(Drop)]
+#[derive(Clone, Copy)]
 pub enum Next {
     Event { call: Call, stop: usize },
     End,

@@ -1,5 +1,7 @@
 // An event file opened: refused by name, or the fresh card that it makes and where its events lie (docs/EVENTS.md, 'What is refused').
 // Every byte string is answered, and no event is run here.
+#![tactic(auto)]
+
 ghost use Rattle.std.specs.Prelude.{◌≡◌};
 ghost use Rattle.card_record.specs.Answers.{as_answer};
 ghost use Rattle.month_file.specs.Inputs.{fresh_answer};
@@ -10,7 +12,7 @@ use card_record::{Answer, Card};
 use month_contents::{EVENTS, FRESH, Section, contents_wrong, section_of};
 use month_events::{Checked, check_events};
 
-#[derive(Drop)]
+#[derive(Clone, Copy)]
 pub enum Refusal {
     ContentsWrong,
     SectionMissing,
@@ -20,14 +22,14 @@ pub enum Refusal {
     WrongLength,
 }
 
-#[derive(Drop)]
+#[derive(Clone, Copy)]
 pub enum Verdict {
     Accepted,
     Refused(Refusal),
 }
 
 // The fresh card and the events' body; of a refused file the record of zeros and no bytes.
-#[derive(Drop)]
+#[derive(Clone, Copy)]
 pub struct Opened {
     pub verdict: Verdict,
     pub card: Card,

@@ -1,5 +1,7 @@
 // The text of a report, plain or for a person, written into a lent buffer (docs/EVENTS.md).
 // Every function answers for every record and every buffer: what does not fit is dropped, as the writers of `text_words` do.
+#![tactic(auto)]
+
 mod cells;
 
 ghost use Rattle.std.specs.Prelude.{◌*◌, ◌≤◌, length};

@@ -1,5 +1,7 @@
 // The lines of a report: which AIDs have one, and the minutes on each (docs/EVENTS.md, 'The report').
 // Every function answers for every record; no card and no event is known here.
+#![tactic(auto)]
+
 ghost use Rattle.std.specs.Prelude.{◌≡◌, ◌≤◌, length};
 ghost use Rattle.month_tally.specs.Lines.{most_lines, same_aid, aids_in, line_of, no_names, noted};
 
@@ -14,7 +16,7 @@ pub const MINUTES: usize = LINES + 1;
 
 // The AIDs that have a line, `count` of them, in the order in which each was first enabled; no AIDs after them. Whether there is one
 // more, which shares the line of the rest.
-#[derive(Drop)]
+#[derive(Clone, Copy)]
 pub struct Names {
     pub aids: [Aid; LINES],
     pub count: u8,
@@ -22,7 +24,7 @@ pub struct Names {
 }
 
 // What a report tells beside the minutes, which stand in lent memory (decision B51).
-#[derive(Drop)]
+#[derive(Clone, Copy)]
 pub struct Tally {
     pub names: Names,
     pub ticks: u32,

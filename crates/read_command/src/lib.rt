@@ -1,4 +1,6 @@
 // Reading a command: from a byte string of any length to a request, or to the word of its refusal.
+#![tactic(auto)]
+
 ghost use Rattle.std.specs.Prelude.{◌≡◌};
 ghost use Rattle.read_command.specs.Requests.{field_of};
 ghost use Rattle.read_command.specs.Reading.{read_of, reading_word};
@@ -13,7 +15,7 @@ use read_frame::{
 };
 use read_install::read_install;
 
-#[derive(Drop)]
+#[derive(Clone, Copy)]
 pub enum Reading {
     Read(Request),
     Refused(Status),

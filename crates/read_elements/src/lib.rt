@@ -1,13 +1,15 @@
 // Document 01, 'Reading a command': "Elements fill their list exactly and come in the order of the table".
 // A reader holds the data field and a position in it. Each function over it takes it apart and leaves the work to a function on the
 // slice and the number; `next_element` and `last_element` have plain parameters, so that their callers know no reader.
+#![tactic(auto)]
+
 ghost use Rattle.std.specs.Prelude.{◌≡◌, length};
 ghost use Rattle.read_tlv.specs.Tlv.{expect_at};
 ghost use Rattle.read_elements.specs.Reader.{next_at, end_at, past_of, filled_of, alone_at};
 
 use read_tlv::{Element, expect};
 
-#[derive(Drop)]
+#[derive(Clone, Copy)]
 pub struct Reader<'a> {
     data: &'a [u8],
     at: usize,

@@ -1,6 +1,7 @@
 // The data fields of STORE DATA, DELETE and GET STATUS. Every function reads a window of the whole command, from `at` up to `end`;
 // one that does not lie in it is wrong. A data field is first read as a list of elements, then in the table's order; an AID is handed on
 // as its place in the command.
+#![tactic(auto)]
 
 mod request;
 
@@ -15,7 +16,7 @@ use read_tlv::{Element, TagRead, list_wrong, read_tag};
 pub use request::{Field, Request};
 
 // A DGI that fills the window: its number, and where its contents start.
-#[derive(Drop)]
+#[derive(Clone, Copy)]
 pub enum Dgi {
     Found { dgi: u16, start: usize },
     Wrong,
@@ -98,7 +99,7 @@ pub fn read_store_data(s: &[u8], at: usize, end: usize) -> Field
     Field::Wrong
 }
 
-#[derive(Drop)]
+#[derive(Clone, Copy)]
 pub enum Verification {
     Filled,
     Wrong,
@@ -167,7 +168,7 @@ pub fn read_deletion(s: &[u8], at: usize, end: usize) -> Field
 }
 
 // Which of the two optional tags a row of the answer shows.
-#[derive(Drop)]
+#[derive(Clone, Copy)]
 pub enum Tags {
     Shown { life: bool, fall_back: bool },
     Wrong,

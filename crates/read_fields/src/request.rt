@@ -1,7 +1,7 @@
 // What a command asks for. An AID is handed on as its place in the command.
 use base_bytes::Part;
 
-#[derive(Drop)]
+#[derive(Clone, Copy)]
 pub enum Request {
     Create {
         aid: Part,
@@ -29,7 +29,7 @@ pub enum Request {
 }
 
 // What is read of a data field.
-#[derive(Drop)]
+#[derive(Clone, Copy)]
 pub enum Field {
     Found(Request),
     Wrong,

@@ -1,5 +1,7 @@
 // The rows of the table that a command meets before its data field is read. Each takes the whole string, of any length;
 // a byte that is not there reads as 00, so that a row can be asked whatever the rows before it say.
+#![tactic(auto)]
+
 ghost use Rattle.std.specs.Prelude.{◌≡◌};
 ghost use Rattle.read_frame.specs.Framing.{length_wrong, class_right, class_wrong, instruction_wrong, parameters_right, parameters_wrong, data_end, shape_wrong};
 

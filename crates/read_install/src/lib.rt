@@ -1,5 +1,7 @@
 // Create's data field: GP's INSTALL, six fields each after its length, of which the ISD-P's AID and the quota are handed on.
 // Every function reads a window of the whole command, from `at` up to `end`; one that does not lie in it is wrong.
+#![tactic(auto)]
+
 ghost use Rattle.std.specs.Prelude.{◌≡◌, ◌+◌, ◌≤◌, length};
 ghost use Rattle.read_install.specs.Parameters.{protocols_at, number_at, grant_of, memory_at, parameters_at};
 ghost use Rattle.read_install.specs.Install.{prefixed_at, names_at, rights_at, install_of};
@@ -9,7 +11,7 @@ use read_elements::{last_element, next_element};
 use read_fields::{Field, Request};
 use read_tlv::{Element, LengthRead, list_wrong, read_length};
 
-#[derive(Drop)]
+#[derive(Clone, Copy)]
 enum Protocols {
     Listed,
     Wrong,
@@ -39,7 +41,7 @@ fn read_number(s: &[u8], start: usize, count: usize) -> u32
     read_four(s, start)
 }
 
-#[derive(Drop)]
+#[derive(Clone, Copy)]
 enum Quota {
     Granted(u32),
     Wrong,

@@ -1,5 +1,7 @@
 // Reading a policy update, the one command that an operator's domain is sent (000, 4.1.2.1): from a byte string of any length to the
 // policy that it brings, or to the word of its refusal. Whether that policy is legal and who speaks is not asked here.
+#![tactic(auto)]
+
 ghost use Rattle.std.specs.Prelude.{◌≡◌};
 ghost use Rattle.read_operator.specs.Field.{policy_at, policy_of};
 ghost use Rattle.read_operator.specs.Reading.{not_store_data, update_of, update_word};
@@ -12,13 +14,13 @@ use read_frame::{STORE_DATA, class_wrong, data_end, length_wrong, parameters_wro
 use read_tlv::{Element, list_wrong};
 
 // What is read of the data field.
-#[derive(Drop)]
+#[derive(Clone, Copy)]
 pub enum Policy {
     Found(u8),
     Wrong,
 }
 
-#[derive(Drop)]
+#[derive(Clone, Copy)]
 pub enum Update {
     Read(u8),
     Refused(Status),

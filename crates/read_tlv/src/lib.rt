@@ -1,11 +1,13 @@
 // Document 01, 'Reading a command': tags, lengths, elements and lists of elements, read in a window of a slice.
 // A window is the bytes from `at` up to `end`; one that does not lie in the slice holds nothing and is wrong.
+#![tactic(auto)]
+
 ghost use Rattle.std.specs.Prelude.{◌≡◌, ℕ, ◌≤◌};
 ghost use Rattle.read_tlv.specs.Tlv.{tag_at, length_at, head_at, expect_at};
 ghost use Rattle.read_tlv.specs.Lists.{list_at, element_at, list_wrong};
 
 // The tag's number is its one byte, or its two bytes, high byte first; `next` is the place after it.
-#[derive(Drop)]
+#[derive(Clone, Copy)]
 pub enum TagRead {
     Tag {
         tag: u16,
@@ -50,7 +52,7 @@ pub fn read_tag(s: &[u8], at: usize, end: usize) -> TagRead
     }
 }
 
-#[derive(Drop)]
+#[derive(Clone, Copy)]
 pub enum LengthRead {
     Length { count: usize, next: usize },
     Wrong,
@@ -91,7 +93,7 @@ pub fn read_length(s: &[u8], at: usize, end: usize) -> LengthRead
 }
 
 // The value stands from `start` up to `stop`, which is the place after the element.
-#[derive(Drop)]
+#[derive(Clone, Copy)]
 pub enum HeadRead {
     Head {
         tag: u16,
@@ -129,7 +131,7 @@ pub fn read_head(s: &[u8], at: usize, end: usize) -> HeadRead
     }
 }
 
-#[derive(Drop)]
+#[derive(Clone, Copy)]
 pub enum Element {
     Found { start: usize, stop: usize },
     Wrong,
@@ -161,13 +163,13 @@ pub fn expect(s: &[u8], at: usize, end: usize, tag: u16, low: usize, high: usize
     Element::Found { start, stop }
 }
 
-#[derive(Drop)]
+#[derive(Clone, Copy)]
 enum ElementRead {
     Next(usize),
     Wrong,
 }
 
-#[derive(Drop)]
+#[derive(Clone, Copy)]
 pub enum ListRead {
     Filled,
     Wrong,

@@ -1,5 +1,7 @@
 // Reads lines of one hex word, each a command (`-` is the empty one), and writes how it is read with a capacity of 1000: the request, or
 // the word of its refusal. Empty lines and lines that begin with `#` are passed over.
+#![tactic(auto)]
+
 use base_bytes::{Part, part_of, put_byte, put_bytes};
 use libc::{STDIN_FILENO, STDOUT_FILENO};
 use read_command::{Reading, Request};

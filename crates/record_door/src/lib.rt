@@ -1,5 +1,7 @@
 // The manager of the root domain: one door for every call, answered whole. What each call does stands in `record_calls`.
 // `answer` asks first whether the card is sound; `answer_on_sound` is the same for a card known to be, for runs of many calls (decision B10).
+#![tactic(auto)]
+
 ghost use Rattle.std.specs.Prelude.{◌≡◌, ◌≤◌, length};
 ghost use Rattle.card_record.specs.Answers.{as_answer, outcome_on_sound};
 ghost use Rattle.card_record.specs.Fresh.{fresh_outcome};
@@ -16,7 +18,7 @@ use read_command::{Reading, Request, read};
 use read_operator::Update;
 
 // A call over the bytes that it came in: each part names some of them (decisions B15, B16, B32).
-#[derive(Drop)]
+#[derive(Clone, Copy)]
 pub enum Call {
     // with the token verdict
     Command { verdict: u8, bytes: Part },

@@ -1,5 +1,7 @@
 // The responses of the commands, written into a lent buffer from a place on; each answers the place after what it wrote.
 // Every function answers for every record and every buffer: what does not fit is dropped, as the writers of `base_bytes` do.
+#![tactic(auto)]
+
 ghost use Rattle.std.specs.Prelude.{◌≡◌, cond, ◌+◌, ◌≤◌, length};
 ghost use Rattle.base_bytes.specs.Bytes.{four_bytes};
 ghost use Rattle.base_bytes.specs.Put.{Wrote};
@@ -132,7 +134,7 @@ fn row_size(p: Isdp, life: bool, fallback: bool) -> usize
 }
 
 // A part of a listing as it was written: where it ends, and the place from which the next one goes on.
-#[derive(Drop)]
+#[derive(Clone, Copy)]
 pub struct Given {
     pub end: usize,
     pub left: u8,
@@ -217,7 +219,7 @@ fn write_data(card: Card, buf: &mut [u8], at: usize) -> usize
 }
 
 // What a command asks that has one response, whatever was given before.
-#[derive(Drop)]
+#[derive(Clone, Copy)]
 pub enum Information {
     One {
         place: u8,

@@ -1,4 +1,6 @@
 // What a line of a script means: the order that it gives, by its first word, or what is wrong with it. Every function answers for every line.
+#![tactic(auto)]
+
 ghost use Rattle.std.specs.Prelude.{◌≡◌};
 ghost use Rattle.script_line.specs.Orders.{verb_of, words_counted, inner, value_or, sent_at, fresh_with, fresh_at, command_at, keyed_at, stored_at, finished_at, policy_line_at, order_by, order_of};
 
@@ -10,7 +12,7 @@ use text_lines::LONGEST;
 use text_words::{Word, count_words, next_word};
 
 // A byte string stays in the line, where a part names the word that spells it: an enum holds no array.
-#[derive(Drop)]
+#[derive(Clone, Copy)]
 pub enum Order {
     Nothing,
     Fresh {
@@ -37,7 +39,7 @@ pub const MOST_ROOM: usize = 1024;
 // The words of a `card` line: nine, and one for each place.
 const RECORD: usize = 9 + Card::PLACES;
 
-#[derive(Drop)]
+#[derive(Clone, Copy)]
 pub enum Verb {
     Fresh,
     Command,
@@ -155,7 +157,7 @@ fn next_or(missing: u32, most: u32, s: &[u8], at: usize) -> Value
 }
 
 // A command as it was sent, and the length of the response buffer lent to it.
-#[derive(Drop)]
+#[derive(Clone, Copy)]
 pub enum Sent {
     Is { bytes: Part, room: usize },
     Wrong(Reason),

@@ -9,7 +9,7 @@ use script_words::MOST_NUMBER;
 use text_words::{Byte, HexRead, Number, Word, decimal, hex_byte, next_field, read_hex};
 
 // `next` is the place of the field after it.
-#[derive(Drop)]
+#[derive(Clone, Copy)]
 pub enum Field {
     Is { n: u32, next: usize },
     Wrong,
@@ -27,7 +27,7 @@ fn next_number(w: &[u8], at: usize, most: u32) -> Field
     Field::Is { n, next: to + 1 }
 }
 
-#[derive(Drop)]
+#[derive(Clone, Copy)]
 pub enum Open {
     Is { left: u8, number: u16 },
     Wrong,
@@ -52,7 +52,7 @@ fn open_at(w: &[u8], at: usize) -> Open
     }
 }
 
-#[derive(Drop)]
+#[derive(Clone, Copy)]
 pub enum Phased {
     Is(Phase),
     Wrong,
@@ -99,7 +99,7 @@ pub fn read_phase(w: &[u8]) -> Phased
     Phased::Wrong
 }
 
-#[derive(Drop)]
+#[derive(Clone, Copy)]
 pub enum Sizes {
     Are {
         quota: u32,
@@ -138,7 +138,7 @@ fn sizes_at(w: &[u8], at: usize) -> Sizes
 }
 
 // An enum holds no array, so the answer stands beside the place.
-#[derive(Drop)]
+#[derive(Clone, Copy)]
 pub struct Placed {
     pub ok: bool,
     pub place: Isdp,

@@ -1,5 +1,7 @@
 // The record that a `card` line hands in, sound or not (docs/SCRIPT.md, 'The lines').
 // Every function answers for every line: the first word that is wrong gives the reason.
+#![tactic(auto)]
+
 mod colons;
 
 ghost use Rattle.std.specs.Prelude.{◌≡◌, []};
@@ -13,7 +15,7 @@ use colons::{Phased, read_phase, read_place};
 use script_words::{MOST_NUMBER, Reason, Value, next_value};
 use text_words::{HexRead, Number, Word, decimal, next_word, read_hex};
 
-#[derive(Drop)]
+#[derive(Clone, Copy)]
 pub enum PhaseRead {
     Is { phase: Phase, next: usize },
     Wrong(Reason),
@@ -54,7 +56,7 @@ fn next_kept(s: &[u8], at: usize) -> Value
 }
 
 // The change and the listing that are open.
-#[derive(Drop)]
+#[derive(Clone, Copy)]
 pub enum Pending {
     Is { phase: Phase, kept: u8, next: usize },
     Wrong(Reason),
@@ -77,7 +79,7 @@ fn pending_at(s: &[u8], at: usize) -> Pending
 }
 
 // The figures of the card's memory, which stand after the EID.
-#[derive(Drop)]
+#[derive(Clone, Copy)]
 pub enum Memory {
     Is {
         capacity: u32,
@@ -115,7 +117,7 @@ fn record_memory_at(s: &[u8], at: usize) -> Memory
 }
 
 // What stands between the EID and the places.
-#[derive(Drop)]
+#[derive(Clone, Copy)]
 pub enum Head {
     Is {
         capacity: u32,
@@ -165,13 +167,13 @@ fn record_head_at(s: &[u8], at: usize) -> Head
     }
 }
 
-#[derive(Drop)]
+#[derive(Clone, Copy)]
 pub enum Reading {
     Fine,
     Wrong(Reason),
 }
 
-#[derive(Drop)]
+#[derive(Clone, Copy)]
 pub struct Held {
     pub reading: Reading,
     pub places: [Isdp; Card::PLACES],
@@ -215,7 +217,7 @@ fn read_places(s: &[u8], start: usize) -> Held
 }
 
 // The card is the record of zeros where the line is wrong.
-#[derive(Drop)]
+#[derive(Clone, Copy)]
 pub struct Record {
     pub reading: Reading,
     pub card: Card,

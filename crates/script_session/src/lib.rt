@@ -1,5 +1,7 @@
 // A session with a script: a line in, its answer out. Nothing here reads or writes a file.
 // A line that cannot be read stops the run; every other line is answered, whatever it asks.
+#![tactic(auto)]
+
 mod reasons;
 
 ghost use Rattle.std.specs.Prelude.{◌≡◌, true, false, [], ◌+◌, ◌*◌, ◌≤◌, length};
@@ -31,7 +33,7 @@ use text_words::spell_hex;
 // Where a session stands: its card, whether that card is known to be sound, up to where the lent buffer is filled, and whether the run
 // goes on. Soundness is asked where a card is handed in, and kept: every call leaves a sound card sound. Where it is not known, each
 // call asks for itself (decision B29).
-#[derive(Drop)]
+#[derive(Clone, Copy)]
 pub struct Turn {
     pub card: Card,
     pub sound: bool,

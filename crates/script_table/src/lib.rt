@@ -1,5 +1,7 @@
 // The profiles of a card as a table: a head, and a row for each place held.
 // Every function answers for every record and every buffer: what does not fit is dropped, as the writers of `text_words` do.
+#![tactic(auto)]
+
 mod cells;
 
 ghost use Rattle.std.specs.Prelude.{◌≡◌, ◌-◌, ◌*◌, ◌≤◌, length};

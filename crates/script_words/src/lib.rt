@@ -1,5 +1,7 @@
 // The words of a line after its first: the next one as a byte string or as a number, and what is wrong with a line.
 // Every function answers for every line and every place in it.
+#![tactic(auto)]
+
 ghost use Rattle.std.specs.Prelude.{◌≡◌};
 ghost use Rattle.script_words.specs.Arguments.{bytes_at, value_at};
 
@@ -7,7 +9,7 @@ use base_bytes::Part;
 use text_words::{Number, Word, decimal, is_hex, next_word};
 
 // What is wrong with a line.
-#[derive(Drop)]
+#[derive(Clone, Copy)]
 pub enum Reason {
     TooLong,
     UnknownWord,
@@ -23,13 +25,13 @@ pub enum Reason {
 pub const MOST_NUMBER: u32 = 4294967295;
 
 // The part of the line that spells a byte string; `next` is the place after it.
-#[derive(Drop)]
+#[derive(Clone, Copy)]
 pub enum Bytes {
     Is { part: Part, next: usize },
     Wrong(Reason),
 }
 
-#[derive(Drop)]
+#[derive(Clone, Copy)]
 pub enum Value {
     Is { n: u32, next: usize },
     Wrong(Reason),

@@ -2,6 +2,8 @@
 // and written out before the program waits for more. Its words are taken from left to right: `explain`, what follows is written for a
 // person; `ask`, every call asks whether the card is sound; `-`, standard input is run; any other names a script's file, which is run.
 // What a line means and what is written of it is proved below, in `script_session`; here only bytes are moved.
+#![tactic(auto)]
+
 ghost use Rattle.std.specs.Prelude.{◌≡◌, ◌+◌, ◌≤◌, ◌<◌, length};
 ghost use Rattle.script_reply.specs.Replies.{most_text};
 
@@ -18,7 +20,7 @@ const OUT: usize = 32768;
 
 const ANSWER: usize = 16384;
 
-#[derive(Drop)]
+#[derive(Clone, Copy)]
 struct State {
     window: Window,
     number: u64,
@@ -28,7 +30,7 @@ struct State {
 
 // The next line, by its place in the window, and how much of the output is still to be written. A step that found none has the empty
 // line, which asks nothing.
-#[derive(Drop)]
+#[derive(Clone, Copy)]
 struct Step {
     state: State,
     from: usize,
@@ -144,7 +146,7 @@ fn seek(state: State, fd: i32, buf: &mut [u8], out: &[u8], filled: usize) -> Ste
 }
 
 // What the words before a script ask of its run, and whether a script was named.
-#[derive(Drop)]
+#[derive(Clone, Copy)]
 struct Options {
     explain: bool,
     ask: bool,

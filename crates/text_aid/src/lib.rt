@@ -1,5 +1,7 @@
 // An AID as text: the one writer that the card's table, the answers and the month's report share. It stands apart, since `text_words`
 // knows of no card, and a card of no text.
+#![tactic(auto)]
+
 ghost use Rattle.base_bytes.specs.Put.{Wrote};
 ghost use Rattle.text_aid.specs.AidText.{aid_text};
 

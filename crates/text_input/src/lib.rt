@@ -1,10 +1,12 @@
 // Reads from a descriptor into a window of lines. A read that failed is told from the end of the input (decision B27).
+#![tactic(auto)]
+
 ghost use Rattle.std.specs.Prelude.{◌≡◌};
 ghost use Rattle.text_input.specs.Filled.{arrival_of, FilledFrom};
 
 use text_lines::Window;
 
-#[derive(Drop)]
+#[derive(Clone, Copy)]
 pub enum Arrival {
     Bytes,
     End,
@@ -12,7 +14,7 @@ pub enum Arrival {
     Full,
 }
 
-#[derive(Drop)]
+#[derive(Clone, Copy)]
 pub struct Filled {
     pub window: Window,
     pub arrival: Arrival,

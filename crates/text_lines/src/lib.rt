@@ -1,5 +1,7 @@
 // Lines put together from reads of any size, in a window: a lent buffer of which a part is not handed out yet. A line is handed out
 // where it lies, as soon as its end has arrived; one of more than 4,096 bytes is told as too long, and passed over.
+#![tactic(auto)]
+
 ghost use Rattle.std.specs.Prelude.{◌≡◌, ◌≤◌, min, length};
 ghost use Rattle.base_bytes.specs.Put.{put};
 ghost use Rattle.text_lines.specs.Window.{fresh_window, found_line, none_left, unended, line_from, step_from, next_line, held_of, moved_down, grown_of};
@@ -12,7 +14,7 @@ pub const LONGEST: usize = 4096;
 
 // Where a reader stands: the bytes from `at` up to `end` are not handed out yet. Those up to the next line end belong to a line
 // that was told as too long where `skipping` is set.
-#[derive(Drop)]
+#[derive(Clone, Copy)]
 pub struct Window {
     pub at: usize,
     pub end: usize,
@@ -20,7 +22,7 @@ pub struct Window {
 }
 
 // A line is told by its place in the window, without its line end.
-#[derive(Drop)]
+#[derive(Clone, Copy)]
 pub enum Found {
     Line { from: usize, to: usize },
     TooLong,
@@ -28,7 +30,7 @@ pub enum Found {
     End,
 }
 
-#[derive(Drop)]
+#[derive(Clone, Copy)]
 pub struct Step {
     pub window: Window,
     pub found: Found,

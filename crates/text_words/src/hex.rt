@@ -38,7 +38,7 @@ fn byte_of(a: u8, b: u8) -> u8
     high * 16 + low
 }
 
-#[derive(Drop)]
+#[derive(Clone, Copy)]
 pub enum Byte {
     Value(u8),
     Wrong,
@@ -119,7 +119,7 @@ pub fn spell_hex(s: &[u8], out: &mut [u8]) -> usize
     n
 }
 
-#[derive(Drop)]
+#[derive(Clone, Copy)]
 pub enum HexRead {
     Bytes(usize),
     NoRoom,

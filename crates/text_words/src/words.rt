@@ -31,7 +31,7 @@ pub fn past(s: &[u8], at: usize, b: u8) -> usize
 }
 
 // A word or a field is told by its place: `from` up to, and without, `to`.
-#[derive(Drop)]
+#[derive(Clone, Copy)]
 pub enum Word {
     Span { from: usize, to: usize },
     End,

@@ -10,7 +10,7 @@ use base_bytes::{Part, part_of, put_byte, put_bytes};
 
 // A word of a text that holds several one after the other: where it starts, and how many bytes it has. A value that has a word is told
 // by its piece, so that one writer serves all values of its type.
-#[derive(Drop)]
+#[derive(Clone, Copy)]
 pub struct Piece(pub usize, pub usize);
 
 pub fn put_piece(buf: &mut [u8], at: usize, text: &[u8], piece: Piece) -> usize
