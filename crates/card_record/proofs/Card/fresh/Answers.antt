@@ -1,0 +1,22 @@
+-- `Card::fresh`: both figures of ticks are 0, since both cards are Quiet.
+use mathlib.Core.Path.{refl, sym, ◌∙◌}
+use borrow.Author.Tests.{eqb-true}
+use lib.ListN.{length}
+use Rattle.base_status.specs.Rows.{word_of}
+use Rattle.card_record.specs.Sound.{sound}
+use Rattle.card_record.specs.Ticks.{steps_in, ticks_to_come, ticks_by_phase}
+use Rattle.card_record.specs.Answers.{refused, accepted}
+use Rattle.card_record.specs.Fresh.{fresh_outcome}
+use Rattle.card_isdp.proofs.Bools.{and_l}
+use Rattle.card_record.proofs.Card.fresh.Goals as goal
+
+pub returns-then-not-fresh_ok : goal.returns-then-not-fresh_ok
+unfolding fresh_outcome refused word_of ticks_by_phase sound
+returns-then-not-fresh_ok c = rw (sym c.fresh_ok.ensures ∙ c.if-not-fresh_ok.true) (rw (c.refused.ensures, c.zero-zero.ensures))
+
+pub fresh_card-card-requires : goal.fresh_card-card-requires
+fresh_card-card-requires c = eqb-true (length c.args.eid.now) 16 (and_l _ _ (sym c.fresh_ok.ensures ∙ c.if-not-fresh_ok.false))
+
+pub returns : goal.returns
+unfolding fresh_outcome accepted word_of ticks_to_come steps_in ticks_by_phase
+returns c = rw (sym c.fresh_ok.ensures ∙ c.if-not-fresh_ok.false) (c.answer.ensures ∙ rw c.step_since.ensures (rw c.fresh_card-card.ensures (rw c.zero-zero.ensures refl)))
