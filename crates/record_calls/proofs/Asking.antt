@@ -35,8 +35,8 @@ use Rattle.record_calls.specs.Into.{AnsweredInto}
 use Rattle.record_calls.proofs.Accepted.{accepts, silent-accepts, silent-into}
 
 -- a test that the code asks by `if !b`
-pub asks : {test b v : Bool} → b ≡ test → not b ≡ v → not test ≡ v
-asks e n = ap not (sym e) ∙ n
+pub asks : {test b v : Bool} → b ≡ test → b ≡ v → not test ≡ not v
+asks e n = ap not (sym e ∙ n)
 
 -- the row of the change is passed, and the AID stands at place t
 pub record Aimed (c : Card) (aid : List ℕ) (act : Act) (t : ℕ) : Type 0 where
