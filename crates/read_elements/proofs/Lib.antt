@@ -1,5 +1,3 @@
--- What the walks by hand share, the law by which a reader's answers are the only element, and the laws of an element alone.
-pub mod Held
-pub mod Asks
+-- The law by which a reader's answers are the only element, and the laws of an element alone.
 pub mod Only
 pub mod Alone

@@ -10,7 +10,7 @@ use lib.Seq.{get_or-append_seam, length-take-le, drop-cons}
 use lib.Dec.{eqb}
 use borrow.Author.Tests.{eq-eqb, ne_eqb, eqb-true, eqb-false, not-true}
 use Rattle.base_bytes.specs.Bytes.{byte}
-use Rattle.read_frame.specs.Framing.{shape_right, is_filled, data_end}
+use Rattle.read_frame.specs.Framing.{shape_right, is_filled}
 use Rattle.read_frame.specs.Frame.{le_of, framed, data_field, has_le}
 
 -- a place past the header, counted from there
