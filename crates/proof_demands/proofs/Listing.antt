@@ -156,6 +156,7 @@ record Held (life shown next : Bool) (c : Card) (calls : List Call) : Type 0 whe
 
 joins : (life shown next : Bool) (c : Card) (calls : List Call) → sound c ≡ true → Whole step (Lists life shown) next c calls → Held life shown next c calls
 unfolding joined parts_among
+joins life shown next c [] e x = elim x [ ]
 joins life shown next c (call ∷ []) e (ends l d) =
     let done : is_done (step c call).status ≡ true = ap is_done d in
     let left = goes_on_at c next life shown in
