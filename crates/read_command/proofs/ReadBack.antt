@@ -17,7 +17,7 @@ use Rattle.read_fields.proofs.DeletionGrammar.{deletion-back}
 use Rattle.read_fields.proofs.ListingGrammar.{listing-back}
 use Rattle.read_install.specs.Grammar.{EncodesCreated}
 use Rattle.read_install.proofs.ReadBack.{install-back}
-use Rattle.read_frame.specs.Framing.{length_wrong, class_right, class_wrong, instruction_wrong, parameters_right, parameters_wrong, shape_right, shape_wrong, data_end}
+use Rattle.read_frame.specs.Framing.{length_wrong, class_wrong, instruction_wrong, parameters_right, parameters_wrong, shape_right, shape_wrong, data_end}
 use Rattle.read_frame.specs.Frame.{Framed}
 use Rattle.read_command.specs.Requests.{field_of, data_wrong}
 use Rattle.read_command.specs.Reading.{read_of}

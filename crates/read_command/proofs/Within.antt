@@ -7,7 +7,6 @@ use mathlib.Core.Bool.{Bool}
 use native.Mathlib.Omega.{arith}
 use Rattle.base_bytes.specs.Bytes.{between}
 use Rattle.read_tlv.specs.Tlv.{expect_at}
-use Rattle.read_tlv.specs.declared.Element.TheVariants as element
 use Rattle.base_choice.proofs.Branches.{each, each-eq, each-lt}
 use Rattle.read_tlv.proofs.Inside.{Expected, expect-parts}
 use Rattle.read_tlv.specs.Lists.{list_wrong}

@@ -3,7 +3,7 @@
 use Prim.Native.Nat.{ℕ}
 use mathlib.Core.Path.{◌≡◌, refl, sym, ap, subst, ◌∙◌}
 use mathlib.Core.List.{List, [], ◌∷◌}
-use mathlib.Core.Option.{none, some}
+use mathlib.Core.Option.{some}
 use mathlib.Core.Bool.{Bool, true, false, ◌&&◌, ◌||◌}
 use native.Mathlib.Omega.{arith}
 use lib.ListN.{length}
@@ -19,7 +19,6 @@ use Rattle.read_fields.proofs.ListingGrammar.{listing-written}
 use Rattle.read_install.proofs.Written.{install-written}
 use Rattle.read_fields.specs.declared.request.Request.{Request}
 use Rattle.read_fields.specs.declared.request.Field.{Field}
-use Rattle.read_fields.specs.declared.request.Field.TheVariants as field
 use Rattle.read_command.specs.declared.Reading.{Reading}
 use Rattle.read_command.specs.declared.Reading.TheVariants as reading
 use Rattle.read_frame.specs.Framing.{instruction_wrong, parameters_right, shape_right, is_bare, data_end}

@@ -4,7 +4,6 @@ use Prim.Native.Nat.{ℕ, ◌+◌, ◌-◌, ◌≤◌}
 use mathlib.Core.Path.{◌≡◌, refl, sym, subst}
 use mathlib.Core.List.{List}
 use native.Mathlib.Omega.{arith}
-use lib.ListN.{length}
 use Rattle.read_tlv.specs.Tlv.{length_at, on_found}
 use Rattle.read_tlv.specs.declared.LengthRead.{LengthRead}
 use Rattle.read_tlv.specs.declared.LengthRead.TheVariants as len

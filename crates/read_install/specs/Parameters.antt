@@ -1,6 +1,6 @@
 -- Document 01, 'Reading a command', 'Create': the install parameters. Which tags must or may stand is Table 10 of 000:
 -- C9 with 81 of two bytes, n times; then EF with one 83 of 2 or 4 bytes, which must be present.
-use Rattle.std.specs.Prelude.{ℕ, zero, suc, ◌+◌, ◌-◌, ◌*◌, List}
+use Rattle.std.specs.Prelude.{ℕ, zero, suc, ◌-◌, List}
 use Rattle.base_choice.specs.Choice.{pick, at_most, is_below, is_same}
 use Rattle.base_bytes.specs.Bytes.{pair_at, four_at}
 use Rattle.read_tlv.specs.Tlv.{expect_at, on_found}

@@ -1,7 +1,6 @@
 -- `read_listed` meets its contract. The loop keeps: the tags left, with those seen so far, give what the whole list gives.
 use Rattle.read_fields.proofs.Left.{left-start, left_end, left-no-tag, left-unknown, left-next}
 use Rattle.read_tlv.proofs.Inside.{tag-inside}
-use Prim.Native.Nat.{◌-◌}
 use mathlib.Core.Path.{sym, ◌∙◌}
 use native.Mathlib.Omega.{arith}
 use Rattle.read_fields.proofs.read_listed.Goals as goal

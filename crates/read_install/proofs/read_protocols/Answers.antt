@@ -1,7 +1,6 @@
 -- `read_protocols` meets its contract. The loop keeps: what is left gives what the whole window gives.
 use Rattle.read_install.proofs.Listing.{left-start, left_end, left-wrong, left-next}
 use Rattle.read_tlv.proofs.Inside.{expect-inside}
-use Prim.Native.Nat.{◌-◌}
 use native.Mathlib.Omega.{arith}
 use mathlib.Core.Path.{sym, ◌∙◌}
 use Rattle.read_install.proofs.read_protocols.Goals as goal
