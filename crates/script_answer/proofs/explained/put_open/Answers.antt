@@ -1,0 +1,9 @@
+-- `explained::put_open`: the parts one after the other.
+use Rattle.script_answer.specs.Explained.{open_text}
+use Rattle.base_bytes.proofs.PutLaws.{wrote_then}
+use Rattle.script_answer.proofs.explained.put_open.Goals as goal
+
+pub returns : goal.returns
+unfolding open_text
+returns c = wrote_then (wrote_then (wrote_then (wrote_then c.put_bytes-a.ensures c.put_decimal-b.ensures) c.put_bytes-c.ensures)
+    c.put_decimal-d.ensures) c.put_byte.ensures
