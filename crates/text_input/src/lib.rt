@@ -6,8 +6,9 @@ ghost use Rattle.std.specs.Prelude.{◌≡◌, ◌≤ℤ◌, pos, length};
 ghost use Rattle.std.specs.Counts.{IsPrefixLen, clamp_len};
 ghost use Rattle.text_input.specs.Filled.{arrival_of, FilledFrom, BroughtBy, ReadBy};
 
+use std::fs::File;
 use std::io;
-use std::io::Read;
+use std::io::{ErrorKind, Read};
 use text_lines::Window;
 
 #[derive(Clone, Copy)]
@@ -80,6 +81,14 @@ pub fn fill<R: Read>(input: &mut R, window: Window, buf: &mut [u8]) -> Filled
     Filled {
         window: text_lines::grown(kept, count, buf.len()),
         arrival,
+    }
+}
+
+// The file of that name, for reading. A name that is no UTF-8 names none that std can open.
+pub fn open(rt: &HostRuntime, name: &[u8]) -> io::Result<File> {
+    match str::from_utf8(name) {
+        Ok(path) => File::open(rt, path),
+        Err(_) => Err(io::Error::from(ErrorKind::InvalidFilename)),
     }
 }
 
