@@ -6,10 +6,11 @@
 ghost use Rattle.std.specs.Prelude.{◌≤◌, length};
 
 use base_bytes::same;
-use libc::{STDIN_FILENO, STDOUT_FILENO};
 use month_account::write_month;
 use month_contents::MOST_FILE;
-use text_input::{Arrival, arrival_of};
+use std::env::Env;
+use std::io::Read;
+use text_input::{Arrival, arrival_of, count, fail, open, read_some};
 
 // A file of so many bytes is refused whatever they are, so no more are read (decision B44).
 const FILE: usize = MOST_FILE + 1;
@@ -25,14 +26,14 @@ struct Taken {
 }
 
 // A file's bytes, to its end or to the buffer's.
-fn take_file(fd: i32, buf: &mut [u8]) -> Taken
+fn take_file<R: Read>(input: &mut R, buf: &mut [u8]) -> Taken
     ensures { result.filled ≤ length buf.new }
 {
     let mut filled: usize = 0;
     while filled < buf.len() {
         let part = &mut buf[filled..];
-        let got = libc::read(fd, part);
-        let count = io::count(got, part);
+        let got = read_some(input, part);
+        let count = count(got, part);
         let arrival = arrival_of(got);
         if let Arrival::Failed = arrival {
             return Taken {
@@ -55,24 +56,24 @@ fn take_file(fd: i32, buf: &mut [u8]) -> Taken
 }
 
 // Bytes written to standard output; where they could not be, all of them, that is told on standard error.
-fn put_out(bytes: &[u8]) {
-    if !io::write_all(STDOUT_FILENO, bytes) {
-        os::fail(b"standard output");
+fn put_out(rt: &HostRuntime, bytes: &[u8]) {
+    if let Err(error) = rt.write_all(bytes) {
+        fail(rt, b"standard output", error);
     }
 }
 
 // One file, read and reported by one write; a read that fails is told instead.
-fn tell(fd: i32, explain: bool) {
+fn tell<R: Read>(rt: &HostRuntime, input: &mut R, explain: bool) {
     let mut file = [0u8; FILE];
     let mut out = [0u8; OUT];
-    let taken = take_file(fd, &mut file);
+    let taken = take_file(input, &mut file);
     if !taken.whole {
-        put_out(b"the read failed\n");
+        put_out(rt, b"the read failed\n");
         return;
     }
     let n = taken.filled;
     let end = write_month(&file[..n], explain, &mut out, 0);
-    put_out(&out[..end]);
+    put_out(rt, &out[..end]);
 }
 
 // What the words before a file ask of its report, and whether a file was named.
@@ -83,48 +84,45 @@ struct Options {
 }
 
 // The file that a word names.
-fn start(word: &[u8], explain: bool) {
+fn start(rt: &HostRuntime, word: &[u8], explain: bool) {
     if same(word, b"-") {
-        tell(STDIN_FILENO, explain);
+        tell(rt, &mut rt.stdin(), explain);
         return;
     }
-    let fd = os::open_read(word);
-    if fd < 0 {
-        os::fail(word);
-        return;
+    match open(rt, word) {
+        Ok(mut file) => tell(rt, &mut file, explain),
+        Err(error) => fail(rt, word, error),
     }
-    tell(fd, explain);
-    libc::close(fd);
 }
 
 // One word: an option for what follows, or a file, which is reported.
-fn take_word(word: &[u8], options: Options) -> Options {
+fn take_word(rt: &HostRuntime, word: &[u8], options: Options) -> Options {
     let mut after = options;
     if same(word, b"explain") {
         after.explain = true;
         return after;
     }
-    start(word, options.explain);
+    start(rt, word, options.explain);
     after.named = true;
     after
 }
 
-fn main() {
+fn main(rt: HostRuntime) {
     let mut options = Options {
         explain: false,
         named: false,
     };
-    let mut word = io::buffer();
+    let mut word = [0u8; 4096];
     let mut place: usize = 1;
     while place < 18446744073709551615 {
-        let n = os::arg(place, &mut word);
+        let n = rt.arg(place, &mut word).unwrap_or(0);
         if n == 0 {
             break;
         }
-        options = take_word(&word[..n], options);
+        options = take_word(&rt, &word[..n], options);
         place += 1;
     }
     if !options.named {
-        tell(STDIN_FILENO, options.explain);
+        tell(&rt, &mut rt.stdin(), options.explain);
     }
 }

@@ -2,9 +2,12 @@
 // the word of its refusal. Empty lines and lines that begin with `#` are passed over.
 #![tactic(auto)]
 
+ghost use Rattle.std.specs.Prelude.{◌≤◌, length};
+
 use base_bytes::{Part, part_of, put_byte, put_bytes};
-use libc::{STDIN_FILENO, STDOUT_FILENO};
 use read_command::{Reading, Request};
+use std::io::Read;
+use text_input::{count, fail, read_some};
 use text_words::{HexRead, put_decimal, put_hex, put_hex_16, read_hex, until};
 
 const CAPACITY: u32 = 1000;
@@ -78,26 +81,26 @@ fn put_reading(out: &mut [u8], bytes: &[u8]) -> usize {
 }
 
 // Bytes written to standard output; where they could not be, all of them, that is told on standard error.
-fn put_out(bytes: &[u8]) {
-    if !io::write_all(STDOUT_FILENO, bytes) {
-        os::fail(b"standard output");
+fn put_out(rt: &HostRuntime, bytes: &[u8]) {
+    if let Err(error) = rt.write_all(bytes) {
+        fail(rt, b"standard output", error);
     }
 }
 
-fn write_line(out: &mut [u8], at: usize) {
+fn write_line(rt: &HostRuntime, out: &mut [u8], at: usize) {
     let end = put_byte(out, at, b'\n');
     if out.len() < end {
         return;
     }
-    put_out(&out[..end]);
+    put_out(rt, &out[..end]);
 }
 
-fn answer(out: &mut [u8], bytes: &[u8]) {
+fn answer(rt: &HostRuntime, out: &mut [u8], bytes: &[u8]) {
     let at = put_reading(out, bytes);
-    write_line(out, at);
+    write_line(rt, out, at);
 }
 
-fn answer_line(line: &[u8], bytes: &mut [u8], out: &mut [u8]) {
+fn answer_line(rt: &HostRuntime, line: &[u8], bytes: &mut [u8], out: &mut [u8]) {
     if line.len() == 0 {
         return;
     }
@@ -106,31 +109,48 @@ fn answer_line(line: &[u8], bytes: &mut [u8], out: &mut [u8]) {
     }
     let HexRead::Bytes(count) = read_hex(line, bytes) else {
         let at = put_bytes(out, 0, b"no hex word");
-        write_line(out, at);
+        write_line(rt, out, at);
         return;
     };
     if bytes.len() < count {
         return;
     }
-    answer(out, &bytes[..count]);
+    answer(rt, out, &bytes[..count]);
 }
 
-fn answer_lines(text: &[u8], bytes: &mut [u8], out: &mut [u8]) {
+fn answer_lines(rt: &HostRuntime, text: &[u8], bytes: &mut [u8], out: &mut [u8]) {
     let mut at = 0;
     while at < text.len() {
         let end = until(text, at, b'\n');
         if text.len() < end {
             return;
         }
-        answer_line(&text[at..end], bytes, out);
+        answer_line(rt, &text[at..end], bytes, out);
         at = end + 1;
     }
 }
 
-fn main() {
+// The input's bytes, until it ends, a read fails or the buffer is full; how many there are.
+fn read_full<R: Read>(input: &mut R, buf: &mut [u8]) -> usize
+    ensures { result ≤ length buf.new }
+{
+    let mut done = 0;
+    while done < buf.len() {
+        let part = &mut buf[done..];
+        let got = read_some(input, part);
+        let n = count(got, part);
+        if n == 0 {
+            break;
+        }
+        done += n;
+    }
+    done
+}
+
+fn main(rt: HostRuntime) {
     let mut input = [0u8; 262144];
     let mut bytes = [0u8; 131072];
-    let mut out = io::buffer();
-    let count = io::read_full(STDIN_FILENO, &mut input);
-    answer_lines(&input[..count], &mut bytes, &mut out);
+    let mut out = [0u8; 4096];
+    let count = read_full(&mut rt.stdin(), &mut input);
+    answer_lines(&rt, &input[..count], &mut bytes, &mut out);
 }

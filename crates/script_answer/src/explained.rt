@@ -55,7 +55,7 @@ fn put_meaning(status: Status, buf: &mut [u8], at: usize) -> usize
 }
 
 fn put_word(status: Status, buf: &mut [u8], at: usize) -> usize
-    ensures { Wrote buf.old at (wordText status) result buf.new }
+    ensures { Wrote buf.old at (word_text status) result buf.new }
 {
     let n = status.number();
     let high = (n / 256) as u8;
@@ -69,7 +69,7 @@ fn put_word(status: Status, buf: &mut [u8], at: usize) -> usize
 }
 
 fn put_response(response: &[u8], buf: &mut [u8], at: usize) -> usize
-    ensures { Wrote buf.old at (responseText response.now) result buf.new }
+    ensures { Wrote buf.old at (response_text response.now) result buf.new }
 {
     if response.len() == 0 {
         return at;
@@ -81,7 +81,7 @@ fn put_response(response: &[u8], buf: &mut [u8], at: usize) -> usize
 
 // Where the word of a kind stands in the text of all.
 fn kind_piece(kind: Kind) -> Piece
-    ensures { piece_of kinds result ≡ kindText kind }
+    ensures { piece_of kinds result ≡ kind_text kind }
 {
     match kind {
         Kind::Silent => Piece(0, 4),
@@ -92,7 +92,7 @@ fn kind_piece(kind: Kind) -> Piece
 }
 
 fn put_kind(kind: Kind, buf: &mut [u8], at: usize) -> usize
-    ensures { Wrote buf.old at (kindText kind) result buf.new }
+    ensures { Wrote buf.old at (kind_text kind) result buf.new }
 {
     let all = b"none\
           changed\
@@ -102,7 +102,7 @@ fn put_kind(kind: Kind, buf: &mut [u8], at: usize) -> usize
 }
 
 fn put_issued(notification: Notification, buf: &mut [u8], at: usize) -> usize
-    ensures { Wrote buf.old at (issuedText notification) result buf.new }
+    ensures { Wrote buf.old at (issued_text notification) result buf.new }
 {
     let kind = notification.kind;
     let aid = notification.aid;
@@ -116,7 +116,7 @@ fn put_issued(notification: Notification, buf: &mut [u8], at: usize) -> usize
 }
 
 fn put_notice(notification: Notification, buf: &mut [u8], at: usize) -> usize
-    ensures { Wrote buf.old at (noticeText notification) result buf.new }
+    ensures { Wrote buf.old at (notice_text notification) result buf.new }
 {
     let kind = notification.kind;
     match kind {
@@ -128,7 +128,7 @@ fn put_notice(notification: Notification, buf: &mut [u8], at: usize) -> usize
 }
 
 fn put_open(left: u8, number: u16, buf: &mut [u8], at: usize) -> usize
-    ensures { Wrote buf.old at (openText left number) result buf.new }
+    ensures { Wrote buf.old at (open_text left number) result buf.new }
 {
     let a = put_bytes(buf, at, b"ticks left ");
     let b = put_decimal(buf, a, left as u64);
@@ -138,7 +138,7 @@ fn put_open(left: u8, number: u16, buf: &mut [u8], at: usize) -> usize
 }
 
 fn put_trial(previous: u8, left: u8, number: u16, buf: &mut [u8], at: usize) -> usize
-    ensures { Wrote buf.old at (trialText previous left number) result buf.new }
+    ensures { Wrote buf.old at (trial_text previous left number) result buf.new }
 {
     let a = put_bytes(buf, at, b"phase trial: previous at place ");
     let b = put_decimal(buf, a, previous as u64);
@@ -147,7 +147,7 @@ fn put_trial(previous: u8, left: u8, number: u16, buf: &mut [u8], at: usize) -> 
 }
 
 fn put_phase(phase: Phase, buf: &mut [u8], at: usize) -> usize
-    ensures { Wrote buf.old at (phaseText phase) result buf.new }
+    ensures { Wrote buf.old at (phase_text phase) result buf.new }
 {
     match phase {
         Phase::Quiet => put_bytes(buf, at, b"phase quiet\n"),
@@ -168,7 +168,7 @@ fn put_phase(phase: Phase, buf: &mut [u8], at: usize) -> usize
 }
 
 fn put_listing(kept: u8, buf: &mut [u8], at: usize) -> usize
-    ensures { Wrote buf.old at (listingText kept) result buf.new }
+    ensures { Wrote buf.old at (listing_text kept) result buf.new }
 {
     if kept == Card::NO_PLACE {
         return at;
@@ -180,7 +180,7 @@ fn put_listing(kept: u8, buf: &mut [u8], at: usize) -> usize
 
 // The answer for a person; the response is what the call left in its buffer.
 pub fn write_explained(answer: Answer, response: &[u8], buf: &mut [u8], at: usize) -> usize
-    ensures { Wrote buf.old at (explainedText answer response.now) result buf.new × (length (explainedText answer response.now) ≤ length response.now * 2 + mostExplained) }
+    ensures { Wrote buf.old at (explained_text answer response.now) result buf.new × (length (explained_text answer response.now) ≤ length response.now * 2 + most_explained) }
 {
     let status = answer.status;
     let notification = answer.notification;

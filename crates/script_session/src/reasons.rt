@@ -40,7 +40,7 @@ fn put_reason(reason: Reason, buf: &mut [u8], at: usize) -> usize
 
 // A line of the script that cannot be read, by its number, and what is wrong with it.
 pub fn write_reason(number: u64, reason: Reason, buf: &mut [u8], at: usize) -> usize
-    ensures { Wrote buf.old at (reasonLine number reason) result buf.new × (length (reasonLine number reason) ≤ mostFault) }
+    ensures { Wrote buf.old at (reason_line number reason) result buf.new × (length (reason_line number reason) ≤ most_fault) }
 {
     let a = put_bytes(buf, at, b"line ");
     let b = put_decimal(buf, a, number);

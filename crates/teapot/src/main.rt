@@ -8,10 +8,11 @@ ghost use Rattle.std.specs.Prelude.{◌≡◌, ◌+◌, ◌≤◌, ◌<◌, leng
 ghost use Rattle.script_reply.specs.Replies.{most_text};
 
 use base_bytes::same;
-use libc::{STDIN_FILENO, STDOUT_FILENO};
 use script_line::MOST_ROOM;
 use script_session::{MOST_BYTES, Turn, take_line};
-use text_input::{Arrival, fill};
+use std::env::Env;
+use std::io::Read;
+use text_input::{Arrival, fail, fill, open};
 use text_lines::{Found, LONGEST, Window, next};
 
 // The bytes collected before they are written out, and the room that is kept for the answer of one line: no answer is longer, which
@@ -48,36 +49,36 @@ fn counted(state: State) -> State {
 }
 
 // Bytes written to standard output; where they could not be, all of them, that is told on standard error.
-fn put_out(bytes: &[u8]) {
-    if !io::write_all(STDOUT_FILENO, bytes) {
-        os::fail(b"standard output");
+fn put_out(rt: &HostRuntime, bytes: &[u8]) {
+    if let Err(error) = rt.write_all(bytes) {
+        fail(rt, b"standard output", error);
     }
 }
 
 // The first n bytes written out; none are left to write.
-fn write_out(out: &[u8], n: usize) -> usize
+fn write_out(rt: &HostRuntime, out: &[u8], n: usize) -> usize
     requires { n ≤ length out.now }
     ensures { result ≡ 0 }
 {
-    put_out(&out[..n]);
+    put_out(rt, &out[..n]);
     0
 }
 
 // The same where the room for one more answer is short: after it the longest answer has room.
-fn make_room(out: &[u8], n: usize) -> usize
+fn make_room(rt: &HostRuntime, out: &[u8], n: usize) -> usize
     requires { (n ≤ length out.now) × (length out.now ≡ 32768) }
     ensures { result + most_text ≤ length out.now }
 {
     if OUT - ANSWER < n {
-        return write_out(out, n);
+        return write_out(rt, out, n);
     }
     n
 }
 
 // More of the script, or its end; a read that fails is told.
-fn more(state: State, fd: i32, buf: &mut [u8]) -> State {
+fn more<R: Read>(rt: &HostRuntime, state: State, input: &mut R, buf: &mut [u8]) -> State {
     let window = state.window;
-    let filled = fill(fd, window, buf);
+    let filled = fill(input, window, buf);
     let arrival = filled.arrival;
     let mut after = state;
     let grown = filled.window;
@@ -89,7 +90,7 @@ fn more(state: State, fd: i32, buf: &mut [u8]) -> State {
             after
         }
         Arrival::Failed => {
-            put_out(b"the read failed\n");
+            put_out(rt, b"the read failed\n");
             after.goes = false;
             after
         }
@@ -101,7 +102,14 @@ fn more(state: State, fd: i32, buf: &mut [u8]) -> State {
 }
 
 // The next line, or more of the script. A line that is too long is told by as many bytes as no line may have.
-fn seek(state: State, fd: i32, buf: &mut [u8], out: &[u8], filled: usize) -> Step
+fn seek<R: Read>(
+    rt: &HostRuntime,
+    state: State,
+    input: &mut R,
+    buf: &mut [u8],
+    out: &[u8],
+    filled: usize,
+) -> Step
     requires { (4096 < length buf.old) × ((filled ≤ length out.now) × (length out.now ≡ 32768)) }
     ensures { (result.from ≤ result.to) × ((result.to ≤ length buf.new) × (result.filled + most_text ≤ length out.now)) }
 {
@@ -116,18 +124,18 @@ fn seek(state: State, fd: i32, buf: &mut [u8], out: &[u8], filled: usize) -> Ste
             state: counted(after),
             from,
             to,
-            filled: make_room(out, filled),
+            filled: make_room(rt, out, filled),
         },
         Found::TooLong => Step {
             state: counted(after),
             from: 0,
             to: LONGEST + 1,
-            filled: make_room(out, filled),
+            filled: make_room(rt, out, filled),
         },
         Found::More => {
-            let none = write_out(out, filled);
+            let none = write_out(rt, out, filled);
             Step {
-                state: more(after, fd, buf),
+                state: more(rt, after, input, buf),
                 from: 0,
                 to: 0,
                 filled: none,
@@ -139,7 +147,7 @@ fn seek(state: State, fd: i32, buf: &mut [u8], out: &[u8], filled: usize) -> Ste
                 state: after,
                 from: 0,
                 to: 0,
-                filled: make_room(out, filled),
+                filled: make_room(rt, out, filled),
             }
         }
     }
@@ -154,7 +162,7 @@ struct Options {
 }
 
 // A line at a time, until the script ends or a line cannot be read.
-fn run(fd: i32, options: Options) {
+fn run<R: Read>(rt: &HostRuntime, input: &mut R, options: Options) {
     let mut buf = [0u8; 16384];
     let mut out = [0u8; OUT];
     let mut bytes = [0u8; MOST_BYTES];
@@ -168,7 +176,7 @@ fn run(fd: i32, options: Options) {
     };
     let mut turns: u64 = 18446744073709551615;
     while 0 < turns {
-        let step = seek(state, fd, &mut buf, &out, turn.filled);
+        let step = seek(rt, state, input, &mut buf, &out, turn.filled);
         let from = step.from;
         let to = step.to;
         state = step.state;
@@ -184,7 +192,7 @@ fn run(fd: i32, options: Options) {
             &mut out,
         );
         if !(state.goes & turn.goes) {
-            write_out(&out, turn.filled);
+            write_out(rt, &out, turn.filled);
             return;
         }
         turns -= 1;
@@ -192,22 +200,19 @@ fn run(fd: i32, options: Options) {
 }
 
 // The script that a word names.
-fn start(word: &[u8], options: Options) {
+fn start(rt: &HostRuntime, word: &[u8], options: Options) {
     if same(word, b"-") {
-        run(STDIN_FILENO, options);
+        run(rt, &mut rt.stdin(), options);
         return;
     }
-    let fd = os::open_read(word);
-    if fd < 0 {
-        os::fail(word);
-        return;
+    match open(rt, word) {
+        Ok(mut file) => run(rt, &mut file, options),
+        Err(error) => fail(rt, word, error),
     }
-    run(fd, options);
-    libc::close(fd);
 }
 
 // One word: an option for what follows, or a script, which is run.
-fn take_word(word: &[u8], options: Options) -> Options {
+fn take_word(rt: &HostRuntime, word: &[u8], options: Options) -> Options {
     let mut after = options;
     if same(word, b"explain") {
         after.explain = true;
@@ -217,28 +222,28 @@ fn take_word(word: &[u8], options: Options) -> Options {
         after.ask = true;
         return after;
     }
-    start(word, options);
+    start(rt, word, options);
     after.named = true;
     after
 }
 
-fn main() {
+fn main(rt: HostRuntime) {
     let mut options = Options {
         explain: false,
         ask: false,
         named: false,
     };
-    let mut word = io::buffer();
+    let mut word = [0u8; 4096];
     let mut place: usize = 1;
     while place < 18446744073709551615 {
-        let n = os::arg(place, &mut word);
+        let n = rt.arg(place, &mut word).unwrap_or(0);
         if n == 0 {
             break;
         }
-        options = take_word(&word[..n], options);
+        options = take_word(&rt, &word[..n], options);
         place += 1;
     }
     if !options.named {
-        run(STDIN_FILENO, options);
+        run(&rt, &mut rt.stdin(), options);
     }
 }

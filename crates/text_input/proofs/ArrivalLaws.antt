@@ -1,48 +1,20 @@
--- What a signed answer says: a machine's test against 0 is the integer's sign, since an answer that fits is read back as it is.
+-- What an answer says of the bytes that a read brought: a count says as much as the answer that it was made of, where there was room.
 use Prim.Native.Nat.{ℕ, zero, suc, ◌<◌}
-use mathlib.Core.Path.{◌≡◌, refl, sym, ap, ◌∙◌}
+use mathlib.Core.Path.{◌≡◌, refl}
 use mathlib.Core.List.{List, [], ◌∷◌}
-use mathlib.Core.Bool.{Bool, true, false}
 use native.Mathlib.Omega.{arith}
-use borrow.Author.Tests.{ltb-true}
+use lib.IntN.{ℤ, pos, negsuc}
+use lib.Signed.{◌≤ℤ◌}
+use lib.ListN.{length, take}
+use Rattle.std.specs.Prelude.{Option, min}
+use Rattle.std.specs.Counts.{clamp_len}
+use Rattle.std.proofs.lemmas.Int.{ints, to_z-of_z}
 use mir.Syntax.{w64}
 use mir.Val.{SFits, to_z, of_z}
-use mir.Facts.{to_z-of_z}
-use lib.IntN.{ℤ, pos, negsuc}
-use lib.Signed.{lt_z}
-use lib.ListN.{length}
-use Rattle.io.specs.Counts.{clamp_len}
-use Rattle.text_input.specs.Filled.{arrival_of, Brings}
-use Rattle.text_input.specs.declared.Arrival.TheVariants as arrival
+use Rattle.std.specs.Io.KnownBytes.{Keeps}
+use Rattle.std.specs.Prelude.{None, Some}
+use Rattle.text_input.specs.Filled.{arrival_of, Brings, ReadBy, Leaves}
 
-below : (z : ℤ) (b : Bool) → SFits w64 z → lt_z (to_z w64 (of_z w64 z)) (to_z w64 0) ≡ b → lt_z z (pos 0) ≡ b
-below z b f e = ap (λ (x : ℤ). lt_z x (pos 0)) (sym (to_z-of_z f)) ∙ e
-
-failed-of : (z : ℤ) → lt_z z (pos 0) ≡ true → arrival.Failed ≡ arrival_of z
-failed-of (pos n) e = let h = ltb-true n 0 e in absurd (omega arith)
-failed-of (negsuc n) e = refl
-
-end_of : (z : ℤ) → lt_z z (pos 0) ≡ false → of_z w64 z ≡ 0 → arrival.End ≡ arrival_of z
-end_of (pos zero) e h = refl
-end_of (pos (suc n)) e h = absurd (omega arith)
-end_of (negsuc n) e h = let q : ◌≡◌ {A = ℕ} 0 1 = cc in absurd (omega arith)
-
-bytes_of : (z : ℤ) → lt_z z (pos 0) ≡ false → (of_z w64 z ≡ 0 → ⊥) → arrival.Bytes ≡ arrival_of z
-bytes_of (pos zero) e h = absurd (h refl)
-bytes_of (pos (suc n)) e h = refl
-bytes_of (negsuc n) e h = let q : ◌≡◌ {A = ℕ} 0 1 = cc in absurd (omega arith)
-
-module _ (z : ℤ) (f : SFits w64 z) where
-  pub told-failed : lt_z (to_z w64 (of_z w64 z)) (to_z w64 0) ≡ true → arrival.Failed ≡ arrival_of z
-  told-failed e = failed-of z (below z true f e)
-
-  pub told-end : lt_z (to_z w64 (of_z w64 z)) (to_z w64 0) ≡ false → of_z w64 z ≡ 0 → arrival.End ≡ arrival_of z
-  told-end e = end_of z (below z false f e)
-
-  pub told-bytes : lt_z (to_z w64 (of_z w64 z)) (to_z w64 0) ≡ false → (of_z w64 z ≡ 0 → ⊥) → arrival.Bytes ≡ arrival_of z
-  told-bytes e = bytes_of z (below z false f e)
-
--- a count says as much as the answer that it was made of, where there was room
 no_bytes : (bytes : List ℕ) → length bytes ≡ 0 → bytes ≡ []
 no_bytes [] h = refl
 no_bytes (b ∷ bs) h = absurd (omega arith)
@@ -51,3 +23,20 @@ pub brings-of : (z : ℤ) (room : ℕ) (bytes : List ℕ) → length bytes ≡ c
 brings-of (pos zero) room bytes e h = no_bytes bytes (omega arith)
 brings-of (pos (suc n)) room bytes e h = omega arith
 brings-of (negsuc n) room bytes e h = no_bytes bytes e
+
+-- the bytes that were read are those that the reader gave
+leaves-at : (old new : Option (List ℕ)) (z : ℤ) (ys : List ℕ) → z ≤ℤ pos (length ys) → 0 < length ys → ReadBy old new z ys
+    → Leaves (arrival_of z) old new (take (clamp_len z (length ys)) ys)
+leaves-at old new (pos zero) ys w h r = let e : min 0 (length ys) ≡ 0 = omega arith in (rw e r.0, r.1 refl h)
+leaves-at old new (pos (suc n)) ys w h r = let e : min (suc n) (length ys) ≡ suc n = omega (arith, ints) in rw e r.0
+leaves-at old new (negsuc n) ys w h r = r
+
+-- an answer that fits is passed on as it is
+pub leaves-of : (old new : Option (List ℕ)) (z : ℤ) (ys : List ℕ) → SFits w64 z → z ≤ℤ pos (length ys) → 0 < length ys → ReadBy old new z ys
+    → Leaves (arrival_of (to_z w64 (of_z w64 z))) old new (take (clamp_len (to_z w64 (of_z w64 z)) (length ys)) ys)
+leaves-of old new z ys f w h r = rw to_z-of_z (leaves-at old new z ys w h r)
+
+-- without a read
+pub keeps-same : (known : Option (List ℕ)) → Keeps known known
+keeps-same None = tt
+keeps-same (Some xs) = refl

@@ -9,9 +9,6 @@ use Rattle.script_answer.specs.Explained.{explained_text}
 use Rattle.script_answer.proofs.Lengths.{explained-length}
 use Rattle.script_answer.proofs.explained.write_explained.Goals as goal
 
-pub shape_of-buf : goal.shape_of-buf
-shape_of-buf c = wrote-size (returns PLACE_After-slice_known10).0
-
 pub returns : goal.returns
 unfolding explained_text
 returns c = let h : length c.args.answer.notification.aid.bytes ≡ 16 = wide c.args.answer _ c.well_formed.0 in (
@@ -20,3 +17,6 @@ returns c = let h : length c.args.answer.notification.aid.bytes ≡ 16 = wide c.
       c.put_bytes-g.ensures) c.put_decimal-h.ensures) c.put_bytes.ensures,
   explained-length c.args.answer _ (omega arith) c.put_table-d.ensures.1,
 )
+
+pub shape_of-buf : goal.shape_of-buf
+shape_of-buf c = wrote-size (returns c).0

@@ -9,9 +9,6 @@ use Rattle.script_answer.specs.Lines.{hex16, answer_line}
 use Rattle.script_answer.proofs.Lengths.{line-length}
 use Rattle.script_answer.proofs.line.write_answer.Goals as goal
 
-pub shape_of-buf : goal.shape_of-buf
-shape_of-buf c = wrote-size (returns PLACE_After-slice_known9).0
-
 pub returns : goal.returns
 unfolding answer_line
 returns c = let n : length c.args.answer.notification.aid.bytes ≡ 16 = wide c.args.answer _ c.well_formed.0 in (
@@ -21,3 +18,6 @@ returns c = let n : length c.args.answer.notification.aid.bytes ≡ 16 = wide c.
       c.put_byte.ensures,
   line-length c.args.answer _ (omega arith),
 )
+
+pub shape_of-buf : goal.shape_of-buf
+shape_of-buf c = wrote-size (returns c).0
