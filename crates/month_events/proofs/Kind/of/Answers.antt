@@ -39,5 +39,4 @@ returns-in-8 c = ne! _ (omega arith) (ne! _ (omega arith) (ne! _ (omega arith) (
 
 pub returns-in_default : goal.returns-in_default
 unfolding kind_of
-returns-in_default c = let r = c.in_default.in_default-own.rest in
-    ne! _ r.0.0.0.0.0.0.0.1 (ne! _ r.0.0.0.0.0.0.1 (ne! _ r.0.0.0.0.0.1 (ne! _ r.0.0.0.0.1 (ne! _ r.0.0.0.1 (ne! _ r.0.0.1 (ne! _ r.0.1 (ne! _ r.1 refl)))))))
+returns-in_default c = ne! _ (omega arith) (ne! _ (omega arith) (ne! _ (omega arith) (ne! _ (omega arith) (ne! _ (omega arith) (ne! _ (omega arith) (ne! _ (omega arith) (ne! _ (omega arith) refl)))))))
