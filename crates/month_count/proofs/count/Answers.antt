@@ -1,0 +1,69 @@
+-- `month_count::count`: the loop's invariant is `Stands`; each turn is the law of a turn, with the answer's notification or without. The
+-- places of a turn are named once: where it begins, the event that it reads, the tick, the answer.
+use Prim.Native.Nat.{◌-◌}
+use mathlib.Core.Path.{refl, ap, sym, ◌∙◌}
+use mathlib.Core.List.{[]}
+use lib.ListN.{length}
+use native.Mathlib.Omega.{arith}
+use Rattle.base_bytes.proofs.PutLaws.{length-put}
+use Rattle.month_events.proofs.Turns.{Turn, next-event, none_left}
+use Rattle.base_status.specs.StatusWords.{is_done}
+use Rattle.record_door.specs.Door.{call_of}
+use Rattle.rule_run.specs.Runs.{is_tick}
+use Rattle.month_tally.specs.Lines.{line_of}
+use Rattle.month_tally.specs.declared.Names.{Names}
+use Rattle.month_count.specs.Month.{Counted}
+use Rattle.month_count.proofs.Turns.{begins, line-room, ticks-fit, events-fit, refused-fit}
+use Rattle.month_count.proofs.Turns.{stands-last, stands-unnamed, stands-named}
+use Rattle.month_count.proofs.count.Goals as goal
+use Rattle.month_count.proofs.count.Goals.{then-code-ne0, else-code-ne0}
+
+pub loop-call-init : goal.loop-call-init
+loop-call-init c = let b = begins c.args.card c.args.body.now c.requires c.enabled_place.ensures c.profile-profile.ensures in
+    (refl, b c.none.ensures c.noted-names.ensures c.line-own.ensures)
+
+pub time-ticks-requires : goal.time-ticks-requires
+time-ticks-requires c = line-room c.loop-call.invariant.1 c.requires.short
+
+pub overflow_add-ticks : goal.overflow_add-ticks
+overflow_add-ticks c = omega (arith, ticks-fit c.loop-call.invariant.1 (is_tick (call_of [] 0 c.in-Event.call)) c.requires.short c.time-ticks.ensures.0)
+
+pub slice_bounds-answer_on_sound-end : goal.slice_bounds-answer_on_sound-end
+slice_bounds-answer_on_sound-end c = c.loop-call.invariant.0
+
+pub overflow_add-events : goal.overflow_add-events
+overflow_add-events c = omega (arith, events-fit c.loop-call.invariant.1 c.requires.short)
+
+pub overflow_add-refused : goal.overflow_add-refused
+overflow_add-refused c = omega (arith, refused-fit c.loop-call.invariant.1 (is_done c.answer_on_sound-answer.result.status) c.requires.short c.refusals-refused.ensures)
+
+pub loop-call-smaller : goal.loop-call-smaller
+loop-call-smaller c =
+    let event : Turn c.args.body.now c.loop-call.at c.in-Event.call c.in-Event.stop = let l = c.loop-call in
+    next-event c.args.body.now l.at _ _ l.invariant.1.right (sym c.next_event.ensures ∙ c.in-Event.is) in
+    let t = event in omega (arith, t.goes, t.inside)
+
+pub loop-call-preserved : goal.loop-call-preserved
+loop-call-preserved c =
+    let event : Turn c.args.body.now c.loop-call.at c.in-Event.call c.in-Event.stop = let l = c.loop-call in
+    next-event c.args.body.now l.at _ _ l.invariant.1.right (sym c.next_event.ensures ∙ c.in-Event.is) in
+    let l = c.loop-call in
+    let t = event in
+    let size = sym l.invariant.0 in
+    let served = c.answer_on_sound-answer.ensures in
+    let p = c.time-ticks.ensures in
+    let q = c.refusals-refused.ensures in
+    let code = c.code.ensures in (
+      l.invariant.0 ∙ sym (ap length served.0.content ∙ length-put _ 0 _),
+      elim c.if-code-ne0.branch [
+        | then-code-ne0 w ↦ let line = w.own-is ∙ w.line-own-then-code-ne0.ensures ∙ ap (λ (n : Names). line_of n _) (sym w.names-is) in
+            stands-named l.invariant.1 t size served p q (λ e. w.if-code-ne0.true (code ∙ e)) (w.names-is ∙ w.noted-names-then-code-ne0.ensures) line
+        | else-code-ne0 w ↦ rw (w.names-is, w.own-is) (stands-unnamed l.invariant.1 t size served p q (sym code ∙ w.if-code-ne0.false))
+      ],
+    )
+
+pub returns : goal.returns
+returns c = let l = c.loop-call in
+    let last = none_left c.args.body.now l.at l.invariant.1.right (sym c.next_event.ensures ∙ c.in_default.is) in
+    let e = stands-last l.invariant.1 last in
+    (ap (λ (k : Counted). k.tally) e, ap (λ (k : Counted). k.minutes) e)

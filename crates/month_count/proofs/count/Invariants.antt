@@ -1,0 +1,14 @@
+-- `month_count::count`: the loop's invariant is `Stands`; each turn is the law of a turn, with the answer's notification or without. The
+-- places of a turn are named once: where it begins, the event that it reads, the tick, the answer.
+use Prim.Native.Nat.{◌-◌}
+use mathlib.Core.Path.{◌≡◌}
+use lib.ListN.{length}
+use Rattle.rule_run.specs.Table.{least_buffer}
+use Rattle.month_count.proofs.Turns.{Stands}
+use Rattle.month_count.proofs.count.Given as goal
+
+abbrev pub invariant-loop-call : goal.invariant-loop-call
+invariant-loop-call l = (least_buffer ≡ length l.buf) × Stands l.initial.card l.body l.minutes l.names l.own l.card l.ticks l.events l.refused l.at
+
+abbrev pub decreases-loop-call : goal.decreases-loop-call
+decreases-loop-call l = length l.body - l.at
