@@ -36,7 +36,7 @@ fn put_name(refusal: Refusal, out: &mut [u8], at: usize) -> usize
 
 // Where the meaning of a refusal stands in the text of all meanings.
 fn meaning_piece(refusal: Refusal) -> Piece
-    ensures { piece_of refusalMeanings result ≡ meaningText refusal }
+    ensures { piece_of refusal_meanings result ≡ meaning_text refusal }
 {
     match refusal {
         Refusal::ContentsWrong => Piece(0, 77),
@@ -49,7 +49,7 @@ fn meaning_piece(refusal: Refusal) -> Piece
 }
 
 fn put_meaning(refusal: Refusal, out: &mut [u8], at: usize) -> usize
-    ensures { Wrote out.old at (meaningText refusal) result out.new }
+    ensures { Wrote out.old at (meaning_text refusal) result out.new }
 {
     let all = b"the file is too long, or its sections are not known ones that lie end to end\n\
           the fresh card's inputs or the events are not listed\n\
@@ -61,7 +61,7 @@ fn put_meaning(refusal: Refusal, out: &mut [u8], at: usize) -> usize
 }
 
 fn put_line(refusal: Refusal, out: &mut [u8], at: usize) -> usize
-    ensures { Wrote out.old at (lineText refusal) result out.new }
+    ensures { Wrote out.old at (line_text refusal) result out.new }
 {
     let a = put_bytes(out, at, b"refused: ");
     let b = put_name(refusal, out, a);
@@ -70,7 +70,7 @@ fn put_line(refusal: Refusal, out: &mut [u8], at: usize) -> usize
 
 // The refusal's line, and for a person two more.
 pub fn write_refusal(explain: bool, refusal: Refusal, out: &mut [u8], at: usize) -> usize
-    ensures { Wrote out.old at (refusalText explain refusal) result out.new × (length (refusalText explain refusal) ≤ mostRefusal) }
+    ensures { Wrote out.old at (refusal_text explain refusal) result out.new × (length (refusal_text explain refusal) ≤ most_refusal) }
 {
     let a = put_line(refusal, out, at);
     if !explain {
