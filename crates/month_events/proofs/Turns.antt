@@ -14,7 +14,6 @@ use Rattle.base_bytes.specs.Bytes.{byte, pair_at, four_at}
 use Rattle.base_bytes.proofs.Parts.{part_cut}
 use Rattle.base_choice.specs.Choice.{pick}
 use Rattle.base_choice.proofs.Branches.{on-lt}
-use Rattle.rule_run.specs.Calls as manager
 use Rattle.record_door.specs.Door as door
 use Rattle.rule_run.specs.Table.{least_buffer}
 use Rattle.record_door.specs.declared.Call.{Call}

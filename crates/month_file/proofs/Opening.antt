@@ -3,7 +3,7 @@
 use Prim.Native.Nat.{ℕ, ◌≤◌, ◌<◌}
 use mathlib.Core.Path.{◌≡◌, refl, sym, ap, ◌∙◌}
 use mathlib.Core.List.{List, [], ◌∷◌}
-use mathlib.Core.Bool.{Bool, true, false, not}
+use mathlib.Core.Bool.{Bool, true, false}
 use lib.ListN.{length}
 use borrow.Author.Tests.{lt-ltb, le-ltb}
 use Rattle.base_bytes.specs.Bytes.{part_of}
@@ -16,7 +16,7 @@ use Rattle.month_events.specs.Events.{cut_short, kind_unknown, wrong_length, che
 use Rattle.month_events.specs.declared.Checked.{Checked}
 use Rattle.month_events.specs.declared.Checked.TheVariants as checked
 use Rattle.month_file.specs.Inputs.{fresh_answer, fresh_bad}
-use Rattle.month_file.specs.File.{refusal_row, refusal_rows, first_of, verdict_of, refused_file, opened_by, opened_of}
+use Rattle.month_file.specs.File.{refusal_row, first_of, verdict_of, refused_file, opened_by, opened_of}
 use Rattle.month_file.specs.Refusals.{verdict_for, OneOrder}
 use Rattle.month_file.specs.declared.Refusal.TheVariants.{ContentsWrong, SectionMissing, FreshBad, CutShort, UnknownKind, WrongLength}
 use Rattle.month_file.specs.declared.Verdict.{Verdict}

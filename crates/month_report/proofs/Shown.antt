@@ -1,6 +1,6 @@
 -- The reports of the page compute to the same bytes; a share is rounded, by the laws of division.
 use mathlib.Core.Path.{refl}
-use Prim.Native.Nat.{ℕ, ◌+◌, ◌*◌}
+use Prim.Native.Nat.{◌+◌, ◌*◌}
 use native.Mathlib.Nat.{div-mul-le_self, lt-div-mul-add}
 use native.Mathlib.Omega.{arith}
 use Rattle.base_choice.specs.Choice.{pick, is_below, is_same}

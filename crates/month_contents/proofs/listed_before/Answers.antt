@@ -1,8 +1,6 @@
 -- `listed_before` meets its contract. The loop keeps: none before j is of the kind.
 use mathlib.Core.Path.{sym, ◌∙◌}
-use Prim.Native.Nat.{◌-◌}
 use native.Mathlib.Omega.{arith}
-use mathlib.Core.Bool.{false}
 use Rattle.month_contents.specs.Contents.{same_kind}
 use Rattle.month_contents.proofs.Below.{some-none, some_next, some-hit, some_end}
 use Rattle.month_contents.proofs.listed_before.Goals as goal

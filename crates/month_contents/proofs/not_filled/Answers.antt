@@ -1,5 +1,4 @@
 -- `not_filled` meets its contract. The loop keeps: the lengths so far and what is left are the file.
-use Prim.Native.Nat.{◌-◌}
 use native.Mathlib.Omega.{arith}
 use Rattle.month_contents.specs.Contents.{body_length}
 use Rattle.month_contents.proofs.Below.{sum-none}

@@ -1,8 +1,6 @@
 -- `overlaps_before` meets its contract. The loop keeps: none before j overlaps the body.
 use mathlib.Core.Path.{sym, ◌∙◌}
-use Prim.Native.Nat.{◌-◌}
 use native.Mathlib.Omega.{arith}
-use mathlib.Core.Bool.{false}
 use Rattle.month_contents.specs.Contents.{overlap}
 use Rattle.month_contents.proofs.Below.{some-none, some_next, some-hit, some_end}
 use Rattle.month_contents.proofs.overlaps_before.Goals as goal

@@ -1,8 +1,6 @@
 -- `section_of` meets its contract. The loop keeps: none before i is of the kind.
 use mathlib.Core.Path.{sym, ◌∙◌}
-use Prim.Native.Nat.{◌-◌}
 use native.Mathlib.Omega.{arith}
-use mathlib.Core.Bool.{false}
 use borrow.Author.Tests.{eq-eqb, ne_eqb}
 use Rattle.month_contents.proofs.Below.{some-none, some_next}
 use Rattle.month_contents.proofs.Ends.{section-hit, section-none}

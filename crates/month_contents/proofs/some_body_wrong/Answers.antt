@@ -1,8 +1,6 @@
 -- `some_body_wrong` meets its contract. The loop keeps: none before i lies wrong.
 use mathlib.Core.Path.{sym, ◌∙◌}
-use Prim.Native.Nat.{◌-◌}
 use native.Mathlib.Omega.{arith}
-use mathlib.Core.Bool.{false}
 use Rattle.month_contents.specs.Contents.{sections, body_wrong}
 use Rattle.month_contents.proofs.Below.{some-none, some_next, some-hit, some_end}
 use Rattle.month_contents.proofs.some_body_wrong.Goals as goal

@@ -1,8 +1,6 @@
 -- `some_kind_wrong` meets its contract. The loop keeps: none before i has a wrong kind.
 use mathlib.Core.Path.{sym, ◌∙◌}
-use Prim.Native.Nat.{◌-◌}
 use native.Mathlib.Omega.{arith}
-use mathlib.Core.Bool.{false}
 use Rattle.month_contents.specs.Contents.{sections, kind_wrong}
 use Rattle.month_contents.proofs.Below.{some-none, some_next, some-hit, some_end}
 use Rattle.month_contents.proofs.some_kind_wrong.Goals as goal

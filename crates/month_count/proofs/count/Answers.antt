@@ -1,12 +1,10 @@
--- `month_count::count`: the loop's invariant is `Stands`; each turn is the law of a turn, with the answer's notification or without. The
--- places of a turn are named once: where it begins, the event that it reads, the tick, the answer.
-use Prim.Native.Nat.{◌-◌}
+-- `month_count::count`: the loop's invariant is `Stands`; each turn is the law of a turn, with the answer's notification or without.
 use mathlib.Core.Path.{refl, ap, sym, ◌∙◌}
 use mathlib.Core.List.{[]}
 use lib.ListN.{length}
 use native.Mathlib.Omega.{arith}
 use Rattle.base_bytes.proofs.PutLaws.{length-put}
-use Rattle.month_events.proofs.Turns.{Turn, next-event, none_left}
+use Rattle.month_events.proofs.Turns.{next-event, none_left}
 use Rattle.base_status.specs.StatusWords.{is_done}
 use Rattle.record_door.specs.Door.{call_of}
 use Rattle.rule_run.specs.Runs.{is_tick}
@@ -39,16 +37,13 @@ overflow_add-refused c = omega (arith, refused-fit c.loop-call.invariant.1 (is_d
 
 pub loop-call-smaller : goal.loop-call-smaller
 loop-call-smaller c =
-    let event : Turn c.args.body.now c.loop-call.at c.in-Event.call c.in-Event.stop = let l = c.loop-call in
-    next-event c.args.body.now l.at _ _ l.invariant.1.right (sym c.next_event.ensures ∙ c.in-Event.is) in
-    let t = event in omega (arith, t.goes, t.inside)
+    let t = next-event c.args.body.now c.loop-call.at _ _ c.loop-call.invariant.1.right (sym c.next_event.ensures ∙ c.in-Event.is) in
+    omega (arith, t.goes, t.inside)
 
 pub loop-call-preserved : goal.loop-call-preserved
 loop-call-preserved c =
-    let event : Turn c.args.body.now c.loop-call.at c.in-Event.call c.in-Event.stop = let l = c.loop-call in
-    next-event c.args.body.now l.at _ _ l.invariant.1.right (sym c.next_event.ensures ∙ c.in-Event.is) in
     let l = c.loop-call in
-    let t = event in
+    let t = next-event c.args.body.now l.at _ _ l.invariant.1.right (sym c.next_event.ensures ∙ c.in-Event.is) in
     let size = sym l.invariant.0 in
     let served = c.answer_on_sound-answer.ensures in
     let p = c.time-ticks.ensures in

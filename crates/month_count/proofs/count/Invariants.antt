@@ -1,5 +1,4 @@
--- `month_count::count`: the loop's invariant is `Stands`; each turn is the law of a turn, with the answer's notification or without. The
--- places of a turn are named once: where it begins, the event that it reads, the tick, the answer.
+-- `month_count::count`: the loop's invariant is `Stands`. `buf` keeps the length that the door asks of it.
 use Prim.Native.Nat.{◌-◌}
 use mathlib.Core.Path.{◌≡◌}
 use lib.ListN.{length}

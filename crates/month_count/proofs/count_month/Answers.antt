@@ -1,4 +1,4 @@
--- `month_count::count_month`: a file that was opened is counted by its verdict. Where it was opened is named once.
+-- `month_count::count_month`: a file that was opened is counted by its verdict.
 use Rattle.month_count.proofs.Opened.{month-refused, countable, month-accepted}
 use Rattle.month_count.proofs.count_month.Goals as goal
 

@@ -1,5 +1,4 @@
 -- `check_events` meets its contract. The loop keeps: what was met before the place, and what comes from there on, is the verdict of the whole body.
-use Prim.Native.Nat.{◌-◌}
 use mathlib.Core.Path.{refl, sym, ◌∙◌}
 use native.Mathlib.Omega.{arith}
 use Rattle.base_choice.proofs.Branches.{yes!, no! }

@@ -1,6 +1,6 @@
 -- `put_lines`: the lines from i on are still to write, which leaves what writing all of them leaves; what is written has no more than `most_report_line` a line.
 use mathlib.Core.Path.{ap}
-use Prim.Native.Nat.{◌+◌, ◌-◌}
+use Prim.Native.Nat.{◌+◌}
 use native.Mathlib.Omega.{arith}
 use lib.ListN.{length, get_or, drop, length-take}
 use lib.Seq.{get_or-take}

@@ -1,6 +1,5 @@
 -- `Names::line`: no AID before i is the same; the search is i and what is found in the AIDs left.
 use mathlib.Core.Path.{sym, ◌∙◌}
-use Prim.Native.Nat.{◌-◌}
 use native.Mathlib.Omega.{arith}
 use lib.ListN.{length, length-take}
 use lib.Seq.{get_or-take}
