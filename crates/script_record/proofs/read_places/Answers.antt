@@ -1,6 +1,7 @@
 -- `script_record::read_places` meets its contract. The loop keeps: the places read and those that the rest of the line gives are all.
 use borrow.Author.Tests.{not-true, not-false}
 use borrow.Author.Rules.{rules}
+use borrow.Author.Tests.{not-true, not-false}
 use native.Mathlib.Omega.{arith}
 use mathlib.Core.Path.{refl, sym, ◌∙◌}
 use Prim.Native.Nat.{◌-◌}
