@@ -1,11 +1,7 @@
 -- `script_table::put_figure_cells`: the cells one after the other.
-use Rattle.script_table.proofs.Pieces.{wrote-size}
 use Rattle.script_table.specs.Profiles.{figure_cells}
 use Rattle.base_bytes.proofs.PutLaws.{wrote_then}
 use Rattle.script_table.proofs.put_figure_cells.Goals as goal
-
-pub shape_of-buf : goal.shape_of-buf
-shape_of-buf c = wrote-size (returns PLACE_After-slice_known7)
 
 pub returns : goal.returns
 unfolding figure_cells

@@ -1,11 +1,7 @@
 -- `script_table::put_role_cells`: the cells one after the other.
-use Rattle.script_table.proofs.Pieces.{wrote-size}
 use Rattle.script_table.specs.Profiles.{role_cells}
 use Rattle.base_bytes.proofs.PutLaws.{wrote_then}
 use Rattle.script_table.proofs.put_role_cells.Goals as goal
-
-pub shape_of-buf : goal.shape_of-buf
-shape_of-buf c = wrote-size (returns PLACE_After-slice_known8)
 
 pub returns : goal.returns
 unfolding role_cells
