@@ -12,7 +12,6 @@ use Rattle.text_words.specs.declared.numbers.Number.TheVariants as number
 use Rattle.text_words.proofs.NumberLaws.{decimal-within}
 use Rattle.script_words.specs.Arguments.{on_number, value_at}
 use Rattle.script_words.specs.declared.Reason.TheVariants as reason
-use Rattle.script_words.specs.declared.Value.{Value}
 use Rattle.script_words.specs.declared.Value.TheVariants as value
 
 word-within : (most e n k : ℕ) (d : Number) → ((m : ℕ) → number.Value m ≡ d → m ≤ most)

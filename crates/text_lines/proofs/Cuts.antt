@@ -9,7 +9,7 @@ use mathlib.Core.Bool.{Bool, true, false}
 use native.Mathlib.Omega.{arith}
 use lib.ListN.{length, take, drop, length-append, length-take, length-drop}
 use lib.Seq.{take-take, take-append_seam}
-use Rattle.text_words.specs.Words.{before, part}
+use Rattle.text_words.specs.Words.{part}
 use Rattle.base_bytes.specs.Put.{put, after}
 use Rattle.base_bytes.proofs.PutLaws.{put-put, put_front, length-put, after-fits}
 use Rattle.text_lines.specs.Lines.{Line, Whole}

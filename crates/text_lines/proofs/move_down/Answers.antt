@@ -1,7 +1,6 @@
 -- `move_down` meets its contract. The loop keeps: the bytes moved so far stand in front, and the rest is as it was.
 use native.Mathlib.Omega.{arith}
 use mathlib.Core.Path.{refl, sym}
-use Prim.Native.Nat.{◌-◌}
 use lib.ListN.{length-set}
 use Rattle.base_bytes.proofs.PutLaws.{put-none}
 use Rattle.text_lines.proofs.WindowLaws.{move-turn, move-done}
