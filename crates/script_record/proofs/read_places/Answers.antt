@@ -1,10 +1,8 @@
 -- `script_record::read_places` meets its contract. The loop keeps: the places read and those that the rest of the line gives are all.
 use borrow.Author.Tests.{not-true, not-false}
 use borrow.Author.Rules.{rules}
-use borrow.Author.Tests.{not-true, not-false}
 use native.Mathlib.Omega.{arith}
 use mathlib.Core.Path.{refl, sym, ◌∙◌}
-use Prim.Native.Nat.{◌-◌}
 use lib.ListN.{length-set}
 use Rattle.text_words.proofs.WordLists.{word-inside}
 use Rattle.script_record.proofs.PlaceList.{places-missing, places-end, places-bad, places-next}

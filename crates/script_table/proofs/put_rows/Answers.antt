@@ -1,7 +1,6 @@
 -- `script_table::put_rows`: the rows from place i on are still to write, which leaves what writing all of them leaves.
 use borrow.Author.Rules.{rules}
 use mathlib.Core.Path.{◌≡◌}
-use Prim.Native.Nat.{◌-◌}
 use native.Mathlib.Omega.{arith}
 use lib.ListN.{length}
 use Rattle.card_isdp.specs.Sizes.{most_places}

@@ -1,7 +1,6 @@
 -- `script_table::widest`: m is the longest of the places before i.
 use borrow.Author.Rules.{rules}
 use mathlib.Core.Path.{◌≡◌}
-use Prim.Native.Nat.{◌-◌}
 use native.Mathlib.Omega.{arith}
 use lib.ListN.{length}
 use Rattle.card_isdp.specs.Sizes.{most_places}

@@ -39,11 +39,6 @@ slice_bounds-same-end-2 c =
     let field : Span c.in-Span.from (c.in-Span.to) ≡ field_at colon (c.args.w.now) 0 = sym c.in-Span.is ∙ c.next_field.ensures in
     let i = field-inside _ _ _ _ _ (field) in search rules
 
-pub overflow_add-to : goal.overflow_add-to
-overflow_add-to c =
-    let field : Span c.in-Span.from (c.in-Span.to) ≡ field_at colon (c.args.w.now) 0 = sym c.in-Span.is ∙ c.next_field.ensures in
-    let i = field-inside _ _ _ _ _ (field) in search rules
-
 pub trial_at-requires : goal.trial_at-requires
 trial_at-requires c =
     let field : Span c.in-Span.from (c.in-Span.to) ≡ field_at colon (c.args.w.now) 0 = sym c.in-Span.is ∙ c.next_field.ensures in
