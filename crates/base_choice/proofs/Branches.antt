@@ -5,7 +5,7 @@ use mathlib.Core.Path.{◌≡◌, refl}
 use mathlib.Core.Bool.{Bool, true, false}
 use borrow.Author.Tests.{le-ltb, lt-ltb, le-leb, lt-leb, eq-eqb, ne_eqb, leb-true, leb-false, ltb-true, ltb-false, eqb-true, eqb-false}
 use Rattle.base_choice.specs.Choice.{pick, at_most, is_below, is_same}
-use lib.Dec.{leb, ltb, eqb}
+use lib.Dec.{ltb, eqb}
 
 module _ {ℓ} {X : Type ℓ} where
   pub yes! : {c : Bool} {x z : X} (y : X) → c ≡ true → z ≡ x → z ≡ pick c x y

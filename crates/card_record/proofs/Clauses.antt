@@ -1,6 +1,6 @@
 -- Soundness and its clauses in numbers, both ways: by the parts of a sound card, group by group; what is tested of all places is said of each by its number.
 use mathlib.Core.Path.{◌≡◌, refl}
-use Prim.Native.Nat.{ℕ, zero, suc, ◌≤◌, ◌<◌}
+use Prim.Native.Nat.{ℕ, suc, ◌≤◌, ◌<◌}
 use native.Mathlib.Omega.{arith}
 use mathlib.Core.List.{List, [], ◌∷◌}
 use mathlib.Core.Logic.{◌⊎◌, inl, inr}
@@ -20,7 +20,7 @@ use Rattle.card_places.proofs.Seeks.{enabled-at}
 use Rattle.card_places.proofs.Lives.{within}
 use Rattle.card_places.proofs.Numbered.{all-by, count-one, only, distinct-at, distinct-by}
 use Rattle.card_record.specs.Cards.{enabled_place}
-use Rattle.card_record.specs.Sound.{kept_ok, sound}
+use Rattle.card_record.specs.Sound.{kept_ok}
 use Rattle.card_record.specs.Clauses.{place_at, HeldAt, quotas_together, OpenClauses, PhaseClauses, Clauses, SoundClauses}
 use Rattle.card_record.specs.declared.Card.{Card}
 use Rattle.card_record.specs.declared.Phase.{Phase}

@@ -9,7 +9,6 @@ use Rattle.read_tlv.specs.declared.HeadRead.TheVariants as head
 use Rattle.read_tlv.specs.declared.ElementRead.{ElementRead}
 use Rattle.read_tlv.specs.declared.ElementRead.TheVariants as read
 use Rattle.read_tlv.specs.declared.ListRead.{ListRead}
-use Rattle.read_tlv.specs.declared.ListRead.TheVariants as list
 use Rattle.base_choice.specs.Choice.{pick}
 use Rattle.read_tlv.specs.Tlv.{head_at}
 use Rattle.read_tlv.specs.Lists.{element_closed, element_of, rest_after, list_of, list_within, list_at, element_at}

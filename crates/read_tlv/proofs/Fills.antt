@@ -7,7 +7,6 @@ use mathlib.Core.Bool.{true, false, false≢true}
 use native.Mathlib.Omega.{arith}
 use Rattle.read_tlv.specs.declared.HeadRead.{HeadRead}
 use Rattle.read_tlv.specs.declared.HeadRead.TheVariants as head
-use Rattle.read_tlv.specs.declared.ElementRead.TheVariants as read
 use Rattle.read_tlv.specs.declared.ListRead.{ListRead}
 use Rattle.read_tlv.specs.declared.ListRead.TheVariants as list
 use Rattle.base_choice.specs.Choice.{pick}

@@ -9,7 +9,6 @@ use lib.Seq.{get_or-take, length-take-le}
 use Rattle.read_tlv.specs.declared.TagRead.{TagRead}
 use Rattle.read_tlv.specs.declared.TagRead.TheVariants as tag
 use Rattle.read_tlv.specs.declared.LengthRead.{LengthRead}
-use Rattle.read_tlv.specs.declared.LengthRead.TheVariants as len
 use Rattle.base_bytes.specs.Bytes.{byte}
 use Rattle.read_tlv.specs.Tlv.{tag_at, length_at, head_at, after_tag, after_length, expect_at, expect_of}
 use Rattle.base_choice.proofs.Branches.{le!, nle!, lt!, nlt!, eq!, ne!, each-le, each-lt, each-eq}

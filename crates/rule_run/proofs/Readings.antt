@@ -13,7 +13,6 @@ use Rattle.card_record.specs.Answers.{refused_with, outcome_on_sound}
 use Rattle.card_record.specs.declared.Card.{Card}
 use Rattle.read_command.specs.Reading.{reading_rows, read_of}
 use Rattle.read_fields.specs.declared.request.Request.{Request}
-use Rattle.read_fields.specs.declared.request.Field.TheVariants as field
 use Rattle.read_command.specs.declared.Reading.TheVariants as reading
 use Rattle.read_command.proofs.Answers.{refused-word, read_done, read-passes, rows-stop, rows_pass}
 use Rattle.rule_steps.specs.Conditions.{card_rows}

@@ -29,7 +29,7 @@ use Rattle.card_record.specs.Cards.{place_of}
 use Rattle.rule_steps.specs.Steps.{step_of, begins_at, act_response, response_of}
 use Rattle.rule_run.specs.Calls.{asked}
 use Rattle.rule_run.specs.Table.{table}
-use Rattle.rule_run.specs.Step.{work, step, step_by}
+use Rattle.rule_run.specs.Step.{work, step_by}
 use Rattle.rule_run.specs.Statements.{ResponseMost}
 use Rattle.rule_run.proofs.Kept.{rows-accepted}
 

@@ -6,7 +6,6 @@ use Rattle.card_record.specs.declared.Card.{Card}
 use Rattle.card_record.proofs.Outcomes.{decided}
 use Rattle.rule_steps.specs.Steps.{step_of, response_of}
 use Rattle.rule_run.specs.Calls.{Call, asked}
-use Rattle.rule_run.specs.Table.{table}
 use Rattle.rule_run.specs.Step.{step, step_by}
 use Rattle.rule_run.specs.Runs.{table_word}
 

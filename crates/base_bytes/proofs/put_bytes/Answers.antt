@@ -1,6 +1,5 @@
 -- `put_bytes` meets its contract. The loop keeps: writing what is left, from here on, leaves what writing all leaves.
 use native.Mathlib.Omega.{arith}
-use Prim.Native.Nat.{◌-◌}
 use mathlib.Core.Path.{sym}
 use Rattle.base_bytes.proofs.Rest.{rest_all, rest-one, rest_end}
 use Rattle.base_bytes.proofs.PutLaws.{writing-starts, writing-goes, writing-ends, writing-as}

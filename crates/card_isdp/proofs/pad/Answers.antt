@@ -1,6 +1,5 @@
 -- `card_isdp::pad`: the loop has put the first i bytes of the AID before zeros; it ends with the AID or with the sixteenth byte.
 use mathlib.Core.Path.{◌∙◌}
-use Prim.Native.Nat.{◌-◌}
 use native.Mathlib.Omega.{arith}
 use borrow.Author.Rules.{rules}
 use Rattle.card_isdp.proofs.Bytes.{pad-step, pad-short, pad-full}

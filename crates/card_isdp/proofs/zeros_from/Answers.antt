@@ -1,7 +1,6 @@
 -- `card_isdp::zeros_from`: what was found of the bytes before i and the bytes left decide together.
 use mathlib.Core.Path.{◌≡◌, sym, ◌∙◌}
 use mathlib.Core.Bool.{and-true, and_assoc}
-use Prim.Native.Nat.{◌-◌}
 use native.Mathlib.Omega.{arith}
 use lib.ListN.{length, get_or}
 use lib.Dec.{eqb}

@@ -1,12 +1,10 @@
 -- `card_places::again`: no place before i clashed, so the places left decide.
 use mathlib.Core.Path.{◌≡◌, sym, ◌∙◌}
-use Prim.Native.Nat.{◌-◌}
 use native.Mathlib.Omega.{arith}
 use lib.ListN.{length}
 use borrow.Author.Rules.{rules}
 use Rattle.card_isdp.specs.Sizes.{most_places}
 use Rattle.card_isdp.specs.Place.{clash}
-use Rattle.card_places.specs.Places.{at}
 use Rattle.card_places.proofs.Turns.{any_step, any-end}
 use Rattle.card_places.proofs.Records.{unread}
 use Rattle.card_places.proofs.again.Goals as goal

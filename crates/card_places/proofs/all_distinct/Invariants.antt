@@ -1,5 +1,5 @@
 -- `card_places::all_distinct`: the places from i on are distinct and their hashes noted, so the hash of the next one down tells whether to compare.
-use Prim.Native.Nat.{◌-◌, ◌≤◌}
+use Prim.Native.Nat.{◌≤◌}
 use Rattle.card_isdp.specs.Sizes.{most_places}
 use Rattle.card_places.proofs.Hashes.{Walked}
 use Rattle.card_places.proofs.all_distinct.Given as goal

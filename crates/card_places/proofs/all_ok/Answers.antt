@@ -1,13 +1,10 @@
 -- `card_places::all_ok`: the places before i passed, so the places left decide.
 use mathlib.Core.Path.{◌≡◌, sym, ◌∙◌}
-use Prim.Native.Nat.{◌-◌}
 use native.Mathlib.Omega.{arith}
 use lib.ListN.{length}
 use borrow.Author.Rules.{rules}
-use borrow.Author.Tests.{not-true, not-false}
 use Rattle.card_isdp.specs.Sizes.{most_places}
 use Rattle.card_isdp.specs.Place.{place_ok}
-use Rattle.card_places.specs.Places.{at}
 use Rattle.card_places.proofs.Turns.{all-step, all_end}
 use Rattle.card_places.proofs.Records.{unread}
 use Rattle.card_places.proofs.all_ok.Goals as goal

@@ -1,14 +1,11 @@
 -- `card_places::count_enabled`: the places before i are counted in n, the rest is still to count.
 use mathlib.Core.Path.{◌≡◌}
-use Prim.Native.Nat.{◌-◌}
 use native.Mathlib.Omega.{arith}
-use mathlib.Core.Logic.{⊎_elim}
 use lib.ListN.{length, get_or}
 use borrow.Author.Rules.{rules}
 use borrow.Author.Tests.{eq-eqb, ne_eqb}
 use Rattle.card_isdp.specs.Sizes.{most_places}
 use Rattle.card_isdp.specs.LifeCycle.{enabled, is_enabled}
-use Rattle.card_places.specs.Places.{at}
 use Rattle.card_places.proofs.Turns.{count-step, count-end}
 use Rattle.card_places.proofs.Records.{unread}
 use Rattle.card_places.proofs.count_enabled.Goals as goal

@@ -1,6 +1,5 @@
 -- `card_places::enabled`: no place before i is enabled; the search is i and what is found in the places left.
 use mathlib.Core.Path.{◌≡◌}
-use Prim.Native.Nat.{◌-◌}
 use native.Mathlib.Omega.{arith}
 use lib.ListN.{length, get_or}
 use borrow.Author.Rules.{rules}

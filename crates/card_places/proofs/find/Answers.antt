@@ -1,6 +1,5 @@
 -- `card_places::find`: no place before i bears the AID; the search is i and what is found in the places left.
 use mathlib.Core.Path.{◌≡◌, sym, ◌∙◌}
-use Prim.Native.Nat.{◌-◌}
 use native.Mathlib.Omega.{arith}
 use lib.ListN.{length}
 use borrow.Author.Rules.{rules}

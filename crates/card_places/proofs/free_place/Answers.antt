@@ -1,6 +1,5 @@
 -- `card_places::free_place`: no place before i is free; the search is i and what is found in the places left.
 use mathlib.Core.Path.{◌≡◌}
-use Prim.Native.Nat.{◌-◌}
 use native.Mathlib.Omega.{arith}
 use lib.ListN.{length, get_or}
 use borrow.Author.Rules.{rules}

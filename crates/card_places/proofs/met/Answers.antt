@@ -1,5 +1,4 @@
 -- `card_places::met`: by cases on whether the hash was seen.
-use borrow.Author.Tests.{not-true, not-false}
 use Rattle.card_places.proofs.met.Goals as goal
 
 pub returns-then-not-seen : goal.returns-then-not-seen

@@ -6,7 +6,6 @@ use Rattle.base_choice.proofs.Branches.{yes!, no!, lt!, nlt!, eq!, ne! }
 use mathlib.Core.Path.{refl, sym, ◌∙◌}
 use native.Mathlib.Omega.{arith}
 use Prim.Native.Nat.{◌+◌, ◌-◌, ◌*◌, ◌<◌}
-use borrow.Fn.PlainCycle.{is}
 use Rattle.read_tlv.proofs.+read_element_read_list.Goals as goal
 
 pub read_element-returns-in_default : goal.read_element-returns-in_default

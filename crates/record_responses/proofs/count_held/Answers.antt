@@ -1,6 +1,5 @@
 -- `record_responses::count_held`: the places before i are counted in n, the rest is still to count.
 use mathlib.Core.Path.{◌≡◌}
-use Prim.Native.Nat.{◌-◌}
 use native.Mathlib.Omega.{arith}
 use lib.ListN.{length, get_or}
 use borrow.Author.Rules.{rules}

@@ -1,7 +1,6 @@
 -- `record_responses::write_part`: the part from place i on, in the room left, is still to write, which leaves what writing all of it leaves; the place
 -- that is left from there on is the one that is left in all.
 use mathlib.Core.Path.{◌≡◌, refl, sym, ◌∙◌}
-use Prim.Native.Nat.{◌-◌}
 use native.Mathlib.Omega.{arith}
 use lib.ListN.{length}
 use Rattle.card_isdp.specs.Sizes.{most_places}

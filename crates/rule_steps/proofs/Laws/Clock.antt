@@ -11,7 +11,6 @@ use Rattle.base_status.specs.declared.Status.TheVariants.{Done}
 use Rattle.card_isdp.specs.Sizes.{wait}
 use Rattle.card_isdp.specs.Aids.{no_aid}
 use Rattle.card_isdp.specs.LifeCycle.{disabled}
-use Rattle.card_places.specs.Places.{at}
 use Rattle.card_places.proofs.Lives.{within}
 use Rattle.card_places.proofs.Numbered.{only}
 use Rattle.card_record.specs.Cards.{is_quiet, on_fallback, forgotten, with_phase}
