@@ -10,8 +10,6 @@ FRESH, EVENTS = 1, 2
 COMMAND, KEYED, STORED, FINISHED, TICK, LOST, FINISHED_WITH_MARK, POLICY = range(1, 9)
 FILE_MOST = 65_536
 LINE_MOST = 4_096
-# So many bytes of a wrong word are shown.
-SHOWN_MOST = 64
 SPEAKER_MOST = 255
 
 
@@ -63,24 +61,18 @@ class Unfit(Exception):
         self.line = line
 
 
-def wrong(reason, word):
-    """A fault of one word, with as much of it as is shown."""
-    shown = "".join(chr(byte) if 0x21 <= byte <= 0x7E else "?" for byte in word[:SHOWN_MOST])
-    return ValueError(f"{reason} '{shown}'")
-
-
 def hex_bytes(word):
     if word == b"-":
         return b""
     if len(word) % 2 or not re.fullmatch(rb"[0-9A-Fa-f]+", word):
-        raise wrong("bad hex", word)
+        raise ValueError("bad hex")
     return bytes.fromhex(word.decode())
 
 
 def bounded(most):
     def value(word):
         if not re.fullmatch(rb"[0-9]+", word) or int(word) > most:
-            raise wrong("bad number", word)
+            raise ValueError("bad number")
         return int(word)
 
     return value
@@ -124,7 +116,7 @@ def made_of(words, is_first):
     if words[0] == b"card":
         raise ValueError("a card handed in is no event")
     if words[0] not in LINES:
-        raise wrong("unknown word", words[0])
+        raise ValueError("unknown word")
     if is_first and words[0] != b"fresh":
         raise ValueError("the first call is not fresh")
     if not is_first and words[0] == b"fresh":
@@ -139,32 +131,17 @@ def made_of(words, is_first):
     return make(*[kind(word) for kind, word in zip(kinds, words[1:])])
 
 
-def lines_of(text):
-    """The lines of a script; an empty rest is none. A carriage return at the end of a line is no part of it, but counts among its bytes."""
-    *ended, rest = text.split(b"\n")
-    return [line.removesuffix(b"\r") if len(line) <= LINE_MOST else line for line in ended + [rest] * bool(rest)]
-
-
-def words_of(line):
-    """The words of a line; none where it is passed over."""
-    if len(line) > LINE_MOST:
-        raise ValueError("too long")
-    words = [word for word in line.split(b" ") if word]
-    if not words or words[0].startswith(b"#"):
-        return []
-    if b"\t" in line:
-        raise ValueError("a tab, where words are parted by spaces")
-    return words
-
-
 def read_script(text):
     """The fresh card's inputs and the list of the events of a script, which has to hold these and nothing else."""
     made, size = [], len(contents((0, 0, 0), (0, 0, 0)))
-    lines = lines_of(text)
+    lines = text.split(b"\n")
     for at, line in enumerate(lines, 1):
+        words = line.split(b" ")
+        words = [word for word in words if word]
         try:
-            words = words_of(line)
-            if not words:
+            if len(line) > LINE_MOST:
+                raise ValueError("too long")
+            if not words or words[0].startswith(b"#"):
                 continue
             made.append(made_of(words, not made))
             size += len(made[-1])
@@ -173,5 +150,5 @@ def read_script(text):
         except ValueError as error:
             raise Unfit(at, error) from None
     if not made:
-        raise Unfit(max(1, len(lines)), "there is no fresh")
+        raise Unfit(len(lines), "there is no fresh")
     return made[0], made[1:]

@@ -4,7 +4,7 @@ import fractions, math
 from stories import aid
 
 MEANINGS = {
-    "contents wrong": "this is no event file, or its table of contents is damaged",
+    "contents wrong": "the file is too long, or its sections are not known ones that lie end to end",
     "section missing": "the fresh card's inputs or the events are not listed",
     "fresh inputs bad": "the fresh card's inputs are under 32 bytes, or no card is made of them",
     "event cut short": "the events end within an event",

@@ -1,19 +1,17 @@
-"""scenarios [PART..]: writes marked.script, scenarios.script and explained.script with their
-stdouts, and a script for each bad line. The answer beside each call is written by hand from the
-papers; what is made is stored only if the peer agrees with all of them. With PARTS (the first
-letters of their names, as `r05`) each of these is asked for alone, and nothing is stored."""
+"""scenarios [PART..]: writes marked.script, scenarios.script and explained.script with their stdouts, and a script for each bad line.
+The answer beside each call is written by hand from the papers; what is made is stored only if the peer agrees with all of them.
+With PARTS (the first letters of their names, as `r05`) each of these is asked for alone, and nothing is stored."""
 import pathlib, sys
 
 sys.dont_write_bytecode = True
 TOOLS = pathlib.Path(__file__).resolve().parent.parent
 sys.path[0] = str(TOOLS)
 from parts import named
-from usage import told
 from scenarios import (
     bad_lines, base_calls, base_rulings, explained, marked, r02, r03_refusals, r03_room, r04_moves, r04_records, r05_kept, r05_parts, r06_policies,
     r06_reading, r06_speakers, r07, spelling,
 )
-from scenarios.peer import EXPLAINED, PLAIN, agreed, agreed_bad_lines, coded
+from scenarios.peer import EXPLAINED, PLAIN, agreed, agreed_bad_lines
 from scenarios.script import Script
 
 # The parts of each script that is stored, in their order. The first of the scenarios begins with calls before any fresh.
@@ -41,12 +39,12 @@ def store_all():
     made = {stem: asked(stem, parts, stem) for stem, parts in STORED.items()}
     scripts = bad_lines.scripts()
     agreed_bad_lines(scripts)
-    made |= {f"bad-{index:03}": (text, plain) for index, (text, plain, _) in enumerate(scripts, 1)}
+    made |= {f"bad-{index:02}": script for index, script in enumerate(scripts, 1)}
     for old in TOOLS.glob("bad-*"):
         old.unlink()
     for stem, (text, answers) in made.items():
-        (TOOLS / f"{stem}.script").write_bytes(coded(text))
-        (TOOLS / f"{stem}.stdout").write_bytes(coded(answers))
+        (TOOLS / f"{stem}.script").write_text(text)
+        (TOOLS / f"{stem}.stdout").write_text(answers)
 
 
 def check(words):
@@ -60,7 +58,6 @@ def check(words):
             asked(name, [part], stem)
 
 
-told(__doc__)
 if sys.argv[1:]:
     check(sys.argv[1:])
 else:

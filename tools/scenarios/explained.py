@@ -46,7 +46,7 @@ def explained(s, line, word, *rows, more=(), phase="quiet", kept=None, ticks=0):
     columns = (">7", f"{longest}", "12", ">7", ">7", "9", "12", "")
     shown = ["  ".join(map(format, cells, columns)) for cells in (head, *rows)] if rows else ["  no profile is held"]
     listing = [] if kept is None else [f"listing open: next row at place {kept}"]
-    s.explained(line, "\n".join([word, *more, *shown, f"phase {phase}", *listing, f"ticks to come {ticks}"]))
+    s.call(line, "\n".join([word, *more, *shown, f"phase {phase}", *listing, f"ticks to come {ticks}"]))
 
 
 def crowd(many):
@@ -351,39 +351,10 @@ def policies_begin_anew(s):
     explained(s, UPDATES[0], UNSOUND, one, two)
 
 
-def lines_as_they_stand(s):
-    """The line above an answer, as it stands but for its end."""
-    s.name("the line of a call is shown with its number, its spaces, its case and its zeros, and without its end")
-    alone = (0, F, "ENABLED", 100, 10, "yes", "yes", "none")
-    explained(s, f"  fresh {EID.lower()}   {F.lower()} 01000 100 0010 0 ", DONE, alone)
-    s.remark("")
-    s.remark("# a comment is not shown, and neither is\tits tab")
-    s.remark("\r")
-    s.remark("   \r")
-    s.remark("#\r")
-    for line in ("tick", "tick\r", "  tick  \r", f"command 000 80caFF2100\r", f"keyed  {B.lower()} \r"):
-        if "command" in line:
-            explained(s, line, DONE, alone, more=["response FF210F810101820400000384830400000000"])
-        else:
-            explained(s, line, NOT_HELD if "keyed" in line else DONE, alone)
-
-    s.name("lines of 4,096 bytes, the carriage return of the end among them")
-    for line in ("tick".rjust(4096), "tick".ljust(4096), "tick".ljust(4095) + "\r", "tick".rjust(4095) + "\r"):
-        assert len(line) == 4096
-        explained(s, line, DONE, alone)
-
-
-def last_line(s):
-    """The script ends it, and its carriage return is none of it."""
-    s.name("a last line that no line feed follows: a carriage return at its end is not part of it")
-    explained(s, "tick\r", DONE, (0, F, "ENABLED", 100, 10, "yes", "yes", "none"))
-    s.end = ""
-
-
 def rows(s):
     for scenarios in (
         marks, marks_of_records, broken_downloads, half_loaded_records, open_changes, free_is_not_shown,
         listings, kept_places_of_records, thirty_two_rows, policies, policies_in_a_change,
-        policies_and_listings, policies_begin_anew, lines_as_they_stand, last_line,
+        policies_and_listings, policies_begin_anew,
     ):
         scenarios(s)

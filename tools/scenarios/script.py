@@ -4,20 +4,16 @@ from commands import C9, EID, F, TOKEN, b6, card_line, create, delete, ef, four_
 from .words import GET_DATA, aid, done, no, note, part, shown
 
 VOLATILE = 0x01020304
-CR = "\r"
 
 
 class Script:
-    """One scenario goes on with the card that the one before it has left, so most begin with a fresh or a card line. A line is text of one character a
-    byte, without its line feed."""
+    """One scenario goes on with the card that the one before it has left, so most begin with a fresh or a card line."""
 
     def __init__(self):
         self.lines, self.wanted, self.names = [], [], 0
-        # What ends the last line: nothing where the script itself is to end it.
-        self.end = "\n"
 
     def text(self):
-        return "\n".join(self.lines) + self.end
+        return "\n".join(self.lines) + "\n"
 
     def calls(self):
         return [line for line in self.lines if line.strip() and not line.lstrip().startswith("#")]
@@ -35,10 +31,6 @@ class Script:
     def call(self, line, answer):
         self.lines.append(line)
         self.wanted.append(answer)
-
-    def explained(self, line, answer):
-        """A call whose answer is given from its second line on: before it stand the number of the line and the line without its end."""
-        self.call(line, f"{len(self.lines) + 1}> {line.removesuffix(CR)}\n{answer}")
 
     def fresh(self, a=F, capacity=1000, quota=100, used=0, eid=EID, volatile=VOLATILE, answer=None):
         self.call(f"fresh {eid or '-'} {a or '-'} {capacity} {quota} {used} {volatile}", answer or done())

@@ -2,41 +2,59 @@
 //! The explained form also shows the card handed back, sound or not.
 
 use crate::card::*;
-use crate::hex::pair;
 use crate::manager::Answer;
 use crate::status::*;
-use crate::text::Text;
+use std::fmt::Write;
 
-pub fn put_line(out: &mut Text, answer: &Answer, response: &[u8]) {
-    let [[a, b], [c, d]] = answer.status.to_be_bytes().map(pair);
-    match (response, &answer.notification) {
-        // Most answers are their word and the ticks.
-        ([], None) => out.raw(&[a, b, c, d, b' ', b'-', b' ', b'-', b' ']),
-        (response, None) => out.raw(&[a, b, c, d, b' ']).digits(response).put(" - "),
-        (response, Some(Notification { kind, number, aid, .. })) => {
-            out.raw(&[a, b, c, d, b' ']).hex(response).put(" ");
-            out.digits(&[*kind]).put(":").digits(&number.to_be_bytes()).put(":").hex(aid.bytes()).put(" ")
+fn put_digits(out: &mut String, bytes: &[u8]) {
+    for byte in bytes {
+        for nibble in [byte >> 4, byte & 0x0F] {
+            out.push(char::from(b"0123456789ABCDEF"[usize::from(nibble)]));
         }
-    };
-    out.number(answer.ticks).put("\n");
+    }
 }
 
-pub fn put_explained(out: &mut Text, card: &Card, answer: &Answer, response: &[u8]) {
+pub fn put_hex(out: &mut String, bytes: &[u8]) {
+    if bytes.is_empty() {
+        out.push('-');
+    }
+    put_digits(out, bytes);
+}
+
+pub fn put_line(out: &mut String, answer: &Answer, response: &[u8]) {
+    let _ = write!(out, "{:04X} ", answer.status);
+    put_hex(out, response);
+    match &answer.notification {
+        None => out.push_str(" -"),
+        Some(notification) => {
+            let _ = write!(out, " {:02X}:{:04X}:", notification.kind, notification.number);
+            put_hex(out, notification.aid.bytes());
+        }
+    }
+    let _ = writeln!(out, " {}", answer.ticks);
+}
+
+pub fn put_explained(out: &mut String, card: &Card, answer: &Answer, response: &[u8]) {
     let [high, low] = answer.status.to_be_bytes();
-    out.digits(&[high]).put(" ").digits(&[low]).put(" ").put(meaning(answer.status)).put("\n");
+    let _ = writeln!(out, "{high:02X} {low:02X} {}", meaning(answer.status));
     if !response.is_empty() {
-        out.put("response ").digits(response).put("\n");
+        let _ = writeln!(out, "response {}", digits(response));
     }
     if let Some(Notification { kind, number, aid, .. }) = answer.notification {
-        out.put("notification ").number(number).put(": ").put(kind_name(kind)).put(", ");
-        out.digits(aid.bytes()).put(" enabled\n");
+        let _ = writeln!(out, "notification {number}: {}, {} enabled", kind_name(kind), digits(aid.bytes()));
     }
     put_table(out, card);
     put_phase(out, card.phase);
     if let Some(index) = card.kept_place {
-        out.put("listing open: next row at place ").number(index).put("\n");
+        let _ = writeln!(out, "listing open: next row at place {index}");
     }
-    out.put("ticks to come ").number(answer.ticks).put("\n\n");
+    let _ = writeln!(out, "ticks to come {}\n", answer.ticks);
+}
+
+pub fn digits(bytes: &[u8]) -> String {
+    let mut out = String::new();
+    put_digits(&mut out, bytes);
+    out
 }
 
 fn meaning(status: u16) -> &'static str {
@@ -68,83 +86,70 @@ fn kind_name(kind: u8) -> &'static str {
     }
 }
 
-fn put_table(out: &mut Text, card: &Card) {
+fn put_table(out: &mut String, card: &Card) {
     let held = || card.places.iter().enumerate().filter(|(_, place)| place.is_held());
     let Some(longest) = held().map(|(_, place)| place.aid.bytes().len()).max() else {
-        out.put("  no profile is held\n");
+        out.push_str("  no profile is held\n");
         return;
     };
     let width = 2 * longest;
-    out.put("  place  ").left(width, |cell| _ = cell.put("AID"));
-    out.put("  state           quota     used  fall-back  provisioning  policy\n");
+    let _ = writeln!(
+        out,
+        "{:>7}  {:width$}  {:12}  {:>7}  {:>7}  {:9}  {:12}  policy",
+        "place", "AID", "state", "quota", "used", "fall-back", "provisioning"
+    );
     for (index, place) in held() {
         let fall_back = if card.is_fall_back(index) { "yes" } else { "" };
-        out.right(index as u64, 7).put("  ").left(width, |cell| _ = cell.digits(place.aid.bytes()));
-        out.put("  ").left(12, |cell| put_name(cell, state_name(place.life_cycle), place.life_cycle));
-        out.put("  ").right(place.quota, 7).put("  ").right(place.used, 7);
-        out.put("  ").left(9, |cell| _ = cell.put(fall_back));
-        out.put("  ").left(12, |cell| put_name(cell, mark_name(place.mark), place.mark));
-        out.put("  ").left(0, |cell| put_name(cell, policy_name(place.policy), place.policy));
-        out.put("\n");
+        let _ = writeln!(
+            out,
+            "{index:>7}  {:width$}  {:12}  {:>7}  {:>7}  {fall_back:9}  {:12}  {}",
+            digits(place.aid.bytes()),
+            state_name(place.life_cycle),
+            place.quota,
+            place.used,
+            mark_name(place.mark),
+            policy_name(place.policy)
+        );
     }
 }
 
-/// The name of a byte, or its digits where it has none.
-fn put_name(cell: &mut Text, name: Option<&str>, byte: u8) {
-    match name {
-        Some(name) => cell.put(name),
-        None => cell.digits(&[byte]),
-    };
-}
-
-fn state_name(life_cycle: u8) -> Option<&'static str> {
+fn state_name(life_cycle: u8) -> String {
     match life_cycle {
-        SELECTABLE => Some("SELECTABLE"),
-        PERSONALIZED => Some("PERSONALIZED"),
-        DISABLED => Some("DISABLED"),
-        ENABLED => Some("ENABLED"),
-        _ => None,
+        SELECTABLE => "SELECTABLE".to_owned(),
+        PERSONALIZED => "PERSONALIZED".to_owned(),
+        DISABLED => "DISABLED".to_owned(),
+        ENABLED => "ENABLED".to_owned(),
+        other => format!("{other:02X}"),
     }
 }
 
-fn mark_name(mark: u8) -> Option<&'static str> {
+fn mark_name(mark: u8) -> String {
     match mark {
-        0 => Some(""),
-        MARKED => Some("yes"),
-        _ => None,
+        0 => String::new(),
+        MARKED => "yes".to_owned(),
+        other => format!("{other:02X}"),
     }
 }
 
-fn policy_name(policy: u8) -> Option<&'static str> {
+fn policy_name(policy: u8) -> String {
     const BOTH_FORBIDDEN: u8 = DISABLING_FORBIDDEN | DELETION_FORBIDDEN;
     match policy {
-        0 => Some("none"),
-        DISABLING_FORBIDDEN => Some("disabling forbidden"),
-        DELETION_FORBIDDEN => Some("deletion forbidden"),
-        BOTH_FORBIDDEN => Some("disabling and deletion forbidden"),
-        DELETE_ONCE_DISABLED => Some("deleted once disabled"),
-        _ => None,
+        0 => "none".to_owned(),
+        DISABLING_FORBIDDEN => "disabling forbidden".to_owned(),
+        DELETION_FORBIDDEN => "deletion forbidden".to_owned(),
+        BOTH_FORBIDDEN => "disabling and deletion forbidden".to_owned(),
+        DELETE_ONCE_DISABLED => "deleted once disabled".to_owned(),
+        other => format!("{other:02X}"),
     }
 }
 
-fn put_phase(out: &mut Text, phase: Phase) {
-    let (left, number) = match phase {
-        Phase::Quiet => {
-            out.put("phase quiet\n");
-            return;
-        }
+fn put_phase(out: &mut String, phase: Phase) {
+    let _ = match phase {
+        Phase::Quiet => writeln!(out, "phase quiet"),
         Phase::Trial { previous, left, number } => {
-            out.put("phase trial: previous at place ").number(previous).put(", ");
-            (left, number)
+            writeln!(out, "phase trial: previous at place {previous}, ticks left {left}, number {number}")
         }
-        Phase::Back { left, number } => {
-            out.put("phase back: ");
-            (left, number)
-        }
-        Phase::Fallen { left, number } => {
-            out.put("phase fallen: ");
-            (left, number)
-        }
+        Phase::Back { left, number } => writeln!(out, "phase back: ticks left {left}, number {number}"),
+        Phase::Fallen { left, number } => writeln!(out, "phase fallen: ticks left {left}, number {number}"),
     };
-    out.put("ticks left ").number(left).put(", number ").number(number).put("\n");
 }

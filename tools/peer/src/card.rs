@@ -203,14 +203,8 @@ impl Card {
         self.places.get(index as usize).filter(|place| place.is_held())
     }
 
-    /// Whole AIDs are compared, with their length and the zeros past it: that is one step a place, and a loop for each
-    /// would be many where they begin alike.
-    pub fn find(&self, name: &[u8]) -> Option<usize> {
-        if name.is_empty() || name.len() > AID_MOST {
-            return None;
-        }
-        let aid = Aid::of(name);
-        self.places.iter().position(|place| place.aid == aid)
+    pub fn find(&self, aid: &[u8]) -> Option<usize> {
+        self.places.iter().position(|place| place.is_held() && place.aid.bytes() == aid)
     }
 
     pub fn lowest_free_place(&self) -> Option<usize> {

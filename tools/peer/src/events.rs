@@ -31,7 +31,7 @@ impl Refusal {
 
     pub fn meaning(self) -> &'static str {
         match self {
-            Refusal::ContentsWrong => "this is no event file, or its table of contents is damaged",
+            Refusal::ContentsWrong => "the file is too long, or its sections are not known ones that lie end to end",
             Refusal::SectionMissing => "the fresh card's inputs or the events are not listed",
             Refusal::FreshInputsBad => "the fresh card's inputs are under 32 bytes, or no card is made of them",
             Refusal::EventCutShort => "the events end within an event",

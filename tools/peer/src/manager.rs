@@ -59,11 +59,6 @@ impl Kept {
     pub fn card(&self) -> &Card {
         &self.card
     }
-
-    /// Forgets what was found before, and asks again.
-    pub fn ask(&mut self) {
-        self.sound = self.card.is_sound();
-    }
 }
 
 fn on_sound(kept: &mut Kept, step: impl FnOnce(&mut Card) -> Result<Done, u16>) -> Answer {
@@ -282,7 +277,7 @@ fn get_status(card: &Card, rows: Rows, tags: Tags, buffer: &mut [u8]) -> Result<
     Ok(Done::wrote(response.length))
 }
 
-/// How long the row is that `Response::row` writes, its tag and its length among it.
+/// How long the row is that `Response::row` writes.
 fn row_length(place: &Place, tags: Tags) -> usize {
     let life_cycle = if tags.life_cycle { 4 } else { 0 };
     let attributes = if tags.attributes { 3 } else { 0 };
@@ -327,18 +322,17 @@ impl<'a> Response<'a> {
         self.put(value);
     }
 
-    /// E3 with 4F, and with 9F70 and 53 where they are asked for.
     fn row(&mut self, card: &Card, index: usize, tags: Tags) {
         let place = &card.places[index];
-        let (length, aid) = (row_length(place, tags), place.aid.bytes());
-        self.put(&[0xE3, length as u8 - 2, 0x4F, aid.len() as u8]);
-        self.put(aid);
-        if tags.life_cycle {
-            self.put(&[0x9F, 0x70, 1, place.life_cycle]);
-        }
-        if tags.attributes {
-            self.put(&[0x53, 1, u8::from(card.is_fall_back(index))]);
-        }
+        self.list(&[0xE3], |response| {
+            response.element(&[0x4F], place.aid.bytes());
+            if tags.life_cycle {
+                response.element(&[0x9F, 0x70], &[place.life_cycle]);
+            }
+            if tags.attributes {
+                response.element(&[0x53], &[u8::from(card.is_fall_back(index))]);
+            }
+        });
     }
 
     fn list(&mut self, tag: &[u8], elements: impl FnOnce(&mut Self)) {

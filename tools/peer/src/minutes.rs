@@ -1,18 +1,14 @@
 //! The report of minutes by profile (docs/EVENTS.md): for whom each tick of an event file counts,
 //! and what is written of it, plain or for a person.
 
+use crate::answers::digits;
 use crate::card::Aid;
 use crate::events::{Event, Month, Refusal};
-use crate::lent::Lent;
 use crate::manager::{self, BUFFER_LEAST};
 use crate::status::is_done;
-use crate::text::Text;
+use std::fmt::Write;
 
 const LINES_MOST: usize = 64;
-/// The columns of the report for a person.
-const NAME_WIDTH: usize = 32;
-const NUMBER_WIDTH: usize = 9;
-const SHARE_WIDTH: usize = 8;
 
 #[derive(Default)]
 struct Report {
@@ -28,14 +24,12 @@ impl Report {
     fn of(month: &Month) -> Report {
         let mut report = Report::default();
         let mut kept = month.fresh;
-        let mut lent = Lent::default();
+        let mut buffer = [0u8; BUFFER_LEAST];
         let mut line = report.enable(kept.card().enabled_aid());
         for event in month.events() {
             report.events += 1;
             let answer = match event {
-                Event::Command { verdict, bytes } => {
-                    lent.to(BUFFER_LEAST, |buffer| manager::command(&mut kept, verdict, bytes, buffer))
-                }
+                Event::Command { verdict, bytes } => manager::command(&mut kept, verdict, bytes, &mut buffer),
                 Event::Keyed(aid) => manager::keyed(&mut kept, aid),
                 Event::Stored(aid, n) => manager::stored(&mut kept, aid, n),
                 Event::Finished { aid, policy, mark } => manager::finished(&mut kept, aid, policy, mark),
@@ -44,9 +38,7 @@ impl Report {
                     manager::tick(&mut kept)
                 }
                 Event::Lost => manager::lost(&mut kept),
-                Event::Policy { speaker, bytes } => {
-                    lent.to(BUFFER_LEAST, |buffer| manager::policy(&mut kept, speaker, bytes, buffer))
-                }
+                Event::Policy { speaker, bytes } => manager::policy(&mut kept, speaker, bytes, &buffer),
             };
             report.refused += u32::from(!is_done(answer.status));
             // Whatever enables a profile issues a notification, which bears its AID; a test holds the two together.
@@ -78,63 +70,51 @@ impl Report {
         }
     }
 
-    fn put(&self, out: &mut Text) {
-        for (aid, ticks) in &self.lines {
-            out.digits(aid.bytes()).put(" ").number(*ticks).put("\n");
-        }
-        if let Some(ticks) = self.rest {
-            out.put("rest ").number(ticks).put("\n");
-        }
-        out.put("ticks ").number(self.ticks).put("\nevents ").number(self.events).put("\n");
+    /// Each line's name and ticks, that of the rest last.
+    fn rows(&self) -> impl Iterator<Item = (String, u32)> + '_ {
+        let rest = self.rest.map(|ticks| ("rest".to_owned(), ticks));
+        self.lines.iter().map(|(aid, ticks)| (digits(aid.bytes()), *ticks)).chain(rest)
     }
 
-    fn put_explained(&self, out: &mut Text) {
-        out.put("AID                               minutes   share\n");
-        for (aid, ticks) in &self.lines {
-            self.put_row(out, *ticks, |cell| _ = cell.digits(aid.bytes()));
+    fn put(&self, out: &mut String) {
+        for (name, ticks) in self.rows() {
+            let _ = writeln!(out, "{name} {ticks}");
         }
-        if let Some(ticks) = self.rest {
-            self.put_row(out, ticks, |cell| _ = cell.put("rest"));
+        let _ = writeln!(out, "ticks {}\nevents {}", self.ticks, self.events);
+    }
+
+    fn put_explained(&self, out: &mut String) {
+        let _ = writeln!(out, "{:32}{:>9}{:>8}", "AID", "minutes", "share");
+        for (name, ticks) in self.rows() {
+            let _ = writeln!(out, "{name:32}{ticks:>9}{:>8}", share(ticks, self.ticks));
         }
         for (name, number) in [("ticks", self.ticks), ("events", self.events), ("refused", self.refused)] {
-            out.left(NAME_WIDTH, |cell| _ = cell.put(name)).right(number, NUMBER_WIDTH).put("\n");
+            let _ = writeln!(out, "{name:32}{number:>9}");
         }
-    }
-
-    /// A line of an AID, or of the rest: a name, its ticks and their share.
-    fn put_row(&self, out: &mut Text, ticks: u32, name: impl FnOnce(&mut Text)) {
-        out.left(NAME_WIDTH, name).right(ticks, NUMBER_WIDTH);
-        if self.ticks == 0 {
-            out.spaces(SHARE_WIDTH - 1).put("-\n");
-            return;
-        }
-        let tenths = share(ticks, self.ticks);
-        // Behind the number stand a point, a digit and the percent sign.
-        out.right(tenths / 10, SHARE_WIDTH - 3).put(".").number(tenths % 10).put("%\n");
     }
 }
 
 /// In tenths of a percent, a half upwards.
-fn share(part: u32, whole: u32) -> u32 {
-    (2000 * part + whole) / (2 * whole)
+fn share(part: u32, whole: u32) -> String {
+    if whole == 0 {
+        return "-".to_owned();
+    }
+    let tenths = (2000 * part + whole) / (2 * whole);
+    format!("{}.{}%", tenths / 10, tenths % 10)
 }
 
-fn put_refusal(out: &mut Text, refusal: Refusal, explained: bool) {
-    out.put("refused: ").put(refusal.name()).put("\n");
+fn put_refusal(out: &mut String, refusal: Refusal, explained: bool) {
+    let _ = writeln!(out, "refused: {}", refusal.name());
     if explained {
-        out.put(refusal.meaning()).put("\nno event was run\n");
+        let _ = writeln!(out, "{}\nno event was run", refusal.meaning());
     }
 }
 
-/// Adds what is written of one file to `out`, and hands back why it is refused, if it is.
-pub fn put_report(out: &mut Text, file: &[u8], explained: bool) -> Option<Refusal> {
+/// Adds what is written of one file to `out`.
+pub fn put_report(out: &mut String, file: &[u8], explained: bool) {
     match Month::of(file) {
+        Err(refusal) => put_refusal(out, refusal, explained),
         Ok(month) if explained => Report::of(&month).put_explained(out),
         Ok(month) => Report::of(&month).put(out),
-        Err(refusal) => {
-            put_refusal(out, refusal, explained);
-            return Some(refusal);
-        }
     }
-    None
 }

@@ -1,7 +1,7 @@
 //! The names of a chapter's profiles, and which of them a call names.
 
+use super::card::Place;
 use super::Generator;
-use peer::card::Place;
 
 impl Generator {
     /// Names that only their length, or zeros at their end, tell apart, among plain ones; more of them than there are

@@ -1,121 +1,32 @@
-//! Lines that cannot be read. Each would be wrong with a carriage return at its end too, which is none of the line.
+//! Lines that cannot be read.
 
+use super::card::{AID_MOST, EID_LENGTH, PLACES};
 use super::Generator;
-use peer::card::{AID_MOST, EID_LENGTH, PLACES};
-use peer::lines::LINE_MOST;
-
-/// Bytes that no word has: below the space, above the tilde.
-const ODD_BYTES: [u8; 14] = [0x00, 0x01, 0x08, 0x0B, 0x0C, b'\r', 0x1B, 0x1F, 0x7F, 0x80, 0xA0, 0xC3, 0xEF, 0xFF];
 
 impl Generator {
-    pub(super) fn bad_line(&mut self) -> Vec<u8> {
-        match self.random.below(100) {
-            0..=11 => self.long_line(),
-            12..=23 => self.with_a_tab(),
-            24..=35 => self.with_odd_bytes(),
-            36..=41 => self.long_word(),
-            _ => self.wrong_line().into_bytes(),
-        }
-    }
-
-    /// A line of one of the lists below.
-    fn wrong_line(&mut self) -> String {
-        let line = match self.random.below(60) {
+    pub(super) fn bad_line(&mut self) -> String {
+        match self.random.below(60) {
+            0 => "x".repeat(4097),
+            1 => format!("#{}", " ".repeat(4096)),
             _ if self.is_free => self.random.pick(&BAD_FREES).to_owned(),
             _ if self.is_listing => self.random.pick(&BAD_KEPTS).to_owned(),
-            0..=14 => format!("card EID 1000 0 1000 0 0 Q - {} REST", self.random.pick(&BAD_PLACES)),
+            2..=14 => format!("card EID 1000 0 1000 0 0 Q - {} REST", self.random.pick(&BAD_PLACES)),
             15..=28 => self.random.pick(&BAD_CARDS).to_owned(),
             _ => self.random.pick(&BAD_CALLS).to_owned(),
-        };
-        spelled_out(&line)
-    }
-
-    /// Right but for what is done to it, or wrong already.
-    fn any_line(&mut self) -> String {
-        if self.random.chance(70) {
-            spelled_out(self.random.pick(&RIGHT_LINES))
-        } else {
-            self.wrong_line()
         }
-    }
-
-    /// A byte too many, or more; the one too many is now and then the carriage return of its end. A line that is too long
-    /// may have a tab, and may be a comment.
-    fn long_line(&mut self) -> Vec<u8> {
-        let mut line = self.random.pick(&["x", "#", "tick", "keyed A000000001", "#\t", "tick\t"]).as_bytes().to_vec();
-        let more = self.random.pick(&[1, 1, 1, 2, 100, 70_000]);
-        line.resize(LINE_MOST + more, self.random.pick(b" x0"));
-        if self.random.chance(25) {
-            line[LINE_MOST + more - 1] = b'\r';
-        }
-        line
-    }
-
-    /// In the place of a space, or anywhere; not in a comment, of which it would be a part.
-    fn with_a_tab(&mut self) -> Vec<u8> {
-        let mut line = self.any_line().into_bytes();
-        let spaces: Vec<usize> = (0..line.len()).filter(|at| line[*at] == b' ').collect();
-        if !spaces.is_empty() && self.random.chance(50) {
-            line[self.random.pick(&spaces)] = b'\t';
-        } else {
-            line.insert(self.random.below(line.len() + 1), b'\t');
-        }
-        line
-    }
-
-    /// One to three of them, put in or in the place of others.
-    fn with_odd_bytes(&mut self) -> Vec<u8> {
-        let mut line = self.any_line().into_bytes();
-        for _ in 0..self.random.number(1, 3) {
-            let (at, odd) = (self.random.below(line.len()), self.random.pick(&ODD_BYTES));
-            if self.random.chance(50) {
-                line[at] = odd;
-            } else {
-                line.insert(at, odd);
-            }
-        }
-        if line.ends_with(b"\r") {
-            line.push(b'x');
-        }
-        line
-    }
-
-    /// A word that is wrong, of about as many bytes as are shown of one.
-    fn long_word(&mut self) -> Vec<u8> {
-        let length = self.random.pick(&[62, 63, 64, 65, 66, 67, 128, 600]);
-        let word = self.random.pick(&["x", "0", "9", "'", "~", "{"]).repeat(length - 1) + "z";
-        let before = self.random.pick(&["", "keyed ", "stored - ", "command ", "command 0 ", "policy - "]);
-        let after = if matches!(before, "command " | "policy ") { " -" } else { "" };
-        format!("{before}{word}{after}").into_bytes()
-    }
-}
-
-fn spelled_out(line: &str) -> String {
-    line.replace("EID", &"00".repeat(EID_LENGTH))
+        .replace("EID", &"00".repeat(EID_LENGTH))
         .replace("LONG", &"A0".repeat(AID_MOST + 1))
         .replace("NONE", &["-"; PLACES].join(" "))
         .replace("REST", &["-"; PLACES - 1].join(" "))
+    }
 }
-
-/// A line of each kind that can be read.
-const RIGHT_LINES: [&str; 9] = [
-    "tick",
-    "lost",
-    "keyed A000000001",
-    "stored A000000001 5",
-    "finished A000000001 0 1",
-    "command 0 80CAFF2100 256",
-    "policy A000000001 80E28800063A0603810100",
-    "fresh EID A000000001 1000 100 0 0",
-    "card EID 1000 0 1000 0 0 Q - NONE",
-];
 
 /// In the lines and places below EID stands for one of zeros, LONG for an AID that is too long, NONE for the words
 /// of all places and REST for those of all but one.
 const BAD_CALLS: [&str; 54] = [
     "ticks",
     "Tick",
-    "tick\r\r",
+    "tick\r",
     "tick\t",
     "tick 0",
     "lost -",

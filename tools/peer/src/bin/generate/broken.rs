@@ -1,9 +1,11 @@
 //! Cards that are not sound, and those that differ from the one reached in free or in the kept place alone.
 
+use super::card::{
+    Aid, Card, Phase, Place, CAPACITY_MOST, DISABLED, ENABLED, MARKED, PERSONALIZED, PLACES, SELECTABLE,
+};
 use super::cards::held_places;
+use super::script::hex_word;
 use super::Generator;
-use peer::card::{Aid, Card, Phase, Place, CAPACITY_MOST, DISABLED, ENABLED, MARKED, PERSONALIZED, PLACES, SELECTABLE};
-use peer::text::hex_word;
 
 /// What the quotas leave of the capacity, 0 where they pass it.
 fn free_left(card: &Card) -> u32 {

@@ -1,8 +1,8 @@
 //! Cards: fresh ones, and sound ones to be handed in.
 
+use super::card::{Aid, Card, Phase, Place, DISABLED, ENABLED, MARKED, PERSONALIZED, PLACES, SELECTABLE};
+use super::script::hex_word;
 use super::Generator;
-use peer::card::{Aid, Card, Phase, Place, DISABLED, ENABLED, MARKED, PERSONALIZED, PLACES, SELECTABLE};
-use peer::text::hex_word;
 
 pub(super) fn held_places(card: &Card) -> Vec<usize> {
     (0..PLACES).filter(|index| card.places[*index].is_held()).collect()

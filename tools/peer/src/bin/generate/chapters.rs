@@ -1,7 +1,7 @@
 //! Which call comes next, and how long a script goes on.
 
+use super::card::{DISABLED, DISABLING_FORBIDDEN};
 use super::Generator;
-use peer::card::{DISABLED, DISABLING_FORBIDDEN};
 
 impl Generator {
     fn ticks(&mut self) {
@@ -134,7 +134,7 @@ impl Generator {
     /// ends, or mostly another one is begun in its place.
     pub(super) fn month(&mut self, most: usize) {
         loop {
-            self.lines.clear();
+            self.out.clear();
             self.calls = 0;
             self.new_aids();
             self.fresh();

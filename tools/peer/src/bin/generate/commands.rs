@@ -1,8 +1,8 @@
 //! The commands of the root domain, but for GET STATUS.
 
+use super::card::{Card, Place, DELETION_FORBIDDEN, DISABLED, ENABLED, MARKED, PLACES};
 use super::frames::{counted, tlv};
 use super::Generator;
-use peer::card::{Card, Place, DELETION_FORBIDDEN, DISABLED, ENABLED, MARKED, PLACES};
 
 impl Generator {
     /// Mostly a name that is not held, so that the creation is taken; often the one deleted last, since created again

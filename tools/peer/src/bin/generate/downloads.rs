@@ -1,8 +1,8 @@
 //! The inner calls: keyed, stored and finished.
 
+use super::card::{mark_is_right, policy_is_right, MARKED, PERSONALIZED, SELECTABLE};
+use super::script::hex_word;
 use super::Generator;
-use peer::card::{mark_is_right, policy_is_right, MARKED, PERSONALIZED, SELECTABLE};
-use peer::text::hex_word;
 
 impl Generator {
     fn policy(&mut self) -> u8 {

@@ -1,7 +1,7 @@
 //! How the bytes of a command are framed, now and then damaged, and sent.
 
+use super::script::hex_word;
 use super::Generator;
-use peer::text::hex_word;
 
 pub(super) fn tlv(tag: &[u8], value: &[u8]) -> Vec<u8> {
     let mut out = tag.to_vec();

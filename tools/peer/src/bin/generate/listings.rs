@@ -1,9 +1,9 @@
 //! GET STATUS, listings in parts, and what comes between two parts.
 
+use super::card::{Place, PERSONALIZED, PLACES};
 use super::frames::tlv;
+use super::script::hex_word;
 use super::Generator;
-use peer::card::{Place, PERSONALIZED, PLACES};
-use peer::text::hex_word;
 
 impl Generator {
     /// The tags of a list: none, each alone, in any order and more than once, now and then a wrong one or a long list.

@@ -4,8 +4,25 @@
 //! one fresh card and what an event file can hold; with `free`, the free memory is looked at wherever it moves,
 //! and the card is handed in again and again with a free that is not its own; with `listing`, cards hold many
 //! profiles, most calls are parts of a listing or come between two, and the card is handed in with other kept places.
-//! Operators' policy updates are among the calls of each. Lines end with a line feed; in some scripts all of them, or some,
-//! have a carriage return before it, and in some no line feed follows the last.
+//! Operators' policy updates are among the calls of each.
+
+// The modules it shares with the peer; of two of them it needs only part.
+#[path = "../../answers.rs"]
+mod answers;
+#[path = "../../card.rs"]
+mod card;
+#[path = "../../manager.rs"]
+mod manager;
+#[path = "../../operator.rs"]
+mod operator;
+#[path = "../../read.rs"]
+mod read;
+#[allow(dead_code)]
+#[path = "../../script.rs"]
+mod script;
+#[allow(dead_code)]
+#[path = "../../status.rs"]
+mod status;
 
 mod aids;
 mod bad_lines;
@@ -15,21 +32,14 @@ mod chapters;
 mod commands;
 mod downloads;
 mod frames;
-mod line_ends;
 mod listings;
 mod policies;
 mod random;
 
-use line_ends::LineEnds;
-use peer::arguments::Options;
-use peer::card::Aid;
-use peer::script::Script;
-use peer::text::Text;
+use card::Aid;
 use random::Random;
-use std::io::{self, Write};
+use script::{Options, Script};
 use std::process::ExitCode;
-
-const USAGE: &str = "usage: generate SEED CALLS [bad | month | free | free bad | listing | listing bad]";
 
 struct Generator {
     random: Random,
@@ -37,8 +47,7 @@ struct Generator {
     aids: Vec<Vec<u8>>,
     /// The AID that was deleted last, if any.
     gone: Option<Aid>,
-    /// What was written so far, without the ends of the lines.
-    lines: Vec<Vec<u8>>,
+    out: String,
     calls: usize,
     /// The script is to be an event file: no command says how long its buffer is.
     is_month: bool,
@@ -50,15 +59,16 @@ struct Generator {
 
 impl Generator {
     fn put(&mut self, line: String) {
-        let answered = self.model.line(0, line.as_bytes(), &mut Text::default());
-        answered.expect("a line of the generator can be read");
-        self.lines.push(line.into_bytes());
+        let mut answer = String::new();
+        self.model.line(line.as_bytes(), &mut answer).expect("a line of the generator can be read");
+        self.out.push_str(&line);
+        self.out.push('\n');
         self.calls += 1;
     }
 }
 
 fn usage() -> ExitCode {
-    eprintln!("{USAGE}");
+    eprintln!("usage: generate SEED CALLS [bad | month | free | free bad | listing | listing bad]");
     ExitCode::from(2)
 }
 
@@ -79,7 +89,7 @@ fn main() -> ExitCode {
         model: Script::new(Options::default()),
         aids: Vec::new(),
         gone: None,
-        lines: Vec::new(),
+        out: String::new(),
         calls: 0,
         is_month: mode == "month",
         is_free: mode == "free",
@@ -92,10 +102,9 @@ fn main() -> ExitCode {
     }
     if is_bad {
         let line = generator.bad_line();
-        generator.lines.extend([line, b"tick".to_vec()]);
+        generator.out.push_str(&line);
+        generator.out.push_str("\ntick\n");
     }
-    match io::stdout().write_all(&LineEnds::of(seed).joined(&generator.lines)) {
-        Ok(()) => ExitCode::SUCCESS,
-        Err(_) => ExitCode::from(2),
-    }
+    print!("{}", generator.out);
+    ExitCode::SUCCESS
 }

@@ -1,9 +1,9 @@
 //! What operators send to set their policies.
 
+use super::card::{Place, DISABLED, ENABLED};
 use super::frames::{counted, tlv};
+use super::script::hex_word;
 use super::Generator;
-use peer::card::{Place, DISABLED, ENABLED};
-use peer::text::hex_word;
 
 impl Generator {
     /// Mostly the enabled profile, which alone is served; else one in another state, one not held, one that only its length

@@ -1,6 +1,8 @@
 //! Event files against their reports: how sections may lie, each refusal and which of two comes first,
 //! and for whom a tick counts. Every report is written from docs/EVENTS.md, none is copied from a run.
 
+use crate::minutes::put_report;
+
 const F: &[u8] = &[0xA0, 0, 0, 0, 1];
 const TICK: &[u8] = &[5, 0, 0];
 const LOST: &[u8] = &[6, 0, 0];
@@ -13,11 +15,15 @@ const UNKNOWN: &str = "refused: event of unknown kind\n";
 const LENGTH: &str = "refused: event of wrong length\n";
 
 fn report(file: &[u8]) -> String {
-    super::report(file, false)
+    let mut out = String::new();
+    put_report(&mut out, file, false);
+    out
 }
 
 fn explained(file: &[u8]) -> String {
-    super::report(file, true)
+    let mut out = String::new();
+    put_report(&mut out, file, true);
+    out
 }
 
 fn inputs(aid: &[u8], numbers: [u32; 4]) -> Vec<u8> {

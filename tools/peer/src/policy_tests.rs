@@ -1,14 +1,12 @@
 //! The policy update of an operator (request 2026-06): what its reader takes, in which order it is refused, whom it serves in
 //! each phase and what it leaves alone; then its line and its event. Every expected word is written from the papers.
 
-use super::deletion::{delete, master_delete, name, status};
-use super::{answered, reading};
-use crate::arguments::Options;
 use crate::card::*;
-use crate::fault::Reason;
+use crate::deletion_tests::{delete, master_delete, name, status};
 use crate::manager::{self, Answer, Kept};
+use crate::minutes::put_report;
 use crate::operator::read_policy;
-use crate::script::Script;
+use crate::script::{reading, Bad, Options, Script};
 
 fn place(name: &[u8], life_cycle: u8, policy: u8) -> Place {
     Place { aid: Aid::of(name), life_cycle, quota: 50, used: 7, policy, mark: MARKED }
@@ -166,8 +164,12 @@ fn the_root_domain_knows_no_policy() {
         assert_eq!(status(&mut kept, &update(policy)), 0x6A80);
         assert_eq!(kept, Kept::of(card_of(0, 0)));
     }
+    let read = |line: &str| {
+        let mut out = String::new();
+        reading(line.as_bytes(), 1000, &mut out).map(|()| out)
+    };
     for field in ["3A0603810102", "3A0603810100", "3A0603810105", "3A06028100", "3A06074F05A000000002"] {
-        assert_eq!(reading(&format!("80E28800{:02X}{field}", field.len() / 2)), "6A80\n");
+        assert_eq!(read(&format!("80E28800{:02X}{field}", field.len() / 2)), Ok("6A80\n".to_owned()));
     }
 }
 
@@ -252,9 +254,10 @@ fn what_follows_an_update() {
 #[test]
 fn lines() {
     let line = |line: &str| {
+        let mut out = String::new();
         let mut script = Script::new(Options::default());
-        answered(&mut script, "fresh 00112233445566778899AABBCCDDEEFF A000000001 1000 100 0 0").unwrap();
-        answered(&mut script, line)
+        script.line(b"fresh 00112233445566778899AABBCCDDEEFF A000000001 1000 100 0 0", &mut String::new()).unwrap();
+        script.line(line.as_bytes(), &mut out).map(|()| out)
     };
     let answered = |text: &str, answer: &str| assert_eq!(line(text), Ok(format!("{answer}\n")), "{text}");
     answered("policy A000000001 80E28800063A0603810101", "9000 - - 0");
@@ -265,19 +268,19 @@ fn lines() {
     answered("policy - -", "6700 - - 0");
     answered("policy - 80E28800063A0603810101", "6A80 - - 0");
     answered(&format!("policy {} {}", "A0".repeat(1000), "80".repeat(1000)), "6700 - - 0");
-    assert_eq!(line(&format!("policy {} 80{}", "A0".repeat(2000), " ".repeat(90))), Err(Reason::TooLong));
+    assert_eq!(line(&format!("policy {} 80{}", "A0".repeat(2000), " ".repeat(90))), Err(Bad::TooLong));
     let bad = |words: &str| line(&format!("policy{words}")).unwrap_err();
     for words in ["", " -", " x", " A000000001 "] {
-        assert_eq!(bad(words), Reason::WordsMissing);
+        assert_eq!(bad(words), Bad::WordsMissing);
     }
-    assert_eq!(bad(" x x x x"), Reason::TooManyWords);
+    assert_eq!(bad(" x x x x"), Bad::TooManyWords);
     for words in [" x -", " x x x", " A - 256", " - x", " - 8 1025", " 0x - x", " -- -", " - --"] {
-        assert_eq!(bad(words), Reason::Hex);
+        assert_eq!(bad(words), Bad::Hex);
     }
     for words in [" - - 1025", " - - x", " - - -", " - 80 -1", " - - 4294967296"] {
-        assert_eq!(bad(words), Reason::Number);
+        assert_eq!(bad(words), Bad::Number);
     }
-    assert_eq!(bad("s - -"), Reason::UnknownWord);
+    assert_eq!(bad("s - -"), Bad::UnknownWord);
 }
 
 fn event(kind: u8, bytes: &[u8]) -> Vec<u8> {
@@ -289,7 +292,9 @@ fn report(events: &[Vec<u8>]) -> String {
     let inputs = [&[7; 16][..], &[1000u32, 100, 0, 9].map(u32::to_be_bytes).concat(), &[0xA0, 0, 0, 0, 1]].concat();
     let events = events.concat();
     let contents = [2u32, 1, 28, 37, 2, 65, events.len() as u32].map(u32::to_be_bytes).concat();
-    super::report(&[contents, inputs, events].concat(), true)
+    let mut out = String::new();
+    put_report(&mut out, &[contents, inputs, events].concat(), true);
+    out
 }
 
 fn refused(events: &[Vec<u8>]) -> String {

@@ -1,13 +1,10 @@
 //! The free memory that a card keeps (request 2026-04): which figure is sound, who writes it, who reads it, and how a
 //! line hands it in. Every expected figure is written from the papers, none is copied from a run.
 
-use super::answered;
-use super::deletion::{create, delete, master_delete, name, send, status};
-use crate::arguments::Options;
 use crate::card::*;
-use crate::fault::Reason;
+use crate::deletion_tests::{create, delete, master_delete, name, send, status};
 use crate::manager::{self, Kept};
-use crate::script::Script;
+use crate::script::{Bad, Options, Script};
 
 const CAPACITY: u32 = 1000;
 
@@ -175,19 +172,20 @@ fn line(words: &str) -> String {
 fn a_card_line_hands_it_in() {
     let places = format!("A000000001:3F:100:5:0:1{}", " -".repeat(PLACES - 1));
     let answered = |words: &str| {
+        let mut out = String::new();
         let mut script = Script::new(Options::default());
-        let answer = answered(&mut script, &line(&format!("{words} Q - {places}")))?;
-        let card = script.card();
-        Ok::<_, Reason>((answer, card.volatile, card.free, card.last, card.fall_back))
+        script.line(line(&format!("{words} Q - {places}")).as_bytes(), &mut out)?;
+        let card = *script.card();
+        Ok::<_, Bad>((out, card.volatile, card.free, card.last, card.fall_back))
     };
     let (done, unsound) = ("9000 - - 0\n".to_owned(), "6F00 - - 0\n".to_owned());
     assert_eq!(answered("1000 7 900 8 0"), Ok((done.clone(), 7, 900, 8, 0)));
     assert_eq!(answered("1000 901 000900 8 0"), Ok((done, 901, 900, 8, 0)));
     assert_eq!(answered("1000 900 901 900 0"), Ok((unsound.clone(), 900, 901, 900, 0)));
     assert_eq!(answered("1000 7 4294967295 8 0"), Ok((unsound, 7, u32::MAX, 8, 0)));
-    assert_eq!(answered("1000 7 0 0"), Err(Reason::WordsMissing));
-    assert_eq!(answered("1000 7 900 8 0 0"), Err(Reason::TooManyWords));
+    assert_eq!(answered("1000 7 0 0"), Err(Bad::WordsMissing));
+    assert_eq!(answered("1000 7 900 8 0 0"), Err(Bad::TooManyWords));
     for wrong in ["4294967296", "-1", "+1", "-", "x", "0x1", "1.0", "99999999999999999999"] {
-        assert_eq!(answered(&format!("1000 7 {wrong} 8 0")), Err(Reason::Number));
+        assert_eq!(answered(&format!("1000 7 {wrong} 8 0")), Err(Bad::Number));
     }
 }

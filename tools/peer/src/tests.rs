@@ -2,12 +2,9 @@
 //! engine leans on: the ticks figure is the count, and no step from a sound card makes an unsound one.
 //! Then request 2026-02's mark of provisioning capability. Every expected line is written from the papers, none is copied from a run.
 
-use super::{alone, answered, reading};
-use crate::arguments::Options;
 use crate::card::*;
-use crate::fault::Reason;
 use crate::manager::{self, Kept};
-use crate::script::Script;
+use crate::script::{reading, Bad, Options, Script};
 
 const EID: &str = "00112233445566778899AABBCCDDEEFF";
 const FRESH: &str = "fresh 00112233445566778899AABBCCDDEEFF A000000001 1000 100 0 16909060";
@@ -25,7 +22,14 @@ fn play(lines: &[&str]) -> Vec<String> {
 
 fn played(lines: &[&str], options: Options) -> Vec<String> {
     let mut script = Script::new(options);
-    lines.iter().map(|line| answered(&mut script, line).unwrap().trim_end().to_owned()).collect()
+    lines
+        .iter()
+        .map(|line| {
+            let mut out = String::new();
+            script.line(line.as_bytes(), &mut out).unwrap();
+            out.trim_end().to_owned()
+        })
+        .collect()
 }
 
 fn last(lines: &[&str]) -> String {
@@ -136,12 +140,8 @@ fn marked_examples_7_to_12() {
     assert_eq!(play(&[&["lost", STATUS]]), format!("{enabled_f}0"));
 }
 
-/// What is written of the last line, after the line itself.
 fn explained(lines: &[&str]) -> String {
-    let answer = played(lines, Options { explained: true, asks: false }).pop().unwrap();
-    let (echo, answer) = answer.split_once('\n').unwrap();
-    assert_eq!(echo, format!("1> {}", lines.last().unwrap()));
-    answer.to_owned()
+    played(lines, Options { explained: true, asks: false }).pop().unwrap()
 }
 
 #[test]
@@ -190,44 +190,44 @@ fn asking_at_every_call_changes_no_answer() {
 
 #[test]
 fn bad_lines() {
-    let bad = |line: &str| alone(line).map(|_| ());
-    assert_eq!(bad(&"#".repeat(4097)), Err(Reason::TooLong));
+    let bad = |line: &str| Script::new(Options::default()).line(line.as_bytes(), &mut String::new());
+    assert_eq!(bad(&"#".repeat(4097)), Err(Bad::TooLong));
     assert_eq!(bad(&"#".repeat(4096)), Ok(()));
-    assert_eq!(bad("Tick 1"), Err(Reason::UnknownWord));
-    assert_eq!(bad("tick\r"), Err(Reason::UnknownWord));
-    assert_eq!(bad("tick\t"), Err(Reason::Tab));
-    assert_eq!(bad("stored zz"), Err(Reason::WordsMissing));
-    assert_eq!(bad("tick 1"), Err(Reason::TooManyWords));
-    assert_eq!(bad("stored 1 x"), Err(Reason::Hex));
-    assert_eq!(bad("stored - x"), Err(Reason::Number));
-    assert_eq!(bad("stored - 4294967296"), Err(Reason::Number));
+    assert_eq!(bad("Tick 1"), Err(Bad::UnknownWord));
+    assert_eq!(bad("tick\r"), Err(Bad::UnknownWord));
+    assert_eq!(bad("stored zz"), Err(Bad::WordsMissing));
+    assert_eq!(bad("tick 1"), Err(Bad::TooManyWords));
+    assert_eq!(bad("stored 1 x"), Err(Bad::Hex));
+    assert_eq!(bad("stored - x"), Err(Bad::Number));
+    assert_eq!(bad("stored - 4294967296"), Err(Bad::Number));
     assert_eq!(bad("  stored   -  0004294967295  "), Ok(()));
-    assert_eq!(bad("command 256 -"), Err(Reason::Number));
-    assert_eq!(bad("command 255 - 1025"), Err(Reason::Number));
-    assert_eq!(bad(&card_line("00", "0 0 0 0 0", "Q", &["-"])), Err(Reason::Hex));
+    assert_eq!(bad("command 256 -"), Err(Bad::Number));
+    assert_eq!(bad("command 255 - 1025"), Err(Bad::Number));
+    assert_eq!(bad(&card_line("00", "0 0 0 0 0", "Q", &["-"])), Err(Bad::Hex));
     let card = |phase: &str, place: &str| bad(&card_line(EID, "0 0 0 0 0", phase, &[place]));
     assert_eq!(card("Q", "-"), Ok(()));
-    assert_eq!(card("T:0:0", "x"), Err(Reason::Phase));
-    assert_eq!(card("B:256:0", "-"), Err(Reason::Phase));
+    assert_eq!(card("T:0:0", "x"), Err(Bad::Phase));
+    assert_eq!(card("B:256:0", "-"), Err(Bad::Phase));
     assert_eq!(card("F:0:65535", "-:00:0:0:0:0"), Ok(()));
-    assert_eq!(card("Q", "-:0:0:0:0:0"), Err(Reason::Place));
-    assert_eq!(card("Q", &format!("{}:07:0:0:0:0", "00".repeat(17))), Err(Reason::Place));
+    assert_eq!(card("Q", "-:0:0:0:0:0"), Err(Bad::Place));
+    assert_eq!(card("Q", &format!("{}:07:0:0:0:0", "00".repeat(17))), Err(Bad::Place));
     assert_eq!(card("Q", "A000000001:3F:1:1:255:255"), Ok(()));
     for wrong in ["3F:1:1:0", "3F:1:1:0:0:0", "3F:1:1:0:256", "3F:1:1:0:", "3F:1:1:0:x", "3F:1:1:256:0"] {
-        assert_eq!(card("Q", &format!("A000000001:{wrong}")), Err(Reason::Place));
+        assert_eq!(card("Q", &format!("A000000001:{wrong}")), Err(Bad::Place));
     }
 }
 
 #[test]
 fn bad_lines_of_finished() {
-    let bad = |words: &str| alone(&format!("finished {words}")).map(|_| ());
+    let bad =
+        |words: &str| Script::new(Options::default()).line(format!("finished {words}").as_bytes(), &mut String::new());
     assert_eq!(bad("- 255"), Ok(()));
     assert_eq!(bad("- 0 00255"), Ok(()));
-    assert_eq!(bad("x"), Err(Reason::WordsMissing));
-    assert_eq!(bad("x x x x"), Err(Reason::TooManyWords));
-    assert_eq!(bad("x 256 256"), Err(Reason::Hex));
+    assert_eq!(bad("x"), Err(Bad::WordsMissing));
+    assert_eq!(bad("x x x x"), Err(Bad::TooManyWords));
+    assert_eq!(bad("x 256 256"), Err(Bad::Hex));
     for wrong in ["256 1", "0 256", "0 -", "0 -1", "0 x", "0 01x", "0 99999999999"] {
-        assert_eq!(bad(&format!("A000000001 {wrong}")), Err(Reason::Number));
+        assert_eq!(bad(&format!("A000000001 {wrong}")), Err(Bad::Number));
     }
 }
 
@@ -267,7 +267,11 @@ fn set_fall_back_asks_the_mark() {
 
 #[test]
 fn readings_name_the_request() {
-    let read = reading;
+    let read = |hex: &str| {
+        let mut out = String::new();
+        reading(hex.as_bytes(), 1000, &mut out).unwrap();
+        out
+    };
     assert_eq!(read("80CAFF2100"), "get-data\n");
     assert_eq!(read("80F24002044F005C00"), "get-status all 4F\n");
     assert_eq!(read("80E28800073A08044E021234"), "confirm 4660\n");

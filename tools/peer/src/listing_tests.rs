@@ -1,13 +1,10 @@
 //! Listings in parts (request 2026-05): how many rows a part has, which place is kept, who goes on from it, who forgets it
 //! and who leaves it, and how a line hands it in. Every expected figure is written from the papers, none is copied from a run.
 
-use super::deletion::{create, delete, master_delete, name, send, status};
-use super::{answered, reading};
-use crate::arguments::Options;
 use crate::card::*;
-use crate::fault::Reason;
+use crate::deletion_tests::{create, delete, master_delete, name, send, status};
 use crate::manager::{self, Answer, Kept};
-use crate::script::Script;
+use crate::script::{reading, Bad, Options, Script};
 
 const FIRST: u8 = 0x02;
 const NEXT: u8 = 0x03;
@@ -342,11 +339,12 @@ fn a_sound_card_keeps_a_held_place_or_none() {
 }
 
 /// What a card line with this word for KEPT and these for its first places makes.
-fn handed_in(words: &str, places: usize, explained: bool) -> Result<(String, Option<u8>), Reason> {
+fn handed_in(words: &str, places: usize, explained: bool) -> Result<(String, Option<u8>), Bad> {
     let line = format!("card {} {words}{}", "07".repeat(EID_LENGTH), " -".repeat(places));
+    let mut out = String::new();
     let mut script = Script::new(Options { explained, asks: false });
-    let answer = answered(&mut script, &line)?;
-    Ok((answer, script.card().kept_place))
+    script.line(line.as_bytes(), &mut out)?;
+    Ok((out, script.card().kept_place))
 }
 
 #[test]
@@ -361,17 +359,16 @@ fn a_card_line_hands_it_in() {
         assert_eq!(kept(word), Ok((unsound.clone(), Some(index))));
     }
     for wrong in ["255", "256", "4294967296", "x", "--", "-1", "+1", "0x1", "1:", "Q"] {
-        assert_eq!(kept(wrong), Err(Reason::Number));
+        assert_eq!(kept(wrong), Err(Bad::Number));
     }
-    assert_eq!(kept(""), Err(Reason::WordsMissing));
-    assert_eq!(kept("- -"), Err(Reason::TooManyWords));
-    for (places, bad) in [(PLACES - 2, Reason::WordsMissing), (PLACES, Reason::TooManyWords), (7, Reason::WordsMissing)]
-    {
+    assert_eq!(kept(""), Err(Bad::WordsMissing));
+    assert_eq!(kept("- -"), Err(Bad::TooManyWords));
+    for (places, bad) in [(PLACES - 2, Bad::WordsMissing), (PLACES, Bad::TooManyWords), (7, Bad::WordsMissing)] {
         assert_eq!(handed_in(&format!("1000 7 900 8 0 Q - {profile}"), places, false), Err(bad));
     }
-    assert_eq!(handed_in(&format!("1000 7 900 8 0 q x {profile}"), PLACES - 1, false), Err(Reason::Phase));
-    assert_eq!(handed_in("1000 7 900 8 0 Q x x", PLACES - 1, false), Err(Reason::Number));
-    assert_eq!(handed_in("1000 7 900 8 0 Q 0 x", PLACES - 1, false), Err(Reason::Place));
+    assert_eq!(handed_in(&format!("1000 7 900 8 0 q x {profile}"), PLACES - 1, false), Err(Bad::Phase));
+    assert_eq!(handed_in("1000 7 900 8 0 Q x x", PLACES - 1, false), Err(Bad::Number));
+    assert_eq!(handed_in("1000 7 900 8 0 Q 0 x", PLACES - 1, false), Err(Bad::Place));
 }
 
 #[test]
@@ -388,7 +385,11 @@ fn the_explained_form_shows_it() {
     assert_eq!(shown("200", sound), ["", "ticks to come 0", "listing open: next row at place 200", phase]);
     assert_eq!(shown("31", "-"), ["", "ticks to come 0", "listing open: next row at place 31", phase]);
     let mut script = Script::new(Options { explained: true, asks: false });
-    let mut answered = |line: String| answered(&mut script, &line).unwrap().lines().nth(1).unwrap().to_owned();
+    let mut answered = |line: String| {
+        let mut out = String::new();
+        script.line(line.as_bytes(), &mut out).unwrap();
+        out.lines().next().unwrap().to_owned()
+    };
     assert_eq!(answered("fresh 07070707070707070707070707070707 A000000001 1000 100 0 0".to_owned()), "90 00 done");
     let meaning = "6A 88 target not held, or not the outstanding number, or no listing open";
     assert_eq!(answered("command 0 80F24003024F00".to_owned()), meaning);
@@ -402,7 +403,11 @@ fn the_explained_form_shows_it() {
 
 #[test]
 fn readings_name_the_next_rows() {
-    let read = reading;
+    let read = |hex: &str| {
+        let mut out = String::new();
+        reading(hex.as_bytes(), 1000, &mut out).unwrap();
+        out
+    };
     assert_eq!(read("80F24003024F00"), "get-status next 4F,9F70,53\n");
     assert_eq!(read("80F24003044F005C0000"), "get-status next 4F\n");
     assert_eq!(read("80F24003054F005C0153"), "get-status next 4F,53\n");
