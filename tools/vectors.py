@@ -1,11 +1,14 @@
 #!/usr/bin/env python3
-"""Writes vectors.script and vectors.stdout: ten seeds of the generator one after the other, the last three of them about listings, and what the peer answers.
-Each part begins with a fresh or a card, so none leans on the one before."""
+"""vectors.py: writes vectors.script and vectors.stdout, ten seeds of the generator one after the
+other, the last three of them about listings, and what the peer answers. Each part begins with a
+fresh or a card, so none leans on the one before. It takes no words."""
 import sys
 
 sys.dont_write_bytecode = True
 from engine import HERE, built, output
+from usage import told
 
+told(__doc__)
 SEEDS = {seed: ["listing"] if seed > 107 else [] for seed in range(101, 111)}
 CALLS = 600
 

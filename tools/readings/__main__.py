@@ -1,6 +1,7 @@
-"""readings [PART..]: writes readings.stdin and readings.stdout, command bytes for `peer read 1000`.
-The answer beside each command is written by hand from document 01 and the rulings; what is made is stored only if the peer agrees with all of them.
-With PARTS (the first letters of their names, as `create`) each of these is asked for alone, and nothing is stored."""
+"""readings [PART..]: writes readings.stdin and readings.stdout, command bytes for `peer read
+1000`. The answer beside each command is written by hand from document 01 and the rulings; what is
+made is stored only if the peer agrees with all of them. With PARTS (the first letters of their
+names, as `create`) each of these is asked for alone, and nothing is stored."""
 import pathlib, subprocess, sys
 
 sys.dont_write_bytecode = True
@@ -9,6 +10,7 @@ from engine import HERE, built
 from parts import named
 from readings import creates, deletes, framing, statuses, store_data
 from readings.sheet import Sheet
+from usage import told
 
 PARTS = {"framing": framing, "store_data": store_data, "deletes": deletes, "creates": creates, "statuses": statuses}
 
@@ -35,6 +37,7 @@ def store_all():
     (HERE / "readings.stdout").write_text(got)
 
 
+told(__doc__)
 if sys.argv[1:]:
     for name in named(sys.argv[1:], PARTS):
         agreed(name, [name])

@@ -1,7 +1,8 @@
-"""reports [PART..]: writes months/, event files for `minutes`, each named for what it shows.
-What is to be reported of each is written by hand from docs/EVENTS.md: how the ticks fall on the AIDs, how many events there are and how many are
-refused, or why the file is. The files are stored only if the peer reports all of them so, in both forms.
-With PARTS (the first letters of their names, as `poli`) each of these is asked for alone, and nothing is stored."""
+"""reports [PART..]: writes months/, event files for `minutes`, each named for what it shows. What
+is to be reported of each is written by hand from docs/EVENTS.md: how the ticks fall on the AIDs,
+how many events there are and how many are refused, or why the file is. The files are stored only
+if the peer reports all of them so, in both forms. With PARTS (the first letters of their names, as
+`poli`) each of these is asked for alone, and nothing is stored."""
 import pathlib, shutil, sys
 
 sys.dont_write_bytecode = True
@@ -10,6 +11,7 @@ from engine import HERE, built, output
 from parts import named
 from reports import kinds, layout, lines, lives, policies, room
 from reports.book import Book
+from usage import told
 
 FOLDER = HERE / "months"
 PARTS = {"layout": layout, "kinds": kinds, "lives": lives, "lines": lines, "room": room, "policies": policies}
@@ -43,6 +45,7 @@ def store_all():
         (FOLDER / name).write_bytes(content)
 
 
+told(__doc__)
 if sys.argv[1:]:
     for name in named(sys.argv[1:], PARTS):
         agreed(name, [name])

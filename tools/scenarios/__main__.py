@@ -1,6 +1,7 @@
-"""scenarios [PART..]: writes marked.script, scenarios.script and explained.script with their stdouts, and a script for each bad line.
-The answer beside each call is written by hand from the papers; what is made is stored only if the peer agrees with all of them.
-With PARTS (the first letters of their names, as `r05`) each of these is asked for alone, and nothing is stored."""
+"""scenarios [PART..]: writes marked.script, scenarios.script and explained.script with their
+stdouts, and a script for each bad line. The answer beside each call is written by hand from the
+papers; what is made is stored only if the peer agrees with all of them. With PARTS (the first
+letters of their names, as `r05`) each of these is asked for alone, and nothing is stored."""
 import pathlib, sys
 
 sys.dont_write_bytecode = True
@@ -13,6 +14,7 @@ from scenarios import (
 )
 from scenarios.peer import EXPLAINED, PLAIN, agreed, agreed_bad_lines
 from scenarios.script import Script
+from usage import told
 
 # The parts of each script that is stored, in their order. The first of the scenarios begins with calls before any fresh.
 STORED = {
@@ -58,6 +60,7 @@ def check(words):
             asked(name, [part], stem)
 
 
+told(__doc__)
 if sys.argv[1:]:
     check(sys.argv[1:])
 else:
