@@ -2,7 +2,7 @@
 // read or written is told on standard error.
 #![tactic(auto)]
 
-ghost use Rattle.std.specs.Prelude.{◌≡◌, ◌≤ℤ◌, pos, length};
+ghost use Rattle.std.specs.Prelude.{◌≡◌, ◌≤ℤ◌, pos, length, OnOk, IsUtf8};
 ghost use Rattle.std.specs.Counts.{IsPrefixLen, clamp_len};
 ghost use Rattle.text_input.specs.Filled.{arrival_of, FilledFrom, BroughtBy, ReadBy};
 
@@ -85,7 +85,9 @@ pub fn fill<R: Read>(input: &mut R, window: Window, buf: &mut [u8]) -> Filled
 }
 
 // The file of that name, for reading. A name that is no UTF-8 names none that std can open.
-pub fn open(rt: &HostRuntime, name: &[u8]) -> io::Result<File> {
+pub fn open(rt: &HostRuntime, name: &[u8]) -> io::Result<File>
+    ensures { OnOk result (IsUtf8 name.now) }
+{
     match str::from_utf8(name) {
         Ok(path) => File::open(rt, path),
         Err(_) => Err(io::Error::from(ErrorKind::InvalidFilename)),
