@@ -23,4 +23,4 @@ returns-then-instruction-4 c = ne! _ (omega arith) (ne! _ (omega arith) (ne! _ (
 
 pub returns : goal.returns
 unfolding field_of
-returns c = ne! _ (omega arith) (ne! _ (omega arith) (ne! _ (omega arith) (ne! _ (omega arith) (refl))))
+returns c = ne! _ (omega arith) (ne! _ (omega arith) (ne! _ (omega arith) (ne! _ (omega arith) refl)))

@@ -22,4 +22,4 @@ overflow_sub-len c = let i = names-inside _ _ c.in-Found.start c.in-Found.stop _
 
 pub returns : goal.returns
 unfolding install_of
-returns c = rw (← c.read_names.ensures) (rw c.in-Found.is (rw (← c.read_rights.ensures) (rw c.in-Found-read_rights.is (rw (← c.read_parameters.ensures) (rw c.in-Granted.is (refl))))))
+returns c = rw (← c.read_names.ensures) (rw c.in-Found.is (rw (← c.read_rights.ensures) (rw c.in-Found-read_rights.is (rw (← c.read_parameters.ensures) (rw c.in-Granted.is refl)))))

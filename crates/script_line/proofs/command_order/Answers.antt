@@ -11,7 +11,7 @@ use Rattle.script_line.proofs.command_order.Goals as goal
 pub overflow_cast-verdict : goal.overflow_cast-verdict
 overflow_cast-verdict c =
     let verdict : Is c.in-Is.n c.in-Is.b ≡ value_at most8 c.args.s.now c.args.at = sym c.in-Is.is ∙ c.next_value.ensures in
-    let h = value-within _ _ _ _ _ (verdict) in search rules
+    let h = value-within _ _ _ _ _ verdict in search rules
 
 pub returns-in-Wrong : goal.returns-in-Wrong
 unfolding command_at
@@ -21,10 +21,10 @@ pub returns-in-Wrong-next_sent : goal.returns-in-Wrong-next_sent
 unfolding command_at
 returns-in-Wrong-next_sent c =
     let verdict : Is c.in-Is.n c.in-Is.b ≡ value_at most8 c.args.s.now c.args.at = sym c.in-Is.is ∙ c.next_value.ensures in
-    rw (← (verdict), ← (sym c.in-Wrong-next_sent.is ∙ c.next_sent.ensures)) refl
+    rw (← verdict, ← (sym c.in-Wrong-next_sent.is ∙ c.next_sent.ensures)) refl
 
 pub returns-in-Is-next_sent : goal.returns-in-Is-next_sent
 unfolding command_at
 returns-in-Is-next_sent c =
     let verdict : Is c.in-Is.n c.in-Is.b ≡ value_at most8 c.args.s.now c.args.at = sym c.in-Is.is ∙ c.next_value.ensures in
-    rw (← (verdict), ← (sym c.in-Is-next_sent.is ∙ c.next_sent.ensures)) refl
+    rw (← verdict, ← (sym c.in-Is-next_sent.is ∙ c.next_sent.ensures)) refl

@@ -14,7 +14,7 @@ use Rattle.script_line.proofs.finished_order.Goals as goal
 pub overflow_cast-policy : goal.overflow_cast-policy
 overflow_cast-policy c =
     let policy : value.Is c.in-Is-next_value.policy c.in-Is-next_value.c ≡ value_at most8 c.args.s.now c.in-Is.b = sym c.in-Is-next_value.is ∙ c.next_value.ensures in
-    let h = value-within _ _ _ _ _ (policy) in search rules
+    let h = value-within _ _ _ _ _ policy in search rules
 
 pub overflow_cast-mark : goal.overflow_cast-mark
 overflow_cast-mark c = let h = or-within _ _ _ _ _ _ (omega arith) (sym c.in-Is-next_or.is ∙ c.next_or.ensures) in
@@ -28,18 +28,18 @@ pub returns-in-Wrong-next_value : goal.returns-in-Wrong-next_value
 unfolding finished_at
 returns-in-Wrong-next_value c =
     let aid : bytes.Is c.in-Is.aid c.in-Is.b ≡ bytes_at c.args.s.now c.args.at = sym c.in-Is.is ∙ c.next_bytes.ensures in
-    rw (← (aid), ← (sym c.in-Wrong-next_value.is ∙ c.next_value.ensures)) refl
+    rw (← aid, ← (sym c.in-Wrong-next_value.is ∙ c.next_value.ensures)) refl
 
 pub returns-in-Wrong-next_or : goal.returns-in-Wrong-next_or
 unfolding finished_at
 returns-in-Wrong-next_or c =
     let aid : bytes.Is c.in-Is.aid c.in-Is.b ≡ bytes_at c.args.s.now c.args.at = sym c.in-Is.is ∙ c.next_bytes.ensures in
     let policy : value.Is c.in-Is-next_value.policy c.in-Is-next_value.c ≡ value_at most8 c.args.s.now c.in-Is.b = sym c.in-Is-next_value.is ∙ c.next_value.ensures in
-    rw (← (aid), ← (policy), ← (sym c.in-Wrong-next_or.is ∙ c.next_or.ensures)) refl
+    rw (← aid, ← policy, ← (sym c.in-Wrong-next_or.is ∙ c.next_or.ensures)) refl
 
 pub returns-in-Is-next_or : goal.returns-in-Is-next_or
 unfolding finished_at
 returns-in-Is-next_or c =
     let aid : bytes.Is c.in-Is.aid c.in-Is.b ≡ bytes_at c.args.s.now c.args.at = sym c.in-Is.is ∙ c.next_bytes.ensures in
     let policy : value.Is c.in-Is-next_value.policy c.in-Is-next_value.c ≡ value_at most8 c.args.s.now c.in-Is.b = sym c.in-Is-next_value.is ∙ c.next_value.ensures in
-    rw (← (aid), ← (policy), ← (sym c.in-Is-next_or.is ∙ c.next_or.ensures)) c.inner.ensures
+    rw (← aid, ← policy, ← (sym c.in-Is-next_or.is ∙ c.next_or.ensures)) c.inner.ensures

@@ -13,10 +13,10 @@ pub returns-in-Wrong-next_bytes : goal.returns-in-Wrong-next_bytes
 unfolding fresh_at
 returns-in-Wrong-next_bytes c =
     let eid : Is c.in-Is.eid c.in-Is.b ≡ bytes_at c.args.s.now c.args.at = sym c.in-Is.is ∙ c.next_bytes.ensures in
-    rw (← (eid), ← (sym c.in-Wrong-next_bytes.is ∙ c.next_bytes-in-Is.ensures)) refl
+    rw (← eid, ← (sym c.in-Wrong-next_bytes.is ∙ c.next_bytes-in-Is.ensures)) refl
 
 pub returns-in-Is-next_bytes : goal.returns-in-Is-next_bytes
 unfolding fresh_at
 returns-in-Is-next_bytes c =
     let eid : Is c.in-Is.eid c.in-Is.b ≡ bytes_at c.args.s.now c.args.at = sym c.in-Is.is ∙ c.next_bytes.ensures in
-    rw (← (eid), ← (sym c.in-Is-next_bytes.is ∙ c.next_bytes-in-Is.ensures)) c.fresh_with.ensures
+    rw (← eid, ← (sym c.in-Is-next_bytes.is ∙ c.next_bytes-in-Is.ensures)) c.fresh_with.ensures

@@ -13,10 +13,10 @@ pub returns-in-Wrong-next_or : goal.returns-in-Wrong-next_or
 unfolding sent_at
 returns-in-Wrong-next_or c =
     let sent : Is c.in-Is.bytes c.in-Is.b ≡ bytes_at c.args.s.now c.args.at = sym c.in-Is.is ∙ c.next_bytes.ensures in
-    rw (← (sent), ← (sym c.in-Wrong-next_or.is ∙ c.next_or.ensures)) refl
+    rw (← sent, ← (sym c.in-Wrong-next_or.is ∙ c.next_or.ensures)) refl
 
 pub returns-in-Is-next_or : goal.returns-in-Is-next_or
 unfolding sent_at
 returns-in-Is-next_or c =
     let sent : Is c.in-Is.bytes c.in-Is.b ≡ bytes_at c.args.s.now c.args.at = sym c.in-Is.is ∙ c.next_bytes.ensures in
-    rw (← (sent), ← (sym c.in-Is-next_or.is ∙ c.next_or.ensures)) refl
+    rw (← sent, ← (sym c.in-Is-next_or.is ∙ c.next_or.ensures)) refl

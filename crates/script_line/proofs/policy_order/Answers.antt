@@ -13,10 +13,10 @@ pub returns-in-Wrong-next_sent : goal.returns-in-Wrong-next_sent
 unfolding policy_line_at
 returns-in-Wrong-next_sent c =
     let speaker : Is c.in-Is.speaker c.in-Is.b ≡ bytes_at c.args.s.now c.args.at = sym c.in-Is.is ∙ c.next_bytes.ensures in
-    rw (← (speaker), ← (sym c.in-Wrong-next_sent.is ∙ c.next_sent.ensures)) refl
+    rw (← speaker, ← (sym c.in-Wrong-next_sent.is ∙ c.next_sent.ensures)) refl
 
 pub returns-in-Is-next_sent : goal.returns-in-Is-next_sent
 unfolding policy_line_at
 returns-in-Is-next_sent c =
     let speaker : Is c.in-Is.speaker c.in-Is.b ≡ bytes_at c.args.s.now c.args.at = sym c.in-Is.is ∙ c.next_bytes.ensures in
-    rw (← (speaker), ← (sym c.in-Is-next_sent.is ∙ c.next_sent.ensures)) refl
+    rw (← speaker, ← (sym c.in-Is-next_sent.is ∙ c.next_sent.ensures)) refl

@@ -13,10 +13,10 @@ pub returns-in-Wrong-next_value : goal.returns-in-Wrong-next_value
 unfolding stored_at
 returns-in-Wrong-next_value c =
     let aid : Is c.in-Is.aid c.in-Is.b ≡ bytes_at c.args.s.now c.args.at = sym c.in-Is.is ∙ c.next_bytes.ensures in
-    rw (← (aid), ← (sym c.in-Wrong-next_value.is ∙ c.next_value.ensures)) refl
+    rw (← aid, ← (sym c.in-Wrong-next_value.is ∙ c.next_value.ensures)) refl
 
 pub returns-in-Is-next_value : goal.returns-in-Is-next_value
 unfolding stored_at
 returns-in-Is-next_value c =
     let aid : Is c.in-Is.aid c.in-Is.b ≡ bytes_at c.args.s.now c.args.at = sym c.in-Is.is ∙ c.next_bytes.ensures in
-    rw (← (aid), ← (sym c.in-Is-next_value.is ∙ c.next_value.ensures)) c.inner.ensures
+    rw (← aid, ← (sym c.in-Is-next_value.is ∙ c.next_value.ensures)) c.inner.ensures

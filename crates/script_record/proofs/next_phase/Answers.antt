@@ -14,26 +14,26 @@ returns-in_default c = rw (← (sym c.in_default.is ∙ c.next_word.ensures)) re
 pub slice_bounds-read_phase-count : goal.slice_bounds-read_phase-count
 slice_bounds-read_phase-count c =
     let word : Span c.in-Span.from c.in-Span.to ≡ word_at c.args.s.now c.args.at = sym c.in-Span.is ∙ c.next_word.ensures in
-    let i = word-inside _ _ _ _ (word) in search rules
+    let i = word-inside _ _ _ _ word in search rules
 
 pub slice_bounds-read_phase-start : goal.slice_bounds-read_phase-start
 slice_bounds-read_phase-start c =
     let word : Span c.in-Span.from c.in-Span.to ≡ word_at c.args.s.now c.args.at = sym c.in-Span.is ∙ c.next_word.ensures in
-    let i = word-inside _ _ _ _ (word) in search rules
+    let i = word-inside _ _ _ _ word in search rules
 
 pub slice_bounds-read_phase-end : goal.slice_bounds-read_phase-end
 slice_bounds-read_phase-end c =
     let word : Span c.in-Span.from c.in-Span.to ≡ word_at c.args.s.now c.args.at = sym c.in-Span.is ∙ c.next_word.ensures in
-    let i = word-inside _ _ _ _ (word) in search rules
+    let i = word-inside _ _ _ _ word in search rules
 
 pub returns-in_default-read_phase : goal.returns-in_default-read_phase
 unfolding phase_at
 returns-in_default-read_phase c =
     let word : Span c.in-Span.from c.in-Span.to ≡ word_at c.args.s.now c.args.at = sym c.in-Span.is ∙ c.next_word.ensures in
-    rw (← (word), ← (sym c.in_default-read_phase.is ∙ c.read_phase.ensures)) refl
+    rw (← word, ← (sym c.in_default-read_phase.is ∙ c.read_phase.ensures)) refl
 
 pub returns : goal.returns
 unfolding phase_at
 returns c =
     let word : Span c.in-Span.from c.in-Span.to ≡ word_at c.args.s.now c.args.at = sym c.in-Span.is ∙ c.next_word.ensures in
-    rw (← (word), ← (sym c.in-Is.is ∙ c.read_phase.ensures)) refl
+    rw (← word, ← (sym c.in-Is.is ∙ c.read_phase.ensures)) refl

@@ -13,18 +13,18 @@ pub returns-in-Wrong-next_value : goal.returns-in-Wrong-next_value
 unfolding record_memory_at
 returns-in-Wrong-next_value c =
     let capacity : Is c.in-Is.capacity c.in-Is.b ≡ value_at most32 c.args.s.now c.args.at = sym c.in-Is.is ∙ c.next_value.ensures in
-    rw (← (capacity), ← (sym c.in-Wrong-next_value.is ∙ c.next_value-in-Is.ensures)) refl
+    rw (← capacity, ← (sym c.in-Wrong-next_value.is ∙ c.next_value-in-Is.ensures)) refl
 
 pub returns-in-Wrong-next_value-2 : goal.returns-in-Wrong-next_value-2
 unfolding record_memory_at
 returns-in-Wrong-next_value-2 c =
     let capacity : Is c.in-Is.capacity c.in-Is.b ≡ value_at most32 c.args.s.now c.args.at = sym c.in-Is.is ∙ c.next_value.ensures in
     let volatile : Is c.in-Is-next_value.volatile c.in-Is-next_value.c ≡ value_at most32 c.args.s.now c.in-Is.b = sym c.in-Is-next_value.is ∙ c.next_value-in-Is.ensures in
-    rw (← (capacity), ← (volatile), ← (sym c.in-Wrong-next_value-2.is ∙ c.next_value-in-Is-next_value.ensures)) refl
+    rw (← capacity, ← volatile, ← (sym c.in-Wrong-next_value-2.is ∙ c.next_value-in-Is-next_value.ensures)) refl
 
 pub returns-in-Is-next_value-2 : goal.returns-in-Is-next_value-2
 unfolding record_memory_at
 returns-in-Is-next_value-2 c =
     let capacity : Is c.in-Is.capacity c.in-Is.b ≡ value_at most32 c.args.s.now c.args.at = sym c.in-Is.is ∙ c.next_value.ensures in
     let volatile : Is c.in-Is-next_value.volatile c.in-Is-next_value.c ≡ value_at most32 c.args.s.now c.in-Is.b = sym c.in-Is-next_value.is ∙ c.next_value-in-Is.ensures in
-    rw (← (capacity), ← (volatile), ← (sym c.in-Is-next_value-2.is ∙ c.next_value-in-Is-next_value.ensures)) refl
+    rw (← capacity, ← volatile, ← (sym c.in-Is-next_value-2.is ∙ c.next_value-in-Is-next_value.ensures)) refl

@@ -8,10 +8,10 @@ use Rattle.month_account.proofs.refusals.write_refusal.Goals as goal
 pub returns-then-not-explain : goal.returns-then-not-explain
 unfolding refusal_text pick
 returns-then-not-explain c = let a = c.args in
-    (rw (c.if-not-explain.true) c.put_line-a.ensures, refusal-length a.explain a.refusal)
+    (rw c.if-not-explain.true c.put_line-a.ensures, refusal-length a.explain a.refusal)
 
 pub returns : goal.returns
 unfolding refusal_text pick
 returns c = let a = c.args in
     let written = wrote_then (wrote_then c.put_line-a.ensures c.put_meaning-b.ensures) c.put_bytes.ensures in
-    (rw (c.if-not-explain.false) written, refusal-length a.explain a.refusal)
+    (rw c.if-not-explain.false written, refusal-length a.explain a.refusal)

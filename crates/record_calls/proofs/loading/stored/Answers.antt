@@ -25,16 +25,16 @@ returns-in_default c =
 pub returns-then-p-ne-PERSONALIZED : goal.returns-then-p-ne-PERSONALIZED
 returns-then-p-ne-PERSONALIZED c =
     let asked : let s = c.args in Sought s.card s.aid.now (stored s.n) c.place_of.result = sought _ _ (stored c.args.n) (asks c.aid_ok.ensures c.if-not-aid_ok.false) refl c.well_formed.0 c.place_of.ensures in
-    let aimed : let s = c.args in Aimed s.card s.aid.now (stored s.n) c.in-At.t = (asked).target c.in-At.is in
+    let aimed : let s = c.args in Aimed s.card s.aid.now (stored s.n) c.in-At.t = asked.target c.in-At.is in
     let a = aimed in
-    rw (inner (asked), at-state a (rw (profile a c.profile-p.ensures) (ap not (ne_eqb _ personalized c.if-p-ne-PERSONALIZED.true)))) c.refused-then-p-ne-PERSONALIZED.ensures
+    rw (inner asked, at-state a (rw (profile a c.profile-p.ensures) (ap not (ne_eqb _ personalized c.if-p-ne-PERSONALIZED.true)))) c.refused-then-p-ne-PERSONALIZED.ensures
 
 pub returns-then-not-has_room : goal.returns-then-not-has_room
 returns-then-not-has_room c =
     let asked : let s = c.args in Sought s.card s.aid.now (stored s.n) c.place_of.result = sought _ _ (stored c.args.n) (asks c.aid_ok.ensures c.if-not-aid_ok.false) refl c.well_formed.0 c.place_of.ensures in
-    let aimed : let s = c.args in Aimed s.card s.aid.now (stored s.n) c.in-At.t = (asked).target c.in-At.is in
-    let t = profile (aimed) c.profile-p.ensures in
-    rw (inner (asked), at_room (aimed) (rw t (ap not (eq-eqb _ personalized c.if-p-ne-PERSONALIZED.false))) refl refl (rw t (asks c.has_room.ensures c.if-not-has_room.true))) c.refused-then-not-has_room.ensures
+    let aimed : let s = c.args in Aimed s.card s.aid.now (stored s.n) c.in-At.t = asked.target c.in-At.is in
+    let t = profile aimed c.profile-p.ensures in
+    rw (inner asked, at_room aimed (rw t (ap not (eq-eqb _ personalized c.if-p-ne-PERSONALIZED.false))) refl refl (rw t (asks c.has_room.ensures c.if-not-has_room.true))) c.refused-then-not-has_room.ensures
 
 pub overflow_add-used : goal.overflow_add-used
 overflow_add-used c = let p = c.profile-p.result in
@@ -46,8 +46,8 @@ overflow_add-used c = let p = c.profile-p.result in
 pub returns : goal.returns
 returns c =
     let asked : let s = c.args in Sought s.card s.aid.now (stored s.n) c.place_of.result = sought _ _ (stored c.args.n) (asks c.aid_ok.ensures c.if-not-aid_ok.false) refl c.well_formed.0 c.place_of.ensures in
-    let aimed : let s = c.args in Aimed s.card s.aid.now (stored s.n) c.in-At.t = (asked).target c.in-At.is in
-    let t = profile (aimed) c.profile-p.ensures in
-    rw (inner (asked))
-    (steps-silently (aimed) (rw t (ap not (eq-eqb _ personalized c.if-p-ne-PERSONALIZED.false))) refl refl (rw t (asks c.has_room.ensures c.if-not-has_room.false))
-    c.rewritten-after.ensures (rw (c.with_used.ensures, t, (aimed).place)) refl c.silently.ensures)
+    let aimed : let s = c.args in Aimed s.card s.aid.now (stored s.n) c.in-At.t = asked.target c.in-At.is in
+    let t = profile aimed c.profile-p.ensures in
+    rw (inner asked)
+    (steps-silently aimed (rw t (ap not (eq-eqb _ personalized c.if-p-ne-PERSONALIZED.false))) refl refl (rw t (asks c.has_room.ensures c.if-not-has_room.false))
+    c.rewritten-after.ensures (rw (c.with_used.ensures, t, aimed.place)) refl c.silently.ensures)

@@ -17,29 +17,29 @@ returns-in_default c = rw (← (sym c.in_default.is ∙ c.next_number.ensures)) 
 pub returns-in_default-next_number : goal.returns-in_default-next_number
 unfolding open_fields
 returns-in_default-next_number c =
-    let left : Is c.in-Is.left (c.in-Is.b) ≡ number_field most8 c.args.w.now c.args.at = sym c.in-Is.is ∙ c.next_number.ensures in
-    rw (← (left), ← (sym c.in_default-next_number.is ∙ c.next_number-2.ensures)) refl
+    let left : Is c.in-Is.left c.in-Is.b ≡ number_field most8 c.args.w.now c.args.at = sym c.in-Is.is ∙ c.next_number.ensures in
+    rw (← left, ← (sym c.in_default-next_number.is ∙ c.next_number-2.ensures)) refl
 
 pub returns-then-c-w : goal.returns-then-c-w
 unfolding open_fields
 returns-then-c-w c =
-    let left : Is c.in-Is.left (c.in-Is.b) ≡ number_field most8 c.args.w.now c.args.at = sym c.in-Is.is ∙ c.next_number.ensures in
-    let number : Is c.in-Is-next_number.number c.in-Is-next_number.c ≡ number_field most16 c.args.w.now (c.in-Is.b) = sym c.in-Is-next_number.is ∙ c.next_number-2.ensures in
-    rw (← (left), ← (number)) (le! _ (omega arith) refl)
+    let left : Is c.in-Is.left c.in-Is.b ≡ number_field most8 c.args.w.now c.args.at = sym c.in-Is.is ∙ c.next_number.ensures in
+    let number : Is c.in-Is-next_number.number c.in-Is-next_number.c ≡ number_field most16 c.args.w.now c.in-Is.b = sym c.in-Is-next_number.is ∙ c.next_number-2.ensures in
+    rw (← left, ← number) (le! _ (omega arith) refl)
 
 pub overflow_cast-result : goal.overflow_cast-result
 overflow_cast-result c =
-    let left : Is c.in-Is.left (c.in-Is.b) ≡ number_field most8 c.args.w.now c.args.at = sym c.in-Is.is ∙ c.next_number.ensures in
-    let h = number-within _ _ _ _ _ (left) in search rules
+    let left : Is c.in-Is.left c.in-Is.b ≡ number_field most8 c.args.w.now c.args.at = sym c.in-Is.is ∙ c.next_number.ensures in
+    let h = number-within _ _ _ _ _ left in search rules
 
 pub overflow_cast-result-2 : goal.overflow_cast-result-2
 overflow_cast-result-2 c =
-    let number : Is c.in-Is-next_number.number c.in-Is-next_number.c ≡ number_field most16 c.args.w.now (c.in-Is.b) = sym c.in-Is-next_number.is ∙ c.next_number-2.ensures in
-    let h = number-within _ _ _ _ _ (number) in search rules
+    let number : Is c.in-Is-next_number.number c.in-Is-next_number.c ≡ number_field most16 c.args.w.now c.in-Is.b = sym c.in-Is-next_number.is ∙ c.next_number-2.ensures in
+    let h = number-within _ _ _ _ _ number in search rules
 
 pub returns : goal.returns
 unfolding open_fields
 returns c =
-    let left : Is c.in-Is.left (c.in-Is.b) ≡ number_field most8 c.args.w.now c.args.at = sym c.in-Is.is ∙ c.next_number.ensures in
-    let number : Is c.in-Is-next_number.number c.in-Is-next_number.c ≡ number_field most16 c.args.w.now (c.in-Is.b) = sym c.in-Is-next_number.is ∙ c.next_number-2.ensures in
-    rw (← (left), ← (number)) (nle! _ (omega arith) refl)
+    let left : Is c.in-Is.left c.in-Is.b ≡ number_field most8 c.args.w.now c.args.at = sym c.in-Is.is ∙ c.next_number.ensures in
+    let number : Is c.in-Is-next_number.number c.in-Is-next_number.c ≡ number_field most16 c.args.w.now c.in-Is.b = sym c.in-Is-next_number.is ∙ c.next_number-2.ensures in
+    rw (← left, ← number) (nle! _ (omega arith) refl)

@@ -15,15 +15,15 @@ pub returns-in_default-open_at : goal.returns-in_default-open_at
 unfolding trial_fields
 returns-in_default-open_at c =
     let previous : Is c.in-Is.n c.in-Is.next ≡ number_field most8 c.args.w.now c.args.at = sym c.in-Is.is ∙ c.next_number.ensures in
-    rw (← (previous), ← (sym c.in_default-open_at.is ∙ c.open_at.ensures)) refl
+    rw (← previous, ← (sym c.in_default-open_at.is ∙ c.open_at.ensures)) refl
 
 pub overflow_cast-result : goal.overflow_cast-result
 overflow_cast-result c =
     let previous : Is c.in-Is.n c.in-Is.next ≡ number_field most8 c.args.w.now c.args.at = sym c.in-Is.is ∙ c.next_number.ensures in
-    let h = number-within _ _ _ _ _ (previous) in search rules
+    let h = number-within _ _ _ _ _ previous in search rules
 
 pub returns : goal.returns
 unfolding trial_fields
 returns c =
     let previous : Is c.in-Is.n c.in-Is.next ≡ number_field most8 c.args.w.now c.args.at = sym c.in-Is.is ∙ c.next_number.ensures in
-    rw (← (previous), ← (sym c.in-Is-open_at.is ∙ c.open_at.ensures)) refl
+    rw (← previous, ← (sym c.in-Is-open_at.is ∙ c.open_at.ensures)) refl
