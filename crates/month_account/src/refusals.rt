@@ -24,9 +24,11 @@ fn meaning(refusal: Refusal) -> &'static [u8]
     ensures { result.now ≡ meaning_text refusal }
 {
     match refusal {
-        Refusal::ContentsWrong => b"the file is too long, or its sections are not known ones that lie end to end\n",
+        Refusal::ContentsWrong =>
+            b"the file is too long, or its sections are not known ones that lie end to end\n",
         Refusal::SectionMissing => b"the fresh card's inputs or the events are not listed\n",
-        Refusal::FreshBad => b"the fresh card's inputs are under 32 bytes, or no card is made of them\n",
+        Refusal::FreshBad =>
+            b"the fresh card's inputs are under 32 bytes, or no card is made of them\n",
         Refusal::CutShort => b"the events end within an event\n",
         Refusal::UnknownKind => b"an event is of no kind that there is\n",
         Refusal::WrongLength => b"an event has too few or too many bytes for its kind\n",
