@@ -1,22 +1,12 @@
 // The writers over a buffer and a place, while crates above still call them.
 ghost use Rattle.std.specs.Prelude.{◌∷◌, [], ◌/◌, ◌%◌};
 ghost use Rattle.base_bytes.specs.Put.{Wrote};
-ghost use Rattle.text_words.specs.Letters.{piece_of};
 ghost use Rattle.text_words.specs.Numbers.{decimal_text};
 ghost use Rattle.text_words.specs.Hex.{hex_text, hex_word};
 ghost use Rattle.text_words.specs.Columns.{spaces, column_text};
 
 use crate::out;
-use crate::writing::Piece;
 use base_bytes::Writer;
-
-pub fn put_piece(buf: &mut [u8], at: usize, text: &[u8], piece: Piece) -> usize
-    ensures { Wrote buf.old at (piece_of text.now piece) result buf.new }
-{
-    let mut w = Writer::new(buf, at);
-    out::put_piece(&mut w, text, piece);
-    w.at
-}
 
 pub fn put_hex_8(buf: &mut [u8], at: usize, n: u8) -> usize
     ensures { Wrote buf.old at (hex_text (n ∷ [])) result buf.new }

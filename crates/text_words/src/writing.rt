@@ -1,24 +1,10 @@
 // Text written by a writer, as `base_bytes` writes bytes: what does not fit is dropped.
 ghost use Rattle.std.specs.Prelude.{◌≡◌, ◌∷◌, [], ◌*◌, ◌/◌, ◌%◌, length};
 ghost use Rattle.base_bytes.specs.Put.{Written};
-ghost use Rattle.text_words.specs.Letters.{piece_of};
 ghost use Rattle.text_words.specs.Numbers.{decimal_text};
 ghost use Rattle.text_words.specs.Hex.{glyph_of, hex_text, hex_word};
 
-use base_bytes::{Part, Writer, part_of};
-
-// A word of a text that holds several one after the other: where it starts, and how many bytes it has. A value that has a word is told
-// by its piece, so that one writer serves all values of its type.
-#[derive(Clone, Copy)]
-pub struct Piece(pub usize, pub usize);
-
-pub fn put_piece(out: &mut Writer, text: &[u8], piece: Piece)
-    ensures { Written out.old (piece_of text.now piece) out.new }
-{
-    let start = piece.0;
-    let len = piece.1;
-    out.bytes(part_of(text, Part { start, len }));
-}
+use base_bytes::Writer;
 
 // The hex digit of the low four bits.
 fn glyph(n: u8) -> u8
