@@ -4,7 +4,7 @@ use mathlib.Core.Path.{◌≡◌, refl, sym, ◌∙◌}
 use mathlib.Core.List.{List}
 use mathlib.Core.Bool.{Bool, false}
 use native.Mathlib.Omega.{arith}
-use Rattle.std.specs.Prelude.{Option, Some, None}
+use Rattle.std.specs.Prelude.{Option, None}
 use Rattle.base_choice.proofs.Branches.{le!, nle! }
 use Rattle.read_tlv.specs.Tlv.{tag_at}
 use Rattle.read_tlv.specs.declared.TagRead.TheVariants as tag

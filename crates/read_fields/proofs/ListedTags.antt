@@ -6,7 +6,7 @@ use mathlib.Core.List.{List, [], ◌∷◌, ◌++◌}
 use mathlib.Core.Bool.{Bool, true, false}
 use native.Mathlib.Omega.{arith}
 use lib.ListN.{length}
-use Rattle.std.specs.Prelude.{Option, Some, None}
+use Rattle.std.specs.Prelude.{Option, None}
 use Rattle.read_tlv.specs.Tlv.{tag_at}
 use Rattle.read_tlv.specs.declared.TagRead.TheVariants as tag
 use Rattle.read_tlv.specs.Encoding.{window, Bytes, encode_tag}

@@ -5,7 +5,7 @@ use mathlib.Core.List.{List, [], ◌∷◌}
 use mathlib.Core.Bool.{Bool, false}
 use native.Mathlib.Omega.{arith}
 use lib.ListN.{length}
-use Rattle.std.specs.Prelude.{Option, Some, None}
+use Rattle.std.specs.Prelude.{Option, None}
 use Rattle.base_bytes.specs.Bytes.{byte, pair_at}
 use Rattle.read_tlv.specs.declared.HeadRead.TheVariants as head
 use Rattle.read_tlv.specs.declared.Element.TheVariants as element
