@@ -1,12 +1,6 @@
 // Document 01, 'Reading a command': tags, lengths, elements and lists of elements, read in a window of a slice.
 // A window is the bytes from `at` up to `end`; one that does not lie in the slice holds nothing, and nothing is read there.
-#![tactic(auto, unfolding(
-// the definitions of what is read
-crate::specs::Tlv::tag_at, crate::specs::Tlv::length_at, crate::specs::Tlv::head_at, crate::specs::Tlv::expect_at,
-// an element and the test of a list
-crate::specs::Lists::element_at, crate::specs::Lists::list_wrong,
-// the choice by a test, of which they are made
-base_choice::specs::Choice::pick, base_choice::specs::Choice::at_most, base_choice::specs::Choice::is_below, base_choice::specs::Choice::is_same))]
+#![tactic(auto, unfolding(crate::proofs::Opened::readers))]
 
 ghost use Rattle.std.specs.Prelude.{◌≡◌, ℕ, ◌≤◌};
 ghost use Rattle.read_tlv.specs.Tlv.{tag_at, length_at, head_at, expect_at};
