@@ -7,6 +7,7 @@ use mathlib.Core.Bool.{Bool, true, false, not, ◌&&◌, false≢true}
 use lib.ListN.{set}
 use lib.Dec.{eqb}
 use borrow.Author.Tests.{eqb-true, not-false}
+use Rattle.std.specs.Prelude.{Some, None}
 use Rattle.base_status.specs.Rows.{row, word_of}
 use Rattle.card_isdp.specs.LifeCycle.{selectable, personalized, is_enabled}
 use Rattle.card_isdp.specs.Place.{vacant}
@@ -26,8 +27,7 @@ use Rattle.card_record.proofs.Sounds.{Phased, parts, choose}
 use Rattle.card_record.proofs.Outcomes.{decide-card}
 use Rattle.read_fields.specs.declared.request.Request.{Request}
 use Rattle.read_fields.specs.declared.request.Request.TheVariants as request
-use Rattle.read_fields.specs.declared.request.Field.{Field}
-use Rattle.read_fields.specs.declared.request.Field.TheVariants as field
+use Rattle.read_fields.specs.Found.{Field}
 use Rattle.read_command.specs.Requests.{field_of}
 use Rattle.rule_steps.proofs.Rows.{Passed}
 use Rattle.read_operator.specs.Field.{policy_of}
@@ -111,8 +111,8 @@ request-ticks verdict s (request.GetStatusOfOne aid life fallback) = refl
 request-ticks verdict s request.GetData = refl
 
 field-ticks : (verdict : ℕ) (s : List ℕ) (f : Field) → is_ticking (field_asks verdict s f) ≡ false
-field-ticks verdict s field.Wrong = refl
-field-ticks verdict s (field.Found r) = request-ticks verdict s r
+field-ticks verdict s None = refl
+field-ticks verdict s (Some r) = request-ticks verdict s r
 
 policy-ticks : (speaker : List ℕ) (p : operator.Policy) → is_ticking (policy_asks speaker p) ≡ false
 policy-ticks speaker policy.Wrong = refl

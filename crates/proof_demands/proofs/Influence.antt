@@ -6,6 +6,7 @@ use mathlib.Core.List.{List, [], ◌∷◌}
 use mathlib.Core.Bool.{Bool, true, false, not, cond, false≢true}
 use lib.ListN.{set}
 use borrow.Author.Tests.{not-true}
+use Rattle.std.specs.Prelude.{Some, None}
 use Rattle.base_status.specs.StatusWords.{is_done}
 use Rattle.base_status.specs.Rows.{Row, row}
 use Rattle.base_status.specs.declared.Status.{Status}
@@ -23,8 +24,7 @@ use Rattle.card_record.specs.declared.Card.{Card}
 use Rattle.card_record.specs.declared.Step.{Step}
 use Rattle.read_fields.specs.declared.request.Request.{Request}
 use Rattle.read_fields.specs.declared.request.Request.TheVariants as request
-use Rattle.read_fields.specs.declared.request.Field.{Field}
-use Rattle.read_fields.specs.declared.request.Field.TheVariants as field
+use Rattle.read_fields.specs.Found.{Field}
 use Rattle.read_frame.specs.Framing.{length_wrong, class_wrong, parameters_wrong, shape_wrong}
 use Rattle.read_command.specs.Requests.{field_of}
 use Rattle.rule_steps.specs.Asked.{Asked}
@@ -58,8 +58,8 @@ request-spares a verdict s (request.GetStatusOfOne aid life fallback) = refl
 request-spares a verdict s request.GetData = refl
 
 field-spares : (a : List ℕ) (verdict : ℕ) (s : List ℕ) (f : Field) → spares a (field_asks verdict s f) ≡ true
-field-spares a verdict s field.Wrong = refl
-field-spares a verdict s (field.Found r) = request-spares a verdict s r
+field-spares a verdict s None = refl
+field-spares a verdict s (Some r) = request-spares a verdict s r
 
 policy-spares : (a speaker : List ℕ) (p : operator.Policy) → spares a (policy_asks speaker p) ≡ true
 policy-spares a speaker policy.Wrong = refl

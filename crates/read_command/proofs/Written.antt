@@ -18,7 +18,7 @@ use Rattle.read_fields.proofs.DeletionGrammar.{deletion-written}
 use Rattle.read_fields.proofs.ListingGrammar.{listing-written}
 use Rattle.read_install.proofs.Written.{install-written}
 use Rattle.read_fields.specs.declared.request.Request.{Request}
-use Rattle.read_fields.specs.declared.request.Field.{Field}
+use Rattle.read_fields.specs.Found.{Field}
 use Rattle.read_command.specs.declared.Reading.{Reading}
 use Rattle.read_command.specs.declared.Reading.TheVariants as reading
 use Rattle.read_frame.specs.Framing.{instruction_wrong, parameters_right, shape_right, is_bare, data_end}

@@ -1,11 +1,10 @@
 -- Document 01, 'Status words': the rows that a command meets while it is read, in the order of the table.
-use Rattle.std.specs.Prelude.{ℕ, List, cond}
+use Rattle.std.specs.Prelude.{ℕ, List, cond, Some, None}
 use Rattle.base_status.specs.StatusWords.{is_done}
 use Rattle.base_status.specs.Rows.{Row, word_of}
 use Rattle.base_status.specs.declared.Status.{Status}
 use Rattle.base_status.specs.declared.Status.TheVariants as status
-use Rattle.read_fields.specs.declared.request.Field.{Field}
-use Rattle.read_fields.specs.declared.request.Field.TheVariants as field
+use Rattle.read_fields.specs.Found.{Field}
 use Rattle.read_command.specs.declared.Reading.{Reading}
 use Rattle.read_command.specs.declared.Reading.TheVariants as reading
 use Rattle.read_frame.specs.Framing.{length_wrong, class_wrong, instruction_wrong, parameters_wrong, shape_wrong}
@@ -18,8 +17,8 @@ reading_rows s capacity =
 
 -- the request of a field that no row refuses; a wrong one never comes here
 abbrev pub request_read : Field → Reading
-request_read field.Wrong = reading.Refused status.DataWrong
-request_read (field.Found r) = reading.Read r
+request_read None = reading.Refused status.DataWrong
+request_read (Some r) = reading.Read r
 
 -- the word of the first row whose condition holds, otherwise the request
 unfoldable pub read_of : List ℕ → ℕ → Reading

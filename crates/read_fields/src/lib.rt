@@ -1,7 +1,7 @@
 // The data fields of STORE DATA, DELETE and GET STATUS. Every function reads a window of the whole command, from `at` up to `end`;
 // one that does not lie in it is wrong. A data field is first read as a list of elements, then in the table's order; an AID is handed on
 // as its place in the command.
-#![tactic(auto)]
+#![tactic(auto, unfolding(crate::proofs::Opened::readers))]
 
 mod request;
 
@@ -13,39 +13,39 @@ ghost use Rattle.read_fields.specs.GetStatus.{tag_noted, listed_at, tags_at, lis
 use base_bytes::{Part, read_pair};
 use read_elements::{last_element, next_element};
 use read_tlv::{Element, TagRead, list_wrong, read_tag};
-pub use request::{Field, Request};
+pub use request::{Request, Tags};
 
 // A DGI that fills the window: its number, and where its contents start.
 #[derive(Clone, Copy)]
-pub enum Dgi {
-    Found { dgi: u16, start: usize },
-    Wrong,
+pub struct Dgi {
+    pub dgi: u16,
+    pub start: usize,
 }
 
-pub fn read_dgi(s: &[u8], at: usize, end: usize) -> Dgi
+pub fn read_dgi(s: &[u8], at: usize, end: usize) -> Option<Dgi>
     ensures { result ≡ dgi_at s.now at end }
 {
     if s.len() < end {
-        return Dgi::Wrong;
+        return None;
     }
     if end < at {
-        return Dgi::Wrong;
+        return None;
     }
     let room = end - at;
     if room < 3 {
-        return Dgi::Wrong;
+        return None;
     }
     let place = at + 2;
     let count = s[place] as usize;
     if 0xFE < count {
-        return Dgi::Wrong;
+        return None;
     }
     let start = at + 3;
     if end - start != count {
-        return Dgi::Wrong;
+        return None;
     }
     let dgi = read_pair(s, at);
-    Dgi::Found { dgi, start }
+    Some(Dgi { dgi, start })
 }
 
 const ENABLE: u16 = 0x3A03;
@@ -56,57 +56,48 @@ const SET_FALL_BACK: u16 = 0x3A05;
 
 const CONFIRMATION: u16 = 0x3A08;
 
-fn read_confirmation(s: &[u8], at: usize, end: usize) -> Field
+fn read_confirmation(s: &[u8], at: usize, end: usize) -> Option<Request>
     ensures { result ≡ confirmation_at s.now at end }
 {
     let Element::Found { start, stop: _ } = last_element(s, at, end, 0x4E, 2, 2) else {
-        return Field::Wrong;
+        return None;
     };
     let number = read_pair(s, start);
-    Field::Found(Request::Confirm(number))
+    Some(Request::Confirm(number))
 }
 
-pub fn read_store_data(s: &[u8], at: usize, end: usize) -> Field
+pub fn read_store_data(s: &[u8], at: usize, end: usize) -> Option<Request>
     ensures { result ≡ store_data_at s.now at end }
 {
-    let Dgi::Found {
+    let Dgi {
         dgi,
         start: contents,
-    } = read_dgi(s, at, end)
-    else {
-        return Field::Wrong;
-    };
+    } = read_dgi(s, at, end)?;
     if list_wrong(s, contents, end) {
-        return Field::Wrong;
+        return None;
     }
     if dgi == CONFIRMATION {
         return read_confirmation(s, contents, end);
     }
     let Element::Found { start, stop } = last_element(s, contents, end, 0x4F, 5, 16) else {
-        return Field::Wrong;
+        return None;
     };
     let len = stop - start;
     let aid = Part { start, len };
     if dgi == ENABLE {
-        return Field::Found(Request::Enable(aid));
+        return Some(Request::Enable(aid));
     }
     if dgi == DISABLE {
-        return Field::Found(Request::Disable(aid));
+        return Some(Request::Disable(aid));
     }
     if dgi == SET_FALL_BACK {
-        return Field::Found(Request::SetFallBack(aid));
+        return Some(Request::SetFallBack(aid));
     }
-    Field::Wrong
+    None
 }
 
-#[derive(Clone, Copy)]
-pub enum Verification {
-    Filled,
-    Wrong,
-}
-
-// What B6 holds in a master delete: 42, 45, 5F20 and 93.
-fn read_verification(s: &[u8], at: usize, end: usize) -> Verification
+// Is what B6 holds in a master delete right: 42, 45, 5F20 and 93?
+fn read_verification(s: &[u8], at: usize, end: usize) -> bool
     ensures { result ≡ verification_at s.now at end }
 {
     let Element::Found {
@@ -114,93 +105,85 @@ fn read_verification(s: &[u8], at: usize, end: usize) -> Verification
         stop: first,
     } = next_element(s, at, end, 0x42, 1, 255)
     else {
-        return Verification::Wrong;
+        return false;
     };
     let Element::Found {
         start: _,
         stop: second,
     } = next_element(s, first, end, 0x45, 1, 255)
     else {
-        return Verification::Wrong;
+        return false;
     };
     let Element::Found {
         start: _,
         stop: third,
     } = next_element(s, second, end, 0x5F20, 1, 255)
     else {
-        return Verification::Wrong;
+        return false;
     };
     let Element::Found { start: _, stop: _ } = last_element(s, third, end, 0x93, 1, 255) else {
-        return Verification::Wrong;
+        return false;
     };
-    Verification::Filled
+    true
 }
 
 // Delete has the AID alone; a master delete goes on with B6 and the token.
-pub fn read_deletion(s: &[u8], at: usize, end: usize) -> Field
+pub fn read_deletion(s: &[u8], at: usize, end: usize) -> Option<Request>
     ensures { result ≡ deletion_at s.now at end }
 {
     if list_wrong(s, at, end) {
-        return Field::Wrong;
+        return None;
     }
     let Element::Found { start, stop } = next_element(s, at, end, 0x4F, 5, 16) else {
-        return Field::Wrong;
+        return None;
     };
     let len = stop - start;
     let aid = Part { start, len };
     if stop == end {
-        return Field::Found(Request::Delete(aid));
+        return Some(Request::Delete(aid));
     }
     let Element::Found {
         start: from,
         stop: to,
     } = next_element(s, stop, end, 0xB6, 0, 255)
     else {
-        return Field::Wrong;
+        return None;
     };
-    let Verification::Filled = read_verification(s, from, to) else {
-        return Field::Wrong;
-    };
+    if !read_verification(s, from, to) {
+        return None;
+    }
     let Element::Found { start: _, stop: _ } = last_element(s, to, end, 0x9E, 1, 255) else {
-        return Field::Wrong;
+        return None;
     };
-    Field::Found(Request::MasterDelete(aid))
+    Some(Request::MasterDelete(aid))
 }
 
-// Which of the two optional tags a row of the answer shows.
-#[derive(Clone, Copy)]
-pub enum Tags {
-    Shown { life: bool, fall_back: bool },
-    Wrong,
-}
-
-fn tag_noted(tag: u16, life: bool, fall_back: bool) -> Tags
-    ensures { result ≡ tag_noted tag life fall_back }
+fn tag_noted(tag: u16, tags: Tags) -> Option<Tags>
+    ensures { result ≡ tag_noted tag tags.life tags.fall_back }
 {
     if tag == 0x4F {
-        return Tags::Shown { life, fall_back };
+        return Some(tags);
     }
     if tag == 0x9F70 {
-        return Tags::Shown {
-            life: true,
-            fall_back,
-        };
+        return Some(Tags { life: true, ..tags });
     }
     if tag == 0x53 {
-        return Tags::Shown {
-            life,
+        return Some(Tags {
             fall_back: true,
-        };
+            ..tags
+        });
     }
-    Tags::Wrong
+    None
 }
 
-fn read_listed(s: &[u8], at: usize, end: usize) -> Tags
+fn read_listed(s: &[u8], at: usize, end: usize) -> Option<Tags>
     ensures { result ≡ listed_at s.now at end }
 {
     let mut from = at;
-    let mut life = false;
-    let mut fall_back = false;
+    let mut tags = Tags {
+        life: false,
+        fall_back: false,
+    };
     while from < end {
         let TagRead::Tag {
             tag,
@@ -208,69 +191,51 @@ fn read_listed(s: &[u8], at: usize, end: usize) -> Tags
             next,
         } = read_tag(s, from, end)
         else {
-            return Tags::Wrong;
+            return None;
         };
-        let Tags::Shown {
-            life: l,
-            fall_back: f,
-        } = tag_noted(tag, life, fall_back)
-        else {
-            return Tags::Wrong;
-        };
-        life = l;
-        fall_back = f;
+        tags = tag_noted(tag, tags)?;
         from = next;
     }
-    Tags::Shown { life, fall_back }
+    Some(tags)
 }
 
 // With no 5C both optional tags are shown.
-fn read_tags(s: &[u8], at: usize, end: usize) -> Tags
+fn read_tags(s: &[u8], at: usize, end: usize) -> Option<Tags>
     ensures { result ≡ tags_at s.now at end }
 {
     if at == end {
-        return Tags::Shown {
+        return Some(Tags {
             life: true,
             fall_back: true,
-        };
+        });
     }
     let Element::Found { start, stop } = last_element(s, at, end, 0x5C, 0, 255) else {
-        return Tags::Wrong;
+        return None;
     };
     read_listed(s, start, stop)
 }
 
 // `next`: a listing that goes on from the kept place, which names no AID.
-pub fn read_listing(next: bool, s: &[u8], at: usize, end: usize) -> Field
+pub fn read_listing(next: bool, s: &[u8], at: usize, end: usize) -> Option<Request>
     ensures { result ≡ listing_at next s.now at end }
 {
     if list_wrong(s, at, end) {
-        return Field::Wrong;
+        return None;
     }
     let Element::Found { start, stop } = next_element(s, at, end, 0x4F, 0, 16) else {
-        return Field::Wrong;
+        return None;
     };
-    let Tags::Shown { life, fall_back } = read_tags(s, stop, end) else {
-        return Field::Wrong;
-    };
+    let tags = read_tags(s, stop, end)?;
     let len = stop - start;
     if len == 0 {
-        return Field::Found(Request::GetStatusOfAll {
-            next,
-            life,
-            fall_back,
-        });
+        return Some(Request::GetStatusOfAll { next, tags });
     }
     if next {
-        return Field::Wrong;
+        return None;
     }
     if len < 5 {
-        return Field::Wrong;
+        return None;
     }
     let aid = Part { start, len };
-    Field::Found(Request::GetStatusOfOne {
-        aid,
-        life,
-        fall_back,
-    })
+    Some(Request::GetStatusOfOne { aid, tags })
 }

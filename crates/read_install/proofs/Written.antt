@@ -6,6 +6,7 @@ use mathlib.Core.List.{List, [], ◌∷◌, ◌++◌}
 use mathlib.Core.Option.{some}
 use native.Mathlib.Omega.{arith}
 use lib.ListN.{length}
+use Rattle.std.specs.Prelude.{None}
 use Rattle.base_bytes.specs.Bytes.{between, part_of}
 use Rattle.read_tlv.specs.Tlv.{expect_at}
 use Rattle.read_tlv.specs.Lists.{list_wrong}
@@ -21,8 +22,7 @@ use Rattle.read_tlv.proofs.Written.{length-written, element-written}
 use Rattle.read_tlv.specs.Filled.{Filled}
 use Rattle.read_tlv.proofs.Fills.{right-filled}
 use Rattle.read_fields.specs.Grammar.{Created, Wanted, create, found_as, ReadFrom}
-use Rattle.read_fields.specs.declared.request.Field.{Field}
-use Rattle.read_fields.specs.declared.request.Field.TheVariants as field
+use Rattle.read_fields.specs.Found.{Field}
 use Rattle.read_fields.proofs.Cases.{same-value}
 use Rattle.read_install.specs.declared.Protocols.{Protocols}
 use Rattle.read_install.specs.declared.Protocols.TheVariants as protocols
@@ -276,7 +276,7 @@ unfolding install_of
 install-written s at end capacity w b =
     let Encoded : Wanted → Type 0 = λ z. ReadFrom create (EncodesCreated capacity) s at end z in
     let P : Field → Type 0 = λ z. found_as s z ≡ some w → Encoded w in
-    let none : P field.Wrong = λ q. let z : ◌≡◌ {A = ℕ} 0 1 = cc in absurd (omega arith) in
+    let none : P None = λ q. let z : ◌≡◌ {A = ℕ} 0 1 = cc in absurd (omega arith) in
     each-found P (names_at s at end) none λ start stop c. each-found P (rights_at s stop end) none λ from to d.
     each-granted P (parameters_at s from to capacity) none λ number g.
     let n = names-written s at end start stop c in

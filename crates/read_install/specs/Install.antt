@@ -1,7 +1,7 @@
 -- Document 01, 'Reading a command', 'Create': GP's INSTALL data field (000, Table 9), "six fields each after its length in the form
 -- above, filling it exactly: load file AID and module AID (5 to 16 bytes), ISD-P AID, privileges (1 or 3 bytes), install parameters,
 -- token (length 0)".
-use Rattle.std.specs.Prelude.{ℕ, ◌+◌, ◌-◌, List}
+use Rattle.std.specs.Prelude.{ℕ, ◌+◌, ◌-◌, List, Some, None}
 use Rattle.base_bytes.specs.Bytes.{between}
 use Rattle.base_choice.specs.Choice.{pick, is_below, is_same}
 use Rattle.read_tlv.specs.Tlv.{length_at, on_found}
@@ -12,8 +12,7 @@ use Rattle.read_tlv.specs.declared.Element.TheVariants as element
 use Rattle.read_install.specs.declared.Quota.{Quota}
 use Rattle.read_install.specs.declared.Quota.TheVariants as quota
 use Rattle.read_fields.specs.declared.request.Request.TheVariants as request
-use Rattle.read_fields.specs.declared.request.Field.{Field}
-use Rattle.read_fields.specs.declared.request.Field.TheVariants as field
+use Rattle.read_fields.specs.Found.{Field}
 use Rattle.read_install.specs.Parameters.{parameters_at}
 
 -- a value after its length, where the window has so many bytes and they are `low` to `high`
@@ -52,7 +51,7 @@ on_granted (quota.Granted number) w f = f number
 -- "1 up to capacity" is a matter of the data field, so the reader is handed the capacity (decision 26)
 unfoldable pub install_of : List ℕ → ℕ → ℕ → ℕ → Field
 install_of s at end capacity =
-    on_found (names_at s at end) field.Wrong λ start stop.
-    on_found (rights_at s stop end) field.Wrong λ from to.
-    on_granted (parameters_at s from to capacity) field.Wrong λ number.
-    field.Found (request.Create (between start stop) number)
+    on_found (names_at s at end) None λ start stop.
+    on_found (rights_at s stop end) None λ from to.
+    on_granted (parameters_at s from to capacity) None λ number.
+    Some (request.Create (between start stop) number)

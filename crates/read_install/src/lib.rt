@@ -8,7 +8,7 @@ ghost use Rattle.read_install.specs.Install.{prefixed_at, names_at, rights_at, i
 
 use base_bytes::{Part, read_four, read_pair};
 use read_elements::{last_element, next_element};
-use read_fields::{Field, Request};
+use read_fields::Request;
 use read_tlv::{Element, LengthRead, list_wrong, read_length};
 
 #[derive(Clone, Copy)]
@@ -173,23 +173,23 @@ fn read_rights(s: &[u8], at: usize, end: usize) -> Element
     }
 }
 
-pub fn read_install(s: &[u8], at: usize, end: usize, capacity: u32) -> Field
+pub fn read_install(s: &[u8], at: usize, end: usize, capacity: u32) -> Option<Request>
     ensures { result ≡ install_of s.now at end capacity }
 {
     let Element::Found { start, stop } = read_names(s, at, end) else {
-        return Field::Wrong;
+        return None;
     };
     let Element::Found {
         start: from,
         stop: to,
     } = read_rights(s, stop, end)
     else {
-        return Field::Wrong;
+        return None;
     };
     let Quota::Granted(quota) = read_parameters(s, from, to, capacity) else {
-        return Field::Wrong;
+        return None;
     };
     let len = stop - start;
     let aid = Part { start, len };
-    Field::Found(Request::Create { aid, quota })
+    Some(Request::Create { aid, quota })
 }

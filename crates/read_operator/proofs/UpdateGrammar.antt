@@ -19,8 +19,7 @@ use Rattle.read_elements.specs.Reader.{alone_at}
 use Rattle.read_elements.proofs.Alone.{alone-expected}
 use Rattle.read_frame.specs.Framing.{data_end}
 use Rattle.read_frame.proofs.Framed.{stands, stands-passes, passes-framed}
-use Rattle.read_fields.specs.declared.Dgi.TheVariants as dgi
-use Rattle.read_fields.specs.StoreData.{dgi_at}
+use Rattle.read_fields.specs.StoreData.{dgi_read, dgi_at}
 use Rattle.read_fields.specs.Grammar.{encode_dgi}
 use Rattle.read_fields.proofs.Cases.{each-dgi}
 use Rattle.read_fields.proofs.Parts.{dgi-filled, lone-back, lone-written}
@@ -39,7 +38,7 @@ pub record PolicyParts (s : List ℕ) (at end p : ℕ) : Type 0 where
   pub contents : ℕ
   pub start : ℕ
   pub stop : ℕ
-  pub opened : dgi.Found 0x3A06 contents ≡ dgi_at s at end
+  pub opened : dgi_read 0x3A06 contents ≡ dgi_at s at end
   pub listed : list_wrong s contents end ≡ false
   pub found : element.Found start stop ≡ alone_at s contents end 0x81 1 1
   pub value : p ≡ byte s start
@@ -51,10 +50,10 @@ module _ (s : List ℕ) (at end p : ℕ) where
   none : Accepted policy.Wrong
   none q = let z : ◌≡◌ {A = ℕ} 0 1 = cc in absurd (omega arith)
 
-  one_found : (number contents start stop : ℕ) → dgi.Found number contents ≡ dgi_at s at end → list_wrong s contents end ≡ false → number ≡ 0x3A06
+  one_found : (number contents start stop : ℕ) → dgi_read number contents ≡ dgi_at s at end → list_wrong s contents end ≡ false → number ≡ 0x3A06
       → element.Found start stop ≡ alone_at s contents end 0x81 1 1 → Accepted (policy.Found (byte s start))
   one_found number contents start stop d e h g q =
-      record { contents = contents; start = start; stop = stop; opened = ap (λ (n : ℕ). dgi.Found n contents) (sym h) ∙ d; listed = e; found = g; value = cc }
+      record { contents = contents; start = start; stop = stop; opened = ap (λ (n : ℕ). dgi_read n contents) (sym h) ∙ d; listed = e; found = g; value = cc }
 
   policy-parts : Accepted (policy_at s at end)
   unfolding policy_at

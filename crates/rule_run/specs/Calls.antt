@@ -1,11 +1,10 @@
 -- Document 01, 'What is bought': the calls, and what each asks of a card once it is read.
-use Rattle.std.specs.Prelude.{ℕ, List}
+use Rattle.std.specs.Prelude.{ℕ, List, Some, None}
 use Rattle.base_bytes.specs.Bytes.{part_of}
 use Rattle.read_command.specs.Requests.{field_of}
 use Rattle.read_fields.specs.declared.request.Request.{Request}
 use Rattle.read_fields.specs.declared.request.Request.TheVariants as request
-use Rattle.read_fields.specs.declared.request.Field.{Field}
-use Rattle.read_fields.specs.declared.request.Field.TheVariants as field
+use Rattle.read_fields.specs.Found.{Field}
 use Rattle.read_operator.specs.Field.{policy_of}
 use Rattle.read_operator.specs.declared.Policy as operator
 use Rattle.read_operator.specs.declared.Policy.TheVariants as policy
@@ -38,8 +37,8 @@ request_asks verdict s (request.GetStatusOfOne aid life fallback) = on (part_of 
 request_asks verdict s request.GetData = get_data
 
 abbrev pub field_asks : ℕ → List ℕ → Field → Asked
-field_asks verdict s field.Wrong = unread
-field_asks verdict s (field.Found r) = request_asks verdict s r
+field_asks verdict s None = unread
+field_asks verdict s (Some r) = request_asks verdict s r
 
 abbrev pub policy_asks : List ℕ → operator.Policy → Asked
 policy_asks speaker policy.Wrong = unread

@@ -11,10 +11,10 @@ loop-from-init c = left-start _ _ _
 pub returns-in_default : goal.returns-in_default
 returns-in_default c = left-no-tag _ _ _ _ _ _ (omega arith) (sym c.in_default.is ∙ c.read_tag.ensures) c.loop-from.invariant
 
-pub returns-in_default-tag_noted : goal.returns-in_default-tag_noted
-returns-in_default-tag_noted c = let l = c.loop-from in
+pub returns-in_err-tags : goal.returns-in_err-tags
+returns-in_err-tags c = let l = c.loop-from in
     let e = sym c.in-Tag.is ∙ c.read_tag.ensures in
-    left-unknown _ _ _ _ _ _ c.in-Tag.tag c.in-Tag.constructed c.in-Tag.next (omega arith) e (sym c.in_default-tag_noted.is ∙ c.tag_noted.ensures) l.invariant
+    c.from_residual.ensures ∙ left-unknown _ _ _ _ _ _ c.in-Tag.tag c.in-Tag.constructed c.in-Tag.next (omega arith) e (sym c.in_err-tags.was ∙ c.tag_noted.ensures) l.invariant
 
 pub loop-from-smaller : goal.loop-from-smaller
 loop-from-smaller c = let l = c.loop-from in
@@ -26,7 +26,7 @@ pub loop-from-preserved : goal.loop-from-preserved
 loop-from-preserved c = let l = c.loop-from in
     let e = sym c.in-Tag.is ∙ c.read_tag.ensures in
     let i = tag-inside _ _ _ c.in-Tag.tag c.in-Tag.constructed c.in-Tag.next e in
-    left-next _ _ _ _ _ _ c.in-Tag.tag c.in-Tag.constructed c.in-Tag.next (omega arith) e _ _ (sym c.in-Shown.is ∙ c.tag_noted.ensures) i.past l.invariant
+    left-next _ _ _ _ _ _ c.in-Tag.tag c.in-Tag.constructed c.in-Tag.next (omega arith) e _ _ (sym c.in_ok-tags.was ∙ c.tag_noted.ensures) i.past l.invariant
 
 pub returns : goal.returns
 returns c = left_end _ _ _ _ _ _ (omega arith) c.loop-from.invariant

@@ -5,7 +5,7 @@ use Prim.Native.Nat.{◌-◌}
 use Rattle.read_fields.proofs.read_listed.Given as goal
 
 abbrev pub invariant-loop-from : goal.invariant-loop-from
-invariant-loop-from l = Left (listed_at l.s l.at l.end) l.s l.from l.end l.life l.fall_back
+invariant-loop-from l = Left (listed_at l.s l.at l.end) l.s l.from l.end l.tags.life l.tags.fall_back
 
 abbrev pub decreases-loop-from : goal.decreases-loop-from
 decreases-loop-from l = l.end - l.from
