@@ -4,9 +4,10 @@
 
 ghost use Rattle.std.specs.Prelude.{◌≡◌};
 ghost use Rattle.read_tlv.specs.Tlv.{expect_at};
+ghost use Rattle.read_tlv.specs.Lists.{list_wrong};
 ghost use Rattle.read_elements.specs.Reader.{moved, at_end, alone_at};
 
-use read_tlv::{Element, expect};
+use read_tlv::{Element, expect, list_wrong};
 
 #[derive(Clone, Copy)]
 pub struct Reader<'a> {
@@ -41,6 +42,13 @@ impl<'a> Reader<'a> {
         let found = expect(self.bytes, self.at, self.end, tag, low, high)?;
         self.at = found.stop;
         Some(found)
+    }
+
+    // Is what is left no list of elements?
+    pub fn list_wrong(&self) -> bool
+        ensures { result ≡ list_wrong self.now.bytes.now self.now.at self.now.end }
+    {
+        list_wrong(self.bytes, self.at, self.end)
     }
 
     pub fn at_end(&self) -> bool

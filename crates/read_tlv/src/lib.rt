@@ -2,9 +2,12 @@
 // A window is the bytes from `at` up to `end`; one that does not lie in the slice holds nothing, and nothing is read there.
 #![tactic(auto, unfolding(crate::proofs::Opened::readers))]
 
-ghost use Rattle.std.specs.Prelude.{◌≡◌, ℕ, ◌≤◌};
+ghost use Rattle.std.specs.Prelude.{◌≡◌, ℕ, ◌≤◌, ◌-◌};
+ghost use Rattle.base_bytes.specs.Bytes.{between};
 ghost use Rattle.read_tlv.specs.Tlv.{tag_at, length_at, head_at, expect_at};
 ghost use Rattle.read_tlv.specs.Lists.{list_at, element_at, list_wrong};
+
+use base_bytes::Part;
 
 // The tag's number is its one byte, or its two bytes, high byte first; `next` is the place after it.
 #[derive(Clone, Copy)]
@@ -118,6 +121,25 @@ pub fn read_head(s: &[u8], at: usize, end: usize) -> Option<Head>
 pub struct Element {
     pub start: usize,
     pub stop: usize,
+}
+
+impl Element {
+    // How many bytes the value has.
+    pub fn len(self) -> usize
+        ensures { result ≡ self.stop - self.start }
+    {
+        self.stop.saturating_sub(self.start)
+    }
+
+    // The value as a part of the bytes.
+    pub fn part(self) -> Part
+        ensures { result ≡ between self.start self.stop }
+    {
+        Part {
+            start: self.start,
+            len: self.len(),
+        }
+    }
 }
 
 // The next element, where it bears the tag that the table has there and its value has `low` to `high` bytes.
