@@ -2,24 +2,10 @@
 // the place after what was written.
 ghost use Rattle.std.specs.Prelude.{◌≡◌, ◌∷◌, [], ◌+◌, ◌*◌, ◌/◌, ◌%◌, ◌≤◌, length};
 ghost use Rattle.base_bytes.specs.Put.{put, Wrote};
-ghost use Rattle.text_words.specs.Letters.{piece_of};
 ghost use Rattle.text_words.specs.Numbers.{digits_text, decimal_text};
 ghost use Rattle.text_words.specs.Hex.{glyph_of, hex_text, hex_word};
 
-use base_bytes::{Part, part_of, put_byte, put_bytes};
-
-// A word of a text that holds several one after the other: where it starts, and how many bytes it has. A value that has a word is told
-// by its piece, so that one writer serves all values of its type.
-#[derive(Clone, Copy)]
-pub struct Piece(pub usize, pub usize);
-
-pub fn put_piece(buf: &mut [u8], at: usize, text: &[u8], piece: Piece) -> usize
-    ensures { Wrote buf.old at (piece_of text.now piece) result buf.new }
-{
-    let start = piece.0;
-    let len = piece.1;
-    put_bytes(buf, at, part_of(text, Part { start, len }))
-}
+use base_bytes::put_byte;
 
 // The hex digit of the low four bits.
 fn glyph(n: u8) -> u8
