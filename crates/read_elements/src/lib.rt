@@ -66,32 +66,3 @@ impl<'a> Reader<'a> {
         self.at_end().then_some(found)
     }
 }
-
-// The element that the table has at a place of a data field that ends at `end`; another may follow.
-pub fn next_element(
-    s: &[u8],
-    at: usize,
-    end: usize,
-    tag: u16,
-    low: usize,
-    high: usize,
-) -> Option<Element>
-    ensures { result ≡ expect_at s.now at end tag low high }
-{
-    let mut reader = Reader::new(s, at, end);
-    reader.next(tag, low, high)
-}
-
-// The element that the table has there, where it ends the data field.
-pub fn last_element(
-    s: &[u8],
-    at: usize,
-    end: usize,
-    tag: u16,
-    low: usize,
-    high: usize,
-) -> Option<Element>
-    ensures { result ≡ alone_at s.now at end tag low high }
-{
-    Reader::new(s, at, end).last(tag, low, high)
-}
