@@ -7,6 +7,7 @@ ghost use Rattle.read_command.specs.Reading.{read_of};
 
 use base_bytes::byte_at;
 use base_status::Status;
+use read_elements::Reader;
 pub use read_fields::{Request, Tags};
 use read_fields::{read_deletion, read_listing, read_store_data};
 use read_frame::{
@@ -18,12 +19,12 @@ use read_install::read_install;
 fn read_field(bytes: &[u8], capacity: u32) -> Option<Request>
     ensures { result ≡ field_of bytes.now capacity }
 {
-    let end = data_end(bytes);
+    let field = Reader::new(bytes, FIELD, data_end(bytes));
     match byte_at(bytes, 1) {
-        INSTALL => read_install(bytes, FIELD, end, capacity),
-        DELETE => read_deletion(bytes, FIELD, end),
-        STORE_DATA => read_store_data(bytes, FIELD, end),
-        GET_STATUS => read_listing(byte_at(bytes, 3) == NEXT_ROWS, bytes, FIELD, end),
+        INSTALL => read_install(field, capacity),
+        DELETE => read_deletion(field),
+        STORE_DATA => read_store_data(field),
+        GET_STATUS => read_listing(byte_at(bytes, 3) == NEXT_ROWS, field),
         _ => Some(Request::GetData),
     }
 }

@@ -8,8 +8,7 @@ use native.Mathlib.Omega.{arith}
 use lib.ListN.{length}
 use Rattle.std.specs.Prelude.{Bool, true, false, Some}
 use Rattle.base_bytes.specs.Bytes.{between, part_of}
-use Rattle.read_tlv.specs.Tlv.{expect_at}
-use Rattle.read_tlv.specs.declared.Element.TheVariants as element
+use Rattle.read_tlv.specs.Tlv.{element_read, expect_at}
 use Rattle.read_tlv.specs.Lists.{list_wrong}
 use Rattle.read_tlv.specs.Filled.{Filled, ended, primitive, constructed}
 use Rattle.read_tlv.specs.Encoding.{window, Bytes, encode_element}
@@ -115,7 +114,7 @@ module _ (s : List ℕ) (at end : ℕ) (w : Wanted) (b : Bytes s) where
   abbrev Accepted : Field → Type 0
   Accepted z = found_as s z ≡ some w → Encoded w
 
-  module _ (start stop : ℕ) (q : element.Found start stop ≡ expect_at s at end 0x4F 5 16) where
+  module _ (start stop : ℕ) (q : element_read start stop ≡ expect_at s at end 0x4F 5 16) where
     named : Named (part_of s (between start stop))
     named =
         let x = expect-parts s at end 0x4F 5 16 start stop q in
@@ -129,8 +128,8 @@ module _ (s : List ℕ) (at end : ℕ) (w : Wanted) (b : Bytes s) where
         ap (window s at) (sym h) ∙ element-written s at end 0x4F 5 16 start stop b q ∙ ap (encode_element 0x4F) (sym (window-part s start stop i.ordered)) in
         same-value Encoded (deletion (delete (part_of s (between start stop)))) w record { ordered = omega arith; held = omega arith; value = delete (part_of s (between start stop)); meant = refl; encoded = (named, bytes) }
 
-    master-written : (from to k e : ℕ) → element.Found from to ≡ expect_at s stop end 0xB6 0 255 → true ≡ verification_at s from to
-        → element.Found k e ≡ alone_at s to end 0x9E 1 255 → Accepted (Some (request.MasterDelete (between start stop)))
+    master-written : (from to k e : ℕ) → element_read from to ≡ expect_at s stop end 0xB6 0 255 → true ≡ verification_at s from to
+        → element_read k e ≡ alone_at s to end 0x9E 1 255 → Accepted (Some (request.MasterDelete (between start stop)))
     master-written from to k e q₂ f g =
         let i = expect-inside s at end 0x4F 5 16 start stop q in
         let x = expect-parts s stop end 0xB6 0 255 from to q₂ in

@@ -6,8 +6,7 @@ use mathlib.Core.Bool.{Bool, false}
 use native.Mathlib.Omega.{arith}
 use Rattle.std.specs.Prelude.{Option, None}
 use Rattle.base_choice.proofs.Branches.{le!, nle! }
-use Rattle.read_tlv.specs.Tlv.{tag_at}
-use Rattle.read_tlv.specs.declared.TagRead.TheVariants as tag
+use Rattle.read_tlv.specs.Tlv.{tag_read, tag_at}
 use Rattle.read_fields.specs.declared.request.Tags.{Tags}
 use Rattle.read_fields.specs.GetStatus.{tags_read, tag_noted, listed_within, listed_at}
 
@@ -25,12 +24,12 @@ module _ (s : List ℕ) (end : ℕ) where
     left_end h (zero, q) = rw q.1 refl
     left_end h (suc n, q) = rw q.1 (le! _ h refl)
 
-    pub left-no-tag : at < end → tag.Wrong ≡ tag_at s at end → Left o s at end life fall_back → None ≡ o
+    pub left-no-tag : at < end → None ≡ tag_at s at end → Left o s at end life fall_back → None ≡ o
     unfolding Left listed_within
     left-no-tag h e (zero, q) = absurd (omega arith)
     left-no-tag h e (suc n, q) = rw q.1 (nle! _ h (rw (← e) refl))
 
-    module _ (t : ℕ) (b : Bool) (next : ℕ) (h : at < end) (e : tag.Tag t b next ≡ tag_at s at end) where
+    module _ (t : ℕ) (b : Bool) (next : ℕ) (h : at < end) (e : tag_read t b next ≡ tag_at s at end) where
       pub left-unknown : None ≡ tag_noted t life fall_back → Left o s at end life fall_back → None ≡ o
       unfolding Left listed_within
       left-unknown u (zero, q) = absurd (omega arith)

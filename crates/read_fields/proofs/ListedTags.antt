@@ -7,8 +7,7 @@ use mathlib.Core.Bool.{Bool, true, false}
 use native.Mathlib.Omega.{arith}
 use lib.ListN.{length}
 use Rattle.std.specs.Prelude.{Option, None}
-use Rattle.read_tlv.specs.Tlv.{tag_at}
-use Rattle.read_tlv.specs.declared.TagRead.TheVariants as tag
+use Rattle.read_tlv.specs.Tlv.{tag_read, tag_at}
 use Rattle.read_tlv.specs.Encoding.{window, Bytes, encode_tag}
 use Rattle.base_choice.proofs.Branches.{each-le, each-eq, le!, nle!, eq!, ne! }
 use Rattle.read_tlv.proofs.Inside.{tag-inside}
@@ -121,7 +120,7 @@ module _ (s : List ℕ) (end : ℕ) (b : Bytes s) (life shown : Bool) where
     bytes = ap (λ (n : ℕ). window s n end) h ∙ window-none s end;
   }
 
-  goes_on : (at next : ℕ) (l f c : Bool) (t : ListedTag) → tag.Tag (tag_number t) c next ≡ tag_at s at end
+  goes_on : (at next : ℕ) (l f c : Bool) (t : ListedTag) → tag_read (tag_number t) c next ≡ tag_at s at end
       → TagsWritten s next end (sees_life l (t ∷ [])) (sees_fall_back f (t ∷ [])) life shown → TagsWritten s at end l f life shown
   unfolding encode_tags
   goes_on at next l f c t g r =
@@ -146,7 +145,7 @@ module _ (s : List ℕ) (end : ℕ) (b : Bytes s) (life shown : Bool) where
         each-tag Q (tag_at s at end) none λ t c next g.
         let P : Option Tags → Type 0 = λ z. Q (on_shown z None (λ l' f'. listed_within n s next end l' f')) in
         let i = tag-inside s at end t c next g in
-        let by : (u : ListedTag) → t ≡ tag_number u → tag.Tag (tag_number u) c next ≡ tag_at s at end = λ u h. ap (λ (m : ℕ). tag.Tag m c next) (sym h) ∙ g in
+        let by : (u : ListedTag) → t ≡ tag_number u → tag_read (tag_number u) c next ≡ tag_at s at end = λ u h. ap (λ (m : ℕ). tag_read m c next) (sym h) ∙ g in
         each-eq P (λ h q. goes_on at next l f c aid (by aid h) (onward next l f i.past i.within q))
         (λ _. each-eq P (λ h q. goes_on at next l f c life_cycle (by life_cycle h) (onward next true f i.past i.within q))
         (λ _. each-eq P (λ h q. goes_on at next l f c fall_back (by fall_back h) (onward next l true i.past i.within q))

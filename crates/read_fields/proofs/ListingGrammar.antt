@@ -10,8 +10,7 @@ use lib.ListN.{length}
 use Rattle.std.specs.Prelude as std
 use Rattle.std.specs.Prelude.{Some, None}
 use Rattle.base_bytes.specs.Bytes.{between, part_of}
-use Rattle.read_tlv.specs.Tlv.{expect_at}
-use Rattle.read_tlv.specs.declared.Element.TheVariants as element
+use Rattle.read_tlv.specs.Tlv.{element_read, expect_at}
 use Rattle.read_tlv.specs.Lists.{list_wrong}
 use Rattle.read_tlv.specs.Filled.{Filled, ended, primitive}
 use Rattle.read_tlv.specs.Encoding.{window, Bytes, encode_element}
@@ -120,7 +119,7 @@ module _ (next : Bool) (s : List ℕ) (at end : ℕ) (w : Wanted) (b : Bytes s) 
   abbrev Accepted : Field → Type 0
   Accepted z = found_as s z ≡ some w → Encoded w
 
-  module _ (start stop : ℕ) (q : element.Found start stop ≡ expect_at s at end 0x4F 0 16) where
+  module _ (start stop : ℕ) (q : element_read start stop ≡ expect_at s at end 0x4F 0 16) where
     who-written : (who : List ℕ) (life shown : Bool) → Sought next who → window s start stop ≡ who → tags_read life shown ≡ tags_at s stop end
         → Encoded (get_status (inquiry next who life shown))
     who-written who life shown sought e t =

@@ -7,9 +7,7 @@ use native.Mathlib.Omega.{arith}
 use lib.ListN.{length}
 use Rattle.std.specs.Prelude.{Option, None}
 use Rattle.base_bytes.specs.Bytes.{byte, pair_at}
-use Rattle.read_tlv.specs.declared.HeadRead.TheVariants as head
-use Rattle.read_tlv.specs.declared.Element.TheVariants as element
-use Rattle.read_tlv.specs.Tlv.{head_at}
+use Rattle.read_tlv.specs.Tlv.{head_read, element_read, head_at}
 use Rattle.read_tlv.specs.Lists.{list_wrong}
 use Rattle.read_tlv.specs.Filled.{Filled, ended, primitive}
 use Rattle.read_tlv.specs.Grammar.{one, marks_list}
@@ -104,7 +102,7 @@ module _ (s : List ℕ) (at end : ℕ) (ordered : at ≤ end) (held : end ≤ le
     pub start : ℕ
     pub opened : dgi_read number (at + 3) ≡ dgi_at s at end
     pub listed : list_wrong s (at + 3) end ≡ false
-    pub found : element.Found start end ≡ alone_at s (at + 3) end t low high
+    pub found : element_read start end ≡ alone_at s (at + 3) end t low high
     pub long : end ≡ start + length v
     pub value : window s start end ≡ v
 
@@ -115,7 +113,7 @@ module _ (s : List ℕ) (at end : ℕ) (ordered : at ≤ end) (held : end ≤ le
       let n = short-element t v small short in
       let d = dgi-back s at end ordered held number (encode_element t v) (omega arith) q in
       let a = alone-back s (at + 3) end d.room held t low high v (one small legal) least most d.after in
-      let h = subst (λ (b : Bool). head.Head t b a.start end ≡ head_at s (at + 3) end) plain a.head in
+      let h = subst (λ (b : Bool). head_read t b a.start end ≡ head_at s (at + 3) end) plain a.head in
       record {
         start = a.start;
         opened = d.found;
@@ -126,7 +124,7 @@ module _ (s : List ℕ) (at end : ℕ) (ordered : at ≤ end) (held : end ≤ le
       }
 
 pub lone-written : (s : List ℕ) (at end number contents t low high start stop : ℕ) → Bytes s → dgi_read number contents ≡ dgi_at s at end
-    → element.Found start stop ≡ alone_at s contents end t low high → window s at end ≡ encode_dgi number (encode_element t (window s start stop))
+    → element_read start stop ≡ alone_at s contents end t low high → window s at end ≡ encode_dgi number (encode_element t (window s start stop))
 lone-written s at end number contents t low high start stop b d g =
     dgi-written s at end number contents b d ∙ ap (encode_dgi number) (alone-written s contents end t low high start stop b g)
 

@@ -8,8 +8,8 @@ use native.Mathlib.Omega.{arith}
 use lib.ListN.{length}
 use Rattle.std.specs.Prelude.{Some, None}
 use Rattle.base_bytes.specs.Bytes.{byte, pair_at, between, part_of}
-use Rattle.read_tlv.specs.declared.Element.TheVariants as element
 use Rattle.base_bytes.specs.declared.Part.{Part}
+use Rattle.read_tlv.specs.Tlv.{element_read}
 use Rattle.read_tlv.specs.Lists.{list_wrong}
 use Rattle.read_tlv.specs.Filled.{Filled}
 use Rattle.read_tlv.specs.Encoding.{window, Bytes, encode_number, encode_element}
@@ -84,7 +84,7 @@ module _ (s : List ℕ) (at end : ℕ) (w : Wanted) (b : Bytes s) where
   Accepted z = found_as s z ≡ some w → Encoded w
 
   module _ (number contents : ℕ) (d : dgi_read number contents ≡ dgi_at s at end) (start stop : ℕ) where
-    aid-written : element.Found start stop ≡ alone_at s contents end 0x4F 5 16 → Accepted (request_named number (between start stop))
+    aid-written : element_read start stop ≡ alone_at s contents end 0x4F 5 16 → Accepted (request_named number (between start stop))
     unfolding request_named
     aid-written g =
         let p = dgi-parts s at end number contents d in
@@ -105,7 +105,7 @@ module _ (s : List ℕ) (at end : ℕ) (w : Wanted) (b : Bytes s) where
         (λ _. each-eq Accepted (λ h. same-value Encoded (store_data (set_fall_back aid)) w record { ordered = lies; held = held; value = set_fall_back aid; meant = refl; encoded = (named, by 0x3A05 h) })
         (λ _. no_value (Encoded w) w)))
 
-    number-written : number ≡ 0x3A08 → element.Found start stop ≡ alone_at s contents end 0x4E 2 2 → Accepted (Some (request.Confirm (pair_at s start)))
+    number-written : number ≡ 0x3A08 → element_read start stop ≡ alone_at s contents end 0x4E 2 2 → Accepted (Some (request.Confirm (pair_at s start)))
     number-written h g =
         let p = dgi-parts s at end number contents d in
         let x = alone-expected s contents end 0x4E 2 2 start stop g in

@@ -5,8 +5,7 @@ use Rattle.std.specs.Prelude.{ℕ, zero, suc, ◌-◌, List, Bool, true, false, 
 use Rattle.base_bytes.specs.Bytes.{between}
 use Rattle.base_choice.specs.Choice.{pick, at_most, is_below, is_same}
 use Rattle.read_tlv.specs.Tlv.{tag_at, expect_at, on_found}
-use Rattle.read_tlv.specs.declared.TagRead.{TagRead}
-use Rattle.read_tlv.specs.declared.TagRead.TheVariants as tag
+use Rattle.read_tlv.specs.declared.Tag.{Tag}
 use Rattle.read_tlv.specs.Lists.{list_wrong}
 use Rattle.read_elements.specs.Reader.{alone_at}
 use Rattle.read_fields.specs.declared.request.Tags.{Tags}
@@ -28,9 +27,9 @@ tag_noted t life fall_back =
     (pick (is_same t 0x53) (tags_read life true)
     None))
 
-abbrev pub on_tag {ℓ} : {X : Type ℓ} → TagRead → X → (ℕ → ℕ → X) → X
-on_tag tag.Wrong w f = w
-on_tag (tag.Tag t constructed next) w f = f t next
+abbrev pub on_tag {ℓ} : {X : Type ℓ} → Option Tag → X → (ℕ → ℕ → X) → X
+on_tag None w f = w
+on_tag (Some tag) w f = f tag.tag tag.next
 
 abbrev pub on_shown {ℓ} : {X : Type ℓ} → Option Tags → X → (Bool → Bool → X) → X
 on_shown None w f = w

@@ -13,7 +13,7 @@ use Rattle.read_fields.specs.Found.{Field}
 
 -- a DGI that was read
 abbrev pub dgi_read : ℕ → ℕ → Option Dgi
-dgi_read number start = Some (record { dgi = number; start = start })
+dgi_read number start = Some (record { number = number; start = start })
 
 -- "one length byte up to FE, and fills the data field": not the length form of an element (decisions 23, 32)
 unfoldable pub dgi_at : List ℕ → ℕ → ℕ → Option Dgi
@@ -27,7 +27,7 @@ dgi_at s at end =
 
 abbrev pub on_dgi {ℓ} : {X : Type ℓ} → Option Dgi → X → (ℕ → ℕ → X) → X
 on_dgi None w f = w
-on_dgi (Some d) w f = f d.dgi d.start
+on_dgi (Some d) w f = f d.number d.start
 
 -- one 4E of exactly 2 bytes, high byte first (decision 33)
 unfoldable pub confirmation_at : List ℕ → ℕ → ℕ → Field

@@ -5,47 +5,49 @@
 
 mod request;
 
-ghost use Rattle.std.specs.Prelude.{◌≡◌, ℕ, ◌+◌, ◌≤◌, ◌<◌, length};
+ghost use Rattle.std.specs.Prelude.{◌≡◌, is_some};
 ghost use Rattle.read_fields.specs.StoreData.{dgi_at, confirmation_at, store_data_at};
 ghost use Rattle.read_fields.specs.Delete.{verification_at, deletion_at};
 ghost use Rattle.read_fields.specs.GetStatus.{tag_noted, listed_at, tags_at, listing_at};
 
-use base_bytes::{Part, read_pair};
-use read_elements::{last_element, next_element};
-use read_tlv::{Element, TagRead, list_wrong, read_tag};
+use base_bytes::read_pair;
+use read_elements::Reader;
+use read_tlv::read_tag;
 pub use request::{Request, Tags};
 
 // A DGI that fills the window: its number, and where its contents start.
 #[derive(Clone, Copy)]
 pub struct Dgi {
-    pub dgi: u16,
+    pub number: u16,
     pub start: usize,
 }
 
-pub fn read_dgi(s: &[u8], at: usize, end: usize) -> Option<Dgi>
-    ensures { result ≡ dgi_at s.now at end }
+pub fn read_dgi(field: Reader<'_>) -> Option<Dgi>
+    ensures { result ≡ dgi_at field.entry.bytes.now field.entry.at field.entry.end }
 {
-    if s.len() < end {
+    if field.bytes.len() < field.end {
         return None;
     }
-    if end < at {
+    if field.end < field.at {
         return None;
     }
-    let room = end - at;
+    let room = field.end - field.at;
     if room < 3 {
         return None;
     }
-    let place = at + 2;
-    let count = s[place] as usize;
+    let place = field.at + 2;
+    let count = field.bytes[place] as usize;
     if 0xFE < count {
         return None;
     }
-    let start = at + 3;
-    if end - start != count {
+    let start = field.at + 3;
+    if field.end - start != count {
         return None;
     }
-    let dgi = read_pair(s, at);
-    Some(Dgi { dgi, start })
+    Some(Dgi {
+        number: read_pair(field.bytes, field.at),
+        start,
+    })
 }
 
 const ENABLE: u16 = 0x3A03;
@@ -56,105 +58,61 @@ const SET_FALL_BACK: u16 = 0x3A05;
 
 const CONFIRMATION: u16 = 0x3A08;
 
-fn read_confirmation(s: &[u8], at: usize, end: usize) -> Option<Request>
-    ensures { result ≡ confirmation_at s.now at end }
+fn read_confirmation(contents: Reader<'_>) -> Option<Request>
+    ensures { result ≡ confirmation_at contents.entry.bytes.now contents.entry.at contents.entry.end }
 {
-    let Element::Found { start, stop: _ } = last_element(s, at, end, 0x4E, 2, 2) else {
-        return None;
-    };
-    let number = read_pair(s, start);
-    Some(Request::Confirm(number))
+    let number = contents.last(0x4E, 2, 2)?;
+    Some(Request::Confirm(read_pair(contents.bytes, number.start)))
 }
 
-pub fn read_store_data(s: &[u8], at: usize, end: usize) -> Option<Request>
-    ensures { result ≡ store_data_at s.now at end }
+pub fn read_store_data(field: Reader<'_>) -> Option<Request>
+    ensures { result ≡ store_data_at field.entry.bytes.now field.entry.at field.entry.end }
 {
-    let Dgi {
-        dgi,
-        start: contents,
-    } = read_dgi(s, at, end)?;
-    if list_wrong(s, contents, end) {
-        return None;
-    }
-    if dgi == CONFIRMATION {
-        return read_confirmation(s, contents, end);
-    }
-    let Element::Found { start, stop } = last_element(s, contents, end, 0x4F, 5, 16) else {
-        return None;
+    let dgi = read_dgi(field)?;
+    let contents = Reader {
+        at: dgi.start,
+        ..field
     };
-    let len = stop - start;
-    let aid = Part { start, len };
-    if dgi == ENABLE {
-        return Some(Request::Enable(aid));
+    if contents.list_wrong() {
+        return None;
     }
-    if dgi == DISABLE {
-        return Some(Request::Disable(aid));
+    if dgi.number == CONFIRMATION {
+        return read_confirmation(contents);
     }
-    if dgi == SET_FALL_BACK {
-        return Some(Request::SetFallBack(aid));
+    let aid = contents.last(0x4F, 5, 16)?.part();
+    match dgi.number {
+        ENABLE => Some(Request::Enable(aid)),
+        DISABLE => Some(Request::Disable(aid)),
+        SET_FALL_BACK => Some(Request::SetFallBack(aid)),
+        _ => None,
     }
-    None
 }
 
 // Is what B6 holds in a master delete right: 42, 45, 5F20 and 93?
-fn read_verification(s: &[u8], at: usize, end: usize) -> bool
-    ensures { result ≡ verification_at s.now at end }
+fn read_verification(mut value: Reader<'_>) -> Option<()>
+    ensures { is_some result ≡ verification_at value.entry.bytes.now value.entry.at value.entry.end }
 {
-    let Element::Found {
-        start: _,
-        stop: first,
-    } = next_element(s, at, end, 0x42, 1, 255)
-    else {
-        return false;
-    };
-    let Element::Found {
-        start: _,
-        stop: second,
-    } = next_element(s, first, end, 0x45, 1, 255)
-    else {
-        return false;
-    };
-    let Element::Found {
-        start: _,
-        stop: third,
-    } = next_element(s, second, end, 0x5F20, 1, 255)
-    else {
-        return false;
-    };
-    let Element::Found { start: _, stop: _ } = last_element(s, third, end, 0x93, 1, 255) else {
-        return false;
-    };
-    true
+    value.next(0x42, 1, 255)?;
+    value.next(0x45, 1, 255)?;
+    value.next(0x5F20, 1, 255)?;
+    value.last(0x93, 1, 255)?;
+    Some(())
 }
 
 // Delete has the AID alone; a master delete goes on with B6 and the token.
-pub fn read_deletion(s: &[u8], at: usize, end: usize) -> Option<Request>
-    ensures { result ≡ deletion_at s.now at end }
+pub fn read_deletion(mut field: Reader<'_>) -> Option<Request>
+    ensures { result ≡ deletion_at field.entry.bytes.now field.entry.at field.entry.end }
 {
-    if list_wrong(s, at, end) {
+    if field.list_wrong() {
         return None;
     }
-    let Element::Found { start, stop } = next_element(s, at, end, 0x4F, 5, 16) else {
-        return None;
-    };
-    let len = stop - start;
-    let aid = Part { start, len };
-    if stop == end {
+    let aid = field.next(0x4F, 5, 16)?.part();
+    if field.at_end() {
         return Some(Request::Delete(aid));
     }
-    let Element::Found {
-        start: from,
-        stop: to,
-    } = next_element(s, stop, end, 0xB6, 0, 255)
-    else {
-        return None;
-    };
-    if !read_verification(s, from, to) {
-        return None;
-    }
-    let Element::Found { start: _, stop: _ } = last_element(s, to, end, 0x9E, 1, 255) else {
-        return None;
-    };
+    let verification = field.next(0xB6, 0, 255)?;
+    read_verification(field.inside(verification))?;
+    field.last(0x9E, 1, 255)?;
     Some(Request::MasterDelete(aid))
 }
 
@@ -176,66 +134,55 @@ fn tag_noted(tag: u16, tags: Tags) -> Option<Tags>
     None
 }
 
-fn read_listed(s: &[u8], at: usize, end: usize) -> Option<Tags>
-    ensures { result ≡ listed_at s.now at end }
+fn read_listed(mut list: Reader<'_>) -> Option<Tags>
+    ensures { result ≡ listed_at list.entry.bytes.now list.entry.at list.entry.end }
 {
-    let mut from = at;
     let mut tags = Tags {
         life: false,
         fall_back: false,
     };
-    while from < end {
-        let TagRead::Tag {
-            tag,
-            constructed: _,
-            next,
-        } = read_tag(s, from, end)
-        else {
-            return None;
-        };
-        tags = tag_noted(tag, tags)?;
-        from = next;
+    while list.at < list.end {
+        let tag = read_tag(list.bytes, list.at, list.end)?;
+        tags = tag_noted(tag.tag, tags)?;
+        list.at = tag.next;
     }
     Some(tags)
 }
 
 // With no 5C both optional tags are shown.
-fn read_tags(s: &[u8], at: usize, end: usize) -> Option<Tags>
-    ensures { result ≡ tags_at s.now at end }
+fn read_tags(rest: Reader<'_>) -> Option<Tags>
+    ensures { result ≡ tags_at rest.entry.bytes.now rest.entry.at rest.entry.end }
 {
-    if at == end {
+    if rest.at_end() {
         return Some(Tags {
             life: true,
             fall_back: true,
         });
     }
-    let Element::Found { start, stop } = last_element(s, at, end, 0x5C, 0, 255) else {
-        return None;
-    };
-    read_listed(s, start, stop)
+    let list = rest.last(0x5C, 0, 255)?;
+    read_listed(rest.inside(list))
 }
 
 // `next`: a listing that goes on from the kept place, which names no AID.
-pub fn read_listing(next: bool, s: &[u8], at: usize, end: usize) -> Option<Request>
-    ensures { result ≡ listing_at next s.now at end }
+pub fn read_listing(next: bool, mut field: Reader<'_>) -> Option<Request>
+    ensures { result ≡ listing_at next field.entry.bytes.now field.entry.at field.entry.end }
 {
-    if list_wrong(s, at, end) {
+    if field.list_wrong() {
         return None;
     }
-    let Element::Found { start, stop } = next_element(s, at, end, 0x4F, 0, 16) else {
-        return None;
-    };
-    let tags = read_tags(s, stop, end)?;
-    let len = stop - start;
-    if len == 0 {
+    let aid = field.next(0x4F, 0, 16)?;
+    let tags = read_tags(field)?;
+    if aid.len() == 0 {
         return Some(Request::GetStatusOfAll { next, tags });
     }
     if next {
         return None;
     }
-    if len < 5 {
+    if aid.len() < 5 {
         return None;
     }
-    let aid = Part { start, len };
-    Some(Request::GetStatusOfOne { aid, tags })
+    Some(Request::GetStatusOfOne {
+        aid: aid.part(),
+        tags,
+    })
 }

@@ -10,7 +10,7 @@ use borrow.Author.Tests.{eqb-true, not-false}
 use Rattle.std.specs.Prelude.{Some, None, Ok}
 use Rattle.base_bytes.specs.Bytes.{byte}
 use Rattle.base_choice.proofs.Branches.{no!, each, by-eq, eq! }
-use Rattle.read_tlv.specs.declared.Element.TheVariants as element
+use Rattle.read_tlv.specs.Tlv.{element_read}
 use Rattle.read_tlv.specs.Lists.{list_wrong}
 use Rattle.read_tlv.specs.Encoding.{window, Bytes, encode_element}
 use Rattle.read_tlv.proofs.Branches.{each-found}
@@ -38,7 +38,7 @@ pub record PolicyParts (s : List ℕ) (at end p : ℕ) : Type 0 where
   pub stop : ℕ
   pub opened : dgi_read 0x3A06 contents ≡ dgi_at s at end
   pub listed : list_wrong s contents end ≡ false
-  pub found : element.Found start stop ≡ alone_at s contents end 0x81 1 1
+  pub found : element_read start stop ≡ alone_at s contents end 0x81 1 1
   pub value : p ≡ byte s start
 
 module _ (s : List ℕ) (at end p : ℕ) where
@@ -49,7 +49,7 @@ module _ (s : List ℕ) (at end p : ℕ) where
   none q = let z : ◌≡◌ {A = ℕ} 0 1 = cc in absurd (omega arith)
 
   one_found : (number contents start stop : ℕ) → dgi_read number contents ≡ dgi_at s at end → list_wrong s contents end ≡ false → number ≡ 0x3A06
-      → element.Found start stop ≡ alone_at s contents end 0x81 1 1 → Accepted (Some (byte s start))
+      → element_read start stop ≡ alone_at s contents end 0x81 1 1 → Accepted (Some (byte s start))
   one_found number contents start stop d e h g q =
       record { contents = contents; start = start; stop = stop; opened = ap (λ (n : ℕ). dgi_read n contents) (sym h) ∙ d; listed = e; found = g; value = cc }
 

@@ -8,36 +8,34 @@ ghost use Rattle.read_operator.specs.Reading.{not_store_data, update_of};
 
 use base_bytes::byte_at;
 use base_status::Status;
-use read_elements::last_element;
-use read_fields::{Dgi, read_dgi};
+use read_elements::Reader;
+use read_fields::read_dgi;
 use read_frame::{FIELD, STORE_DATA, data_end, framing};
-use read_tlv::{Element, list_wrong};
 
 const POLICY_UPDATE: u16 = 0x3A06;
 
-fn policy_at(s: &[u8], at: usize, end: usize) -> Option<u8>
-    ensures { result ≡ policy_at s.now at end }
+fn policy_at(field: Reader<'_>) -> Option<u8>
+    ensures { result ≡ policy_at field.entry.bytes.now field.entry.at field.entry.end }
 {
-    let Dgi {
-        dgi,
-        start: contents,
-    } = read_dgi(s, at, end)?;
-    if list_wrong(s, contents, end) {
-        return None;
-    }
-    if dgi != POLICY_UPDATE {
-        return None;
-    }
-    let Element::Found { start, stop: _ } = last_element(s, contents, end, 0x81, 1, 1) else {
-        return None;
+    let dgi = read_dgi(field)?;
+    let contents = Reader {
+        at: dgi.start,
+        ..field
     };
-    Some(byte_at(s, start))
+    if contents.list_wrong() {
+        return None;
+    }
+    if dgi.number != POLICY_UPDATE {
+        return None;
+    }
+    let policy = contents.last(0x81, 1, 1)?;
+    Some(byte_at(field.bytes, policy.start))
 }
 
 fn read_policy(bytes: &[u8]) -> Option<u8>
     ensures { result ≡ policy_of bytes.now }
 {
-    policy_at(bytes, FIELD, data_end(bytes))
+    policy_at(Reader::new(bytes, FIELD, data_end(bytes)))
 }
 
 fn not_store_data(bytes: &[u8]) -> bool
