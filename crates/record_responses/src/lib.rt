@@ -95,13 +95,7 @@ fn row_size(p: Isdp, listed: Listed) -> usize
 }
 
 // The rows of the places from one on, as many whole rows as a response holds, and the first place whose row is left.
-fn write_rows(
-    out: &mut Writer,
-    places: &[Isdp; PLACES],
-    holder: u8,
-    from: u8,
-    listed: Listed,
-) -> u8
+fn write_rows(out: &mut Writer, places: &[Isdp; PLACES], holder: u8, from: u8, listed: Listed) -> u8
     ensures { Written out.old (part_from most_response holder from listed.life listed.fallback (drop from places.now)) out.new × (result ≡ next_row_from most_response holder from listed.life listed.fallback (drop from places.now)) }
 {
     let mut room = RESPONSE;
