@@ -9,8 +9,9 @@ use lib.ListN.{length, get_or, set, drop, length-drop}
 use Rattle.base_choice.specs.Choice.{pick, is_below}
 use Rattle.base_bytes.specs.Bytes.{same_bytes}
 use Rattle.text_words.specs.Hex.{nibble_of, pairs_of, is_hex, byte_of, spelled, spelled_in, hex_byte_of, hex_read_of, hex_left, glyph_of, hex_text, hex_word}
-use Rattle.text_words.specs.declared.hex.Byte.TheVariants as byte
-use Rattle.text_words.specs.declared.hex.HexRead.TheVariants.{Bytes, NoRoom, Wrong}
+use Rattle.text_words.specs.declared.hex.HexError.{HexError}
+use Rattle.text_words.specs.declared.hex.HexError.TheVariants.{NoRoom, Wrong}
+use Rattle.std.specs.Prelude.{Option, Some, None, Result, Ok, Err}
 use Rattle.base_bytes.specs.Put.{put, Wrote}
 use Rattle.base_choice.proofs.Branches.{each, yes!, no!, lt!, nlt! }
 use Rattle.base_bytes.proofs.PutLaws.{put-none, put-cons, after-fits}
@@ -103,7 +104,7 @@ text-fits l m s at h e =
     record { place = ap (◌+◌ at) (sym n) ∙ sym (after-fits (length l) at (length (hex_text s)) (omega arith)); content = e }
 
 -- two digits that are a byte
-pub byte-not : (s : List ℕ) → (length s ≡ 2 → ⊥) → byte.Wrong ≡ hex_byte_of s
+pub byte-not : (s : List ℕ) → (length s ≡ 2 → ⊥) → None ≡ hex_byte_of s
 unfolding hex_byte_of
 byte-not [] h = refl
 byte-not (a ∷ []) h = refl
@@ -111,7 +112,7 @@ byte-not (a ∷ b ∷ []) h = absurd (h refl)
 byte-not (a ∷ b ∷ c ∷ r) h = refl
 
 pub byte-two : (s : List ℕ) → length s ≡ 2
-    → hex_byte_of s ≡ pick (is_below 15 (nibble_of (get_or s 0 0))) byte.Wrong (pick (is_below 15 (nibble_of (get_or s 1 0))) byte.Wrong (byte.Value (byte_of (get_or s 0 0) (get_or s 1 0))))
+    → hex_byte_of s ≡ pick (is_below 15 (nibble_of (get_or s 0 0))) None (pick (is_below 15 (nibble_of (get_or s 1 0))) None (Some (byte_of (get_or s 0 0) (get_or s 1 0))))
 unfolding hex_byte_of
 byte-two [] h = absurd (omega arith)
 byte-two (a ∷ []) h = absurd (omega arith)
@@ -137,17 +138,17 @@ module _ (s : List ℕ) (room : ℕ) where
   pub in-full : room < length s / 2 → [] ≡ spelled_in s room
   in-full h = let k : room < length (spelled s) = rw (spelled-length s) h in lt! _ k refl
 
-  pub hex-fits : is_hex s ≡ true → length s / 2 ≤ room → (Bytes (length s / 2) ≡ hex_read_of s room) × (spelled s ≡ hex_left s room)
+  pub hex-fits : is_hex s ≡ true → length s / 2 ≤ room → (Ok (length s / 2) ≡ hex_read_of s room) × (spelled s ≡ hex_left s room)
   unfolding hex_read_of hex_left
   hex-fits e h =
       let k : length (spelled s) ≤ room = rw (spelled-length s) h in
-      (yes! _ e (nlt! _ k (ap Bytes (sym (spelled-length s)))), yes! _ e (nlt! _ k refl))
+      (yes! _ e (nlt! _ k (ap Ok (sym (spelled-length s)))), yes! _ e (nlt! _ k refl))
 
-  pub hex-full : is_hex s ≡ true → room < length s / 2 → (NoRoom ≡ hex_read_of s room) × ([] ≡ hex_left s room)
+  pub hex-full : is_hex s ≡ true → room < length s / 2 → (Err NoRoom ≡ hex_read_of s room) × ([] ≡ hex_left s room)
   unfolding hex_read_of hex_left
   hex-full e h = let k : room < length (spelled s) = rw (spelled-length s) h in (yes! _ e (lt! _ k refl), yes! _ e (lt! _ k refl))
 
-  pub hex-wrong : is_hex s ≡ false → (Wrong ≡ hex_read_of s room) × ([] ≡ hex_left s room)
+  pub hex-wrong : is_hex s ≡ false → (Err Wrong ≡ hex_read_of s room) × ([] ≡ hex_left s room)
   unfolding hex_read_of hex_left
   hex-wrong e = (no! _ e refl, no! _ e refl)
 

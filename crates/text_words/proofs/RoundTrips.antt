@@ -11,7 +11,7 @@ use lib.Dec.{eqb}
 use Rattle.base_bytes.specs.Bytes.{same_bytes}
 use Rattle.text_words.specs.Hex.{nibble_of, pairs_of, is_hex, byte_of, spelled, hex_read_of, hex_left, glyph_of, hex_text, hex_word}
 use Rattle.text_words.specs.Numbers.{digits_on, digits_text, decimal_text}
-use Rattle.text_words.specs.declared.hex.HexRead.TheVariants.{Bytes}
+use Rattle.std.specs.Prelude.{Result, Ok}
 use Rattle.text_words.specs.RoundTrips.{Octets, none, one, HexAgain, DecimalAgain}
 use Rattle.base_choice.proofs.Branches.{by-lt, yes!, no!, le!, nle!, nlt! }
 use Rattle.text_words.proofs.NumberLaws.{decimal-some}
@@ -60,7 +60,7 @@ unfolding hex_read_of hex_left
 hex-again bs room o h =
     let e = word-spelled o in
     let k : length (spelled (hex_word bs)) ≤ room = rw e h in
-    (sym (yes! _ (word-is-hex bs) (nlt! _ k (ap (λ (x : List ℕ). Bytes (length x)) (sym e)))), sym (yes! _ (word-is-hex bs) (nlt! _ k (sym e))))
+    (sym (yes! _ (word-is-hex bs) (nlt! _ k (ap (λ (x : List ℕ). Ok (length x)) (sym e)))), sym (yes! _ (word-is-hex bs) (nlt! _ k (sym e))))
 
 -- a digit is read
 digit-again : (most value d : ℕ) (rest : List ℕ) → d < 10 → value * 10 + d ≤ most → digits_on most value ((48 + d) ∷ rest) ≡ digits_on most (value * 10 + d) rest

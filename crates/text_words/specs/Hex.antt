@@ -1,11 +1,9 @@
 -- Byte strings in hex, in ASCII. A text is read in either case and written in upper case; `-` (45) is the byte string of no bytes.
-use Rattle.std.specs.Prelude.{ℕ, ◌+◌, ◌-◌, ◌*◌, ◌/◌, ◌%◌, List, [], ◌∷◌, Bool, true, false, length}
+use Rattle.std.specs.Prelude.{ℕ, ◌+◌, ◌-◌, ◌*◌, ◌/◌, ◌%◌, List, [], ◌∷◌, Bool, true, false, length, Option, Some, None, Result, Ok, Err}
 use Rattle.base_choice.specs.Choice.{pick, at_most, is_below}
 use Rattle.base_bytes.specs.Bytes.{same_bytes}
-use Rattle.text_words.specs.declared.hex.Byte.{Byte}
-use Rattle.text_words.specs.declared.hex.Byte.TheVariants as byte
-use Rattle.text_words.specs.declared.hex.HexRead.{HexRead}
-use Rattle.text_words.specs.declared.hex.HexRead.TheVariants.{Bytes, NoRoom, Wrong}
+use Rattle.text_words.specs.declared.hex.HexError.{HexError}
+use Rattle.text_words.specs.declared.hex.HexError.TheVariants.{NoRoom, Wrong}
 
 -- the value of a digit, or 16
 unfoldable pub nibble_of : ℕ → ℕ
@@ -39,15 +37,15 @@ spelled (a ∷ []) = []
 spelled (a ∷ b ∷ r) = byte_of a b ∷ spelled r
 
 -- two digits are a byte
-unfoldable pub hex_byte_of : List ℕ → Byte
-hex_byte_of [] = byte.Wrong
-hex_byte_of (a ∷ []) = byte.Wrong
-hex_byte_of (a ∷ b ∷ []) = pick (is_below 15 (nibble_of a)) byte.Wrong (pick (is_below 15 (nibble_of b)) byte.Wrong (byte.Value (byte_of a b)))
-hex_byte_of (a ∷ b ∷ c ∷ r) = byte.Wrong
+unfoldable pub hex_byte_of : List ℕ → Option ℕ
+hex_byte_of [] = None
+hex_byte_of (a ∷ []) = None
+hex_byte_of (a ∷ b ∷ []) = pick (is_below 15 (nibble_of a)) None (pick (is_below 15 (nibble_of b)) None (Some (byte_of a b)))
+hex_byte_of (a ∷ b ∷ c ∷ r) = None
 
 -- how many bytes a text gives, where `room` of them fit
-unfoldable pub hex_read_of : List ℕ → ℕ → HexRead
-hex_read_of s room = pick (is_hex s) (pick (is_below room (length (spelled s))) NoRoom (Bytes (length (spelled s)))) Wrong
+unfoldable pub hex_read_of : List ℕ → ℕ → Result ℕ HexError
+hex_read_of s room = pick (is_hex s) (pick (is_below room (length (spelled s))) (Err NoRoom) (Ok (length (spelled s)))) (Err Wrong)
 
 -- the bytes, where `room` of them fit; else none
 abbrev pub spelled_in : List ℕ → ℕ → List ℕ

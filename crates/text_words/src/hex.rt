@@ -38,26 +38,20 @@ fn byte_of(a: u8, b: u8) -> u8
     high * 16 + low
 }
 
-#[derive(Clone, Copy)]
-pub enum Byte {
-    Value(u8),
-    Wrong,
-}
-
 // The byte that a text of exactly two digits spells.
-pub fn hex_byte(s: &[u8]) -> Byte
+pub fn hex_byte(s: &[u8]) -> Option<u8>
     ensures { result ≡ hex_byte_of s.now }
 {
     if s.len() != 2 {
-        return Byte::Wrong;
+        return None;
     }
     if 15 < nibble(s[0]) {
-        return Byte::Wrong;
+        return None;
     }
     if 15 < nibble(s[1]) {
-        return Byte::Wrong;
+        return None;
     }
-    Byte::Value(byte_of(s[0], s[1]))
+    Some(byte_of(s[0], s[1]))
 }
 
 fn pairs(s: &[u8]) -> bool
@@ -119,25 +113,25 @@ pub fn spell_hex(s: &[u8], out: &mut [u8]) -> usize
     n
 }
 
+// Why a text gives no bytes: those it spells do not fit, or it is not hex.
 #[derive(Clone, Copy)]
-pub enum HexRead {
-    Bytes(usize),
+pub enum HexError {
     NoRoom,
     Wrong,
 }
 
 // A byte string in hex, to the start of a lent buffer, and how many bytes it has. Where it is refused, nothing is written.
-pub fn read_hex(s: &[u8], out: &mut [u8]) -> HexRead
+pub fn read_hex(s: &[u8], out: &mut [u8]) -> Result<usize, HexError>
     ensures { (result ≡ hex_read_of s.now (length out.old))
         × (out.new ≡ put out.old 0 (hex_left s.now (length out.old))) }
 {
     if is_hex(s) {
         let n = s.len() / 2;
         if out.len() < n {
-            return HexRead::NoRoom;
+            return Err(HexError::NoRoom);
         }
         spell(s, out);
-        return HexRead::Bytes(n);
+        return Ok(n);
     }
-    HexRead::Wrong
+    Err(HexError::Wrong)
 }

@@ -9,7 +9,7 @@ mod words;
 mod writing;
 
 pub use columns::{put_column, put_spaces};
-pub use hex::{Byte, HexRead, hex_byte, is_hex, read_hex, spell_hex};
-pub use numbers::{Number, decimal};
-pub use words::{Word, count_words, next_field, next_word, past, until};
+pub use hex::{HexError, hex_byte, is_hex, read_hex, spell_hex};
+pub use numbers::decimal;
+pub use words::{Span, count_words, next_field, next_word, past, until};
 pub use writing::{Piece, put_decimal, put_hex, put_hex_8, put_hex_16, put_hex_word, put_piece};

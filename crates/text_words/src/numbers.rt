@@ -2,18 +2,12 @@
 ghost use Rattle.std.specs.Prelude.{◌≡◌};
 ghost use Rattle.text_words.specs.Numbers.{decimal_of};
 
-#[derive(Clone, Copy)]
-pub enum Number {
-    Value(u32),
-    Wrong,
-}
-
 // The number that a text of digits spells, at least one digit, where it is at most `most`. Zeros may stand in front.
-pub fn decimal(s: &[u8], most: u32) -> Number
+pub fn decimal(s: &[u8], most: u32) -> Option<u32>
     ensures { result ≡ decimal_of most s.now }
 {
     if s.len() == 0 {
-        return Number::Wrong;
+        return None;
     }
     let limit = most as u64;
     let mut i = 0;
@@ -21,17 +15,17 @@ pub fn decimal(s: &[u8], most: u32) -> Number
     while i < s.len() {
         let c = s[i] as u64;
         if c < 48 {
-            return Number::Wrong;
+            return None;
         }
         if 57 < c {
-            return Number::Wrong;
+            return None;
         }
         let next = value * 10 + (c - 48);
         if limit < next {
-            return Number::Wrong;
+            return None;
         }
         value = next;
         i += 1;
     }
-    Number::Value(value as u32)
+    Some(value as u32)
 }

@@ -32,32 +32,32 @@ pub fn past(s: &[u8], at: usize, b: u8) -> usize
 
 // A word or a field is told by its place: `from` up to, and without, `to`.
 #[derive(Clone, Copy)]
-pub enum Word {
-    Span { from: usize, to: usize },
-    End,
+pub struct Span {
+    pub from: usize,
+    pub to: usize,
 }
 
 // The next word from a place on.
-pub fn next_word(s: &[u8], at: usize) -> Word
+pub fn next_word(s: &[u8], at: usize) -> Option<Span>
     ensures { result ≡ word_at s.now at }
 {
     let from = past(s, at, b' ');
     if s.len() <= from {
-        return Word::End;
+        return None;
     }
     let to = until(s, from, b' ');
-    Word::Span { from, to }
+    Some(Span { from, to })
 }
 
 // The field that starts at a place and ends before the next `by`. The field after it starts one past its end.
-pub fn next_field(s: &[u8], at: usize, by: u8) -> Word
+pub fn next_field(s: &[u8], at: usize, by: u8) -> Option<Span>
     ensures { result ≡ field_at by s.now at }
 {
     if s.len() < at {
-        return Word::End;
+        return None;
     }
     let to = until(s, at, by);
-    Word::Span { from: at, to }
+    Some(Span { from: at, to })
 }
 
 // How many words a line has.
@@ -67,7 +67,7 @@ pub fn count_words(s: &[u8]) -> usize
     let mut count = 0;
     let mut at = 0;
     while count < s.len() {
-        let Word::Span { from: _, to } = next_word(s, at) else {
+        let Some(Span { from: _, to }) = next_word(s, at) else {
             return count;
         };
         at = to;

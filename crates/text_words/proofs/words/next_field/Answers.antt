@@ -1,8 +1,7 @@
 -- `words::next_field` meets its contract, by what `until` ensures.
 use native.Mathlib.Omega.{arith}
 use mathlib.Core.Path.{refl, ap}
-use Rattle.text_words.specs.Words.{field_at}
-use Rattle.text_words.specs.declared.words.Word.TheVariants.{Span}
+use Rattle.text_words.specs.Words.{field_at, span}
 use Rattle.base_choice.proofs.Branches.{lt!, nlt! }
 use Rattle.text_words.proofs.words.next_field.Goals as goal
 
@@ -12,4 +11,4 @@ returns-then-s-at c = lt! _ (omega arith) refl
 
 pub returns : goal.returns
 unfolding field_at
-returns c = nlt! _ (omega arith) (ap (Span c.args.at) c.until-to.ensures)
+returns c = nlt! _ (omega arith) (ap (span c.args.at) c.until-to.ensures)

@@ -2,8 +2,7 @@
 use native.Mathlib.Omega.{arith}
 use mathlib.Core.Path.{refl, ap}
 use Rattle.base_choice.proofs.Branches.{le!, nle! }
-use Rattle.text_words.specs.Words.{word_at, word_from}
-use Rattle.text_words.specs.declared.words.Word.TheVariants.{Span}
+use Rattle.text_words.specs.Words.{span, word_at, word_from}
 use Rattle.text_words.proofs.words.next_word.Goals as goal
 
 pub returns-then-s-from : goal.returns-then-s-from
@@ -12,4 +11,4 @@ returns-then-s-from c = le! _ (omega arith) refl
 
 pub returns : goal.returns
 unfolding word_at word_from
-returns c = rw (← c.past-from.ensures) (nle! _ (omega arith) (ap (Span c.past-from.result) c.until-to.ensures))
+returns c = rw (← c.past-from.ensures) (nle! _ (omega arith) (ap (span c.past-from.result) c.until-to.ensures))
