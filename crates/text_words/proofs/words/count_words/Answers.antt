@@ -13,11 +13,11 @@ pub loop-count-init : goal.loop-count-init
 loop-count-init c = (omega arith, (omega arith, omega arith))
 
 pub returns-in_default : goal.returns-in_default
-returns-in_default c = let q = sym c.in_default.is ∙ c.next_word.ensures in
+returns-in_default c = let q = sym c.in_default.is ∙ c.next_word.ensures.value in
     let e = ap length (word_none _ _ q) in omega arith
 
 pub loop-count-preserved : goal.loop-count-preserved
-loop-count-preserved c = let q = sym c.in-Some.is ∙ c.next_word.ensures in
+loop-count-preserved c = let q = sym c.in-Some.is ∙ c.next_word.ensures.value in
     let e = ap length (word_next _ _ _ _ q) in
     let i = word-inside _ _ _ _ q in
     (omega arith, (omega arith, omega arith))
