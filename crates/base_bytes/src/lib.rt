@@ -6,6 +6,10 @@ ghost use Rattle.std.specs.Prelude.{◌≡◌, ◌∷◌, []};
 ghost use Rattle.base_bytes.specs.Bytes.{byte, pair_at, four_at, part_of, same_bytes};
 ghost use Rattle.base_bytes.specs.Put.{Wrote};
 
+mod writer;
+
+pub use writer::Writer;
+
 // Bytes told by their place in a byte string: where the first stands, and how many there are.
 #[derive(Clone, Copy)]
 pub struct Part {
