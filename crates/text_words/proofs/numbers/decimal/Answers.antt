@@ -1,5 +1,5 @@
 -- `numbers::decimal` meets its contract. The loop keeps: the digits left, after the value so far, spell what the whole spells.
-use Rattle.std.proofs.Common.{rules, ◌≡◌, length}
+use Rattle.std.proofs.Common.{rules}
 use native.Mathlib.Omega.{arith}
 use mathlib.Core.Path.{sym, ap, ◌∙◌}
 use Rattle.text_words.specs.Numbers.{digits_on}

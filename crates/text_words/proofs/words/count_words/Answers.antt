@@ -1,9 +1,8 @@
 -- `words::count_words` meets its contract. The loop keeps: the words counted and those left are all. Each word has a byte,
 -- so the count stays at or before the place, and at the end of the loop nothing is left.
-use borrow.Author.Rules.{rules}
 use native.Mathlib.Omega.{arith}
 use mathlib.Core.Path.{sym, ap, ◌∙◌}
-use Prim.Native.Nat.{◌-◌, ◌≤◌}
+use Prim.Native.Nat.{◌≤◌}
 use lib.ListN.{length, drop_of_length-le}
 use Rattle.text_words.specs.Words.{words_of}
 use Rattle.text_words.proofs.WordLists.{word_next, word_none, word-inside, words-none}
