@@ -77,11 +77,8 @@ pub fn count_words(s: &[u8]) -> usize
 {
     let mut count = 0;
     let mut at = 0;
-    while count < s.len() {
-        let Some(Span { from: _, to }) = next_word(s, at) else {
-            return count;
-        };
-        at = to;
+    while let Some(word) = next_word(s, at) {
+        at = word.to;
         count += 1;
     }
     count
