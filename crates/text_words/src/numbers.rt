@@ -7,26 +7,18 @@ pub fn decimal(s: &[u8], most: u32) -> Option<u32>
     ensures value { result ≡ decimal_of most s.now }
     ensures within { IfSome result (λ n. n ≤ most) }
 {
-    if s.len() == 0 {
+    if s.is_empty() {
         return None;
     }
-    let limit = most as u64;
-    let mut i = 0;
     let mut value: u64 = 0;
-    while i < s.len() {
-        let c = s[i] as u64;
-        if c < 48 {
+    for c in s {
+        if *c < b'0' || b'9' < *c {
             return None;
         }
-        if 57 < c {
+        value = value * 10 + (*c - b'0') as u64;
+        if (most as u64) < value {
             return None;
         }
-        let next = value * 10 + (c - 48);
-        if limit < next {
-            return None;
-        }
-        value = next;
-        i += 1;
     }
     Some(value as u32)
 }

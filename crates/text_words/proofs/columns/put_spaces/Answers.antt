@@ -1,6 +1,5 @@
 -- `columns::put_spaces` meets its contract: the spaces from i on are still to write, which leaves what writing all of them leaves.
 use mathlib.Core.Path.{ap}
-use Prim.Native.Nat.{◌-◌}
 use native.Mathlib.Omega.{arith}
 use Rattle.base_bytes.proofs.PutLaws.{writing-starts, writing-as, writing-goes, writing-ends}
 use Rattle.text_words.specs.Columns.{spaces}

@@ -2,7 +2,6 @@
 use native.Mathlib.Omega.{arith}
 use native.Mathlib.Numerals.{unary_clauses}
 use mathlib.Core.Path.{refl}
-use Prim.Native.Nat.{◌-◌}
 use lib.ListN.{length-set}
 use Rattle.text_words.proofs.HexLaws.{fill-next, fill_end}
 use Rattle.base_bytes.proofs.Rest.{rest}

@@ -1,6 +1,5 @@
 -- `writing::put_hex_cut` meets its contract. The loop keeps: writing what is left, from here on, leaves what writing all leaves.
 use native.Mathlib.Omega.{arith}
-use Prim.Native.Nat.{◌-◌}
 use mathlib.Core.Path.{sym, ap}
 use Rattle.text_words.specs.Hex.{hex_text}
 use Rattle.base_bytes.proofs.Rest.{rest_all, rest-one, rest_end}
