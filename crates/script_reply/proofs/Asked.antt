@@ -3,7 +3,7 @@
 use mathlib.Core.Path.{◌≡◌, refl, ap, sym, ◌∙◌}
 use Prim.Native.Nat.{ℕ, suc}
 use mathlib.Core.List.{List, [], ◌∷◌, ◌++◌}
-use mathlib.Core.Bool.{Bool, true, false, not, cond, ◌&&◌, false≢true}
+use mathlib.Core.Bool.{Bool, true, false, cond, ◌&&◌, false≢true}
 use Rattle.base_status.specs.StatusWords.{is_done}
 use Rattle.base_status.specs.Rows.{word_of}
 use Rattle.card_isdp.proofs.Bools.{and_r}
@@ -22,7 +22,7 @@ use Rattle.script_words.specs.declared.Reason.{Reason}
 use Rattle.script_record.specs.Records.{record_at}
 use Rattle.script_line.specs.declared.Order.{Order}
 use Rattle.script_line.specs.declared.Order.TheVariants as order
-use Rattle.script_reply.specs.Replies.{spelled_bytes, bytes_in, call_spelled, record_work, record_outcome, reply_of, first_reply, fault_reply, answer_to, Reply, ordered_by, reply_by, reply_to_line, checked_line, script_of, checked_script, CheckedOnce}
+use Rattle.script_reply.specs.Replies.{spelled_bytes, bytes_in, call_spelled, record_work, record_outcome, reply_of, first_reply, fault_reply, answer_to, Reply, reply_by, reply_to_line, checked_line, script_of, checked_script, CheckedOnce}
 
 -- the flag is right: where it says that the card is sound, it is
 abbrev Right : Card → Bool → Type 0

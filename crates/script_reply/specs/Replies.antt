@@ -1,6 +1,6 @@
 -- A session with a script: what a line makes of the card, and the text that answers it. "Each call writes SW RESPONSE NOTIFICATION
 -- TICKS"; with `explain` it writes for a person instead; a line that cannot be read is named, and the run stops there.
-use Rattle.std.specs.Prelude.{ℕ, suc, ◌+◌, ◌*◌, ◌≡◌, List, [], ◌∷◌, ◌++◌, Bool, true, false, cond, ◌&&◌, Result, Ok, Err}
+use Rattle.std.specs.Prelude.{ℕ, suc, ◌+◌, ◌*◌, ◌≡◌, List, [], ◌∷◌, ◌++◌, Bool, true, false, cond, ◌&&◌, Result}
 use Rattle.text_words.specs.Hex.{spelled}
 use Rattle.base_status.specs.StatusWords.{is_done}
 use Rattle.base_status.specs.declared.Status.TheVariants.{Done}
