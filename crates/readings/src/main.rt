@@ -8,7 +8,7 @@ use base_bytes::{Part, part_of, put_byte, put_bytes};
 use read_command::{Request, Tags};
 use std::io::Read;
 use text_input::{count, fail, read_some};
-use text_words::{HexRead, put_decimal, put_hex, put_hex_16, read_hex, until};
+use text_words::{put_decimal, put_hex, put_hex_16, read_hex, until};
 
 const CAPACITY: u32 = 1000;
 
@@ -96,7 +96,7 @@ fn answer_line(rt: &HostRuntime, line: &[u8], bytes: &mut [u8], out: &mut [u8]) 
     if line[0] == b'#' {
         return;
     }
-    let HexRead::Bytes(count) = read_hex(line, bytes) else {
+    let Ok(count) = read_hex(line, bytes) else {
         let at = put_bytes(out, 0, b"no hex word");
         write_line(rt, out, at);
         return;
