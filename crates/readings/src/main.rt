@@ -9,7 +9,7 @@ use read_command::{Request, Tags};
 use std::io::Read;
 use text_input::{count, fail, read_some};
 use text_words::out::{put_decimal, put_hex, put_hex_16};
-use text_words::{HexRead, read_hex, until};
+use text_words::{read_hex, until};
 
 const CAPACITY: u32 = 1000;
 
@@ -97,7 +97,7 @@ fn answer_line(rt: &HostRuntime, line: &[u8], bytes: &mut [u8], out: &mut [u8]) 
     if line[0] == b'#' {
         return;
     }
-    let HexRead::Bytes(count) = read_hex(line, bytes) else {
+    let Ok(count) = read_hex(line, bytes) else {
         let mut line = Writer::new(out, 0);
         line.bytes(b"no hex word");
         write_line(rt, &mut line);
