@@ -99,14 +99,6 @@ impl Aid {
     {
         &self.bytes[..self.size()]
     }
-
-    // The bytes that are the AID.
-    pub fn as_bytes(&self) -> &[u8]
-        ensures { result.now ≡ bytes_of self.now }
-    {
-        let n = self.size();
-        &self.bytes[..n]
-    }
 }
 
 // Is the policy byte legal?

@@ -28,7 +28,7 @@ fn write_aid(out: &mut Writer, aid: &Aid)
     ensures { Written out.old (aid_element (bytes_of aid.now)) out.new }
 {
     out.bytes(&[0x4F, aid.size() as u8]);
-    out.bytes(aid.as_bytes());
+    out.bytes(aid.as_slice());
 }
 
 // The bytes that the elements asked for take.
