@@ -36,7 +36,7 @@ pub struct Tally {
 pub fn same_aid(a: Aid, b: Aid) -> bool
     ensures { result ≡ same_aid a b }
 {
-    same(a.as_bytes(), b.as_bytes())
+    same(a.as_slice(), b.as_slice())
 }
 
 impl Names {
