@@ -154,6 +154,13 @@ wrote_cut l at vs n k {ys} h e f p =
       content = u ∙ sym (rw (← w) at v ∙ append_assoc (take at l) (take n vs) (drop (at + n) l)) ∙ put_cut l at vs n (leb (length vs) (length l - at)) refl h e;
     }
 
+-- a text over the bytes where it goes, where all of it fits
+pub wrote_over : (l : List ℕ) (at : ℕ) (vs : List ℕ) (k : ℕ) {r : ℕ} {ys : List ℕ} → at + length vs ≤ length l → k ≡ length vs → ys ≡ vs → r ≡ at + length vs
+    → Wrote l at vs r (put_mid at k l ys)
+wrote_over l at vs k h f p e =
+    let q : length vs ≡ length vs = refl in
+    rw e (wrote_cut l at vs (length vs) k (omega arith) (omega arith) f (p ∙ sym (take_all (length vs) vs (omega arith))))
+
 -- the same text, said otherwise
 pub put_as : {l vs ws : List ℕ} (l₀ : List ℕ) (i : ℕ) → vs ≡ ws → l ≡ put l₀ i vs → l ≡ put l₀ i ws
 put_as l₀ i e p = p ∙ ap (put l₀ i) e
@@ -199,6 +206,10 @@ written_then p q = record { lent = q.lent ∙ p.lent; wrote = wrote_then p.wrote
 
 pub written_none : (w : Writer) → Written w [] w
 written_none w = record { lent = refl; wrote = wrote_none w.buf.now w.at }
+
+-- what a writer that was made for a buffer left there
+pub wrote_by : {l m xs : List ℕ} {at : ℕ} {w v : Writer} → (w.buf.now ≡ l) × (w.at ≡ at) → m ≡ v.buf.now → Written w xs v → Wrote l at xs v.at m
+wrote_by {xs} {v} e f p = rw (f, sym e.0, sym e.1) p.wrote
 
 pub written_as : {w v : Writer} {xs : List ℕ} (ys : List ℕ) → xs ≡ ys → Written w xs v → Written w ys v
 written_as ys e p = record { lent = p.lent; wrote = wrote_as ys e p.wrote }

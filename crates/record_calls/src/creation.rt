@@ -5,10 +5,9 @@ ghost use Rattle.rule_steps.specs.Asked.{Asked.create};
 ghost use Rattle.rule_steps.specs.Steps.{asked_work};
 ghost use Rattle.record_calls.specs.Into.{AnsweredInto};
 
-use base_bytes::put_byte;
+use base_bytes::Writer;
 use base_status::Status;
 use card_isdp::Isdp;
-use card_places::Found;
 use card_record::{Answer, Card};
 
 pub fn create(card: Card, aid: &[u8], quota: u32, buf: &mut [u8]) -> Answer
@@ -18,16 +17,17 @@ pub fn create(card: Card, aid: &[u8], quota: u32, buf: &mut [u8]) -> Answer
     if !phase.is_quiet() {
         return card.refused(Status::StateWrong);
     }
-    let Found::Nothing = card.place_of(aid) else {
+    let None = card.place_of(aid) else {
         return card.refused(Status::DataWrong);
     };
-    let Found::At(t) = card.free_place() else {
+    let Some(t) = card.free_place() else {
         return card.refused(Status::NoRoom);
     };
     if quota > card.free {
         return card.refused(Status::NoRoom);
     }
-    let n = put_byte(buf, 0, 0x00);
+    let mut out = Writer::new(buf, 0);
+    out.byte(0x00);
     card.filled(t, Isdp::made(aid, Isdp::SELECTABLE, quota, 0))
-        .silently(Status::Done, n)
+        .silently(Status::Done, out.at)
 }

@@ -5,10 +5,9 @@ ghost use Rattle.rule_steps.specs.Asked.{Act.delete, Act.master_delete, Asked.on
 ghost use Rattle.rule_steps.specs.Steps.{asked_work};
 ghost use Rattle.record_calls.specs.Into.{AnsweredInto};
 
-use base_bytes::put_byte;
+use base_bytes::Writer;
 use base_status::Status;
 use card_isdp::forbids_deletion;
-use card_places::Found;
 use card_record::{Answer, Card};
 
 pub fn delete(card: Card, aid: &[u8], buf: &mut [u8]) -> Answer
@@ -18,7 +17,7 @@ pub fn delete(card: Card, aid: &[u8], buf: &mut [u8]) -> Answer
     if !phase.is_quiet() {
         return card.refused(Status::StateWrong);
     }
-    let Found::At(t) = card.place_of(aid) else {
+    let Some(t) = card.place_of(aid) else {
         return card.refused(Status::NotHeld);
     };
     if !card.may_be_deleted(t) {
@@ -28,8 +27,9 @@ pub fn delete(card: Card, aid: &[u8], buf: &mut [u8]) -> Answer
     if forbids_deletion(p.policy) {
         return card.refused(Status::PolicyForbids);
     }
-    let n = put_byte(buf, 0, 0x00);
-    card.cleared(t).silently(Status::Done, n)
+    let mut out = Writer::new(buf, 0);
+    out.byte(0x00);
+    card.cleared(t).silently(Status::Done, out.at)
 }
 
 pub fn master_delete(card: Card, aid: &[u8], verdict: u8, buf: &mut [u8]) -> Answer
@@ -39,7 +39,7 @@ pub fn master_delete(card: Card, aid: &[u8], verdict: u8, buf: &mut [u8]) -> Ans
     if !phase.is_quiet() {
         return card.refused(Status::StateWrong);
     }
-    let Found::At(t) = card.place_of(aid) else {
+    let Some(t) = card.place_of(aid) else {
         return card.refused(Status::NotHeld);
     };
     if !card.may_be_master_deleted(t) {
@@ -48,6 +48,7 @@ pub fn master_delete(card: Card, aid: &[u8], verdict: u8, buf: &mut [u8]) -> Ans
     if verdict != 1 {
         return card.refused(Status::VerdictWrong);
     }
-    let n = put_byte(buf, 0, 0x00);
-    card.cleared(t).silently(Status::Done, n)
+    let mut out = Writer::new(buf, 0);
+    out.byte(0x00);
+    card.cleared(t).silently(Status::Done, out.at)
 }
