@@ -10,8 +10,13 @@ use mathlib.Core.Bool.{Bool, true, false}
 use lib.Dec.{leb}
 use borrow.Author.Tests.{leb-true, leb-false}
 use lib.ListN.{length, take, drop, set, get_or, length-append}
-use lib.Seq.{sets, length-sets, sets-eq, set_out, get_or-set_other}
-use Rattle.base_bytes.specs.Put.{put, after, Wrote}
+use lib.Seq.{sets, length-sets, sets-eq, set_out, get_or-set_other, take_all}
+use borrow.Rule.Slice.PartMut.{put_mid}
+use Rattle.std.proofs.lemmas.List.{length-take-le, take-append-drop, append_assoc}
+use Rattle.std.proofs.lemmas.Slice.{put_mid-paste}
+use Rattle.std.proofs.lemmas.List.Edits.{paste_all}
+use Rattle.base_bytes.specs.declared.writer.Writer.{Writer}
+use Rattle.base_bytes.specs.Put.{put, after, Wrote, Written}
 
 -- what it is where vs fits: the list before i, vs, and the list past vs, untouched
 pub put_is : (l : List ℕ) (i : ℕ) (vs : List ℕ) → i + length vs ≤ length l → put l i vs ≡ take i l ++ vs ++ drop (i + length vs) l
@@ -122,6 +127,40 @@ pub wrote-past : (l : List ℕ) (at : ℕ) (vs : List ℕ) → length l ≤ at �
 unfolding after
 wrote-past l at vs h = record { place = omega arith; content = sym (put-past l at vs h) }
 
+-- of a text that does not fit, the part that does is written
+put_cut : (l : List ℕ) (i : ℕ) (vs : List ℕ) (n : ℕ) (fits : Bool) → leb (length vs) (length l - i) ≡ fits → i ≤ length l → n ≡ min (length vs) (length l - i)
+    → put l i (take n vs) ≡ put l i vs
+put_cut l i vs n true t h e =
+    let k = leb-true (length vs) (length l - i) t in
+    ap (put l i) (take_all n vs (omega arith))
+put_cut l i vs n false t h e =
+    let k = leb-false (length vs) (length l - i) t in
+    let f : length (take n vs) ≡ n = length-take-le n vs (omega arith) in
+    let j : i + n ≡ after (length l) i (length (take n vs)) = rw f (sym (after-fits (length l) i n (omega arith))) in
+    sym (put-past (put l i (take n vs)) (i + n) (drop n vs) (omega (arith, length-put l i (take n vs))))
+    ∙ put-put l i (take n vs) (i + n) (drop n vs) j
+    ∙ ap (put l i) (take-append-drop n vs)
+
+-- a copy of that part over the bytes where it goes
+pub wrote_cut : (l : List ℕ) (at : ℕ) (vs : List ℕ) (n k : ℕ) {ys : List ℕ} → at ≤ length l → n ≡ min (length vs) (length l - at) → k ≡ n → ys ≡ take n vs
+    → Wrote l at vs (at + n) (put_mid at k l ys)
+unfolding after
+wrote_cut l at vs n k {ys} h e f p =
+    let w : n ≡ length (take n vs) = sym (length-take-le n vs (omega arith)) in
+    let u : put_mid at k l ys ≡ take at l ++ (take n vs ++ drop (at + n) l) = put_mid-paste at k l ys (take n vs) n p (sym f) w ∙ paste_all l at (take n vs) n w in
+    let v : put l at (take n vs) ≡ take at l ++ take n vs ++ drop (at + length (take n vs)) l = put_is l at (take n vs) (omega arith) in
+    record {
+      place = omega arith;
+      content = u ∙ sym (rw (← w) at v ∙ append_assoc (take at l) (take n vs) (drop (at + n) l)) ∙ put_cut l at vs n (leb (length vs) (length l - at)) refl h e;
+    }
+
+-- a text over the bytes where it goes, where all of it fits
+pub wrote_over : (l : List ℕ) (at : ℕ) (vs : List ℕ) (k : ℕ) {r : ℕ} {ys : List ℕ} → at + length vs ≤ length l → k ≡ length vs → ys ≡ vs → r ≡ at + length vs
+    → Wrote l at vs r (put_mid at k l ys)
+wrote_over l at vs k h f p e =
+    let q : length vs ≡ length vs = refl in
+    rw e (wrote_cut l at vs (length vs) k (omega arith) (omega arith) f (p ∙ sym (take_all (length vs) vs (omega arith))))
+
 -- the same text, said otherwise
 pub put_as : {l vs ws : List ℕ} (l₀ : List ℕ) (i : ℕ) → vs ≡ ws → l ≡ put l₀ i vs → l ≡ put l₀ i ws
 put_as l₀ i e p = p ∙ ap (put l₀ i) e
@@ -160,3 +199,13 @@ writing-goes {l₀} {vs₀} {l} {m} {xs} {at} {k} {r} vs w p =
 
 pub writing-ends : {l₀ vs₀ l : List ℕ} {at k : ℕ} → Writing l₀ at vs₀ l k [] → Wrote l₀ at vs₀ k l
 writing-ends {l₀} {vs₀} {l} {at} {k} w = record { place = sym (after_none (length l) k) ∙ w.place; content = sym (put-none l k) ∙ w.content }
+
+-- the same laws of a writer
+pub written_then : {w v u : Writer} {xs ys : List ℕ} → Written w xs v → Written v ys u → Written w (xs ++ ys) u
+written_then p q = record { lent = q.lent ∙ p.lent; wrote = wrote_then p.wrote q.wrote }
+
+pub written_none : (w : Writer) → Written w [] w
+written_none w = record { lent = refl; wrote = wrote_none w.buf.now w.at }
+
+pub written_as : {w v : Writer} {xs : List ℕ} (ys : List ℕ) → xs ≡ ys → Written w xs v → Written w ys v
+written_as ys e p = record { lent = p.lent; wrote = wrote_as ys e p.wrote }

@@ -2,6 +2,7 @@
 -- The place after it stops at the end, so that texts written one after the other are one text.
 use Rattle.std.specs.Prelude.{ℕ, ◌+◌, ◌-◌, min, ◌≡◌, List, length}
 use Rattle.std.proofs.lemmas.List.Edits.{sets}
+use Rattle.base_bytes.specs.declared.writer.Writer.{Writer}
 
 unfoldable pub put : List ℕ → ℕ → List ℕ → List ℕ
 put l at vs = sets l at vs
@@ -14,3 +15,8 @@ after size at count = at + min count (size - at)
 pub record Wrote (l : List ℕ) (at : ℕ) (vs : List ℕ) (r : ℕ) (m : List ℕ) : Type 0 where
   pub place : r ≡ after (length l) at (length vs)
   pub content : m ≡ put l at vs
+
+-- text was written by the writer w, which is v after it: into the same buffer, from its place on
+pub record Written (w : Writer) (text : List ℕ) (v : Writer) : Type 0 where
+  pub lent : v.buf.ghost_name ≡ w.buf.ghost_name
+  pub wrote : Wrote w.buf.now w.at text v.at v.buf.now

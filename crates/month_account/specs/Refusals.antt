@@ -13,16 +13,6 @@ name_text CutShort = text "event cut short"
 name_text UnknownKind = text "event of unknown kind"
 name_text WrongLength = text "event of wrong length"
 
--- the names one after the other, as the code keeps them: each is a piece of this text
-abbrev pub names : List ℕ
-names =
-    name_text ContentsWrong
-    ++ name_text SectionMissing
-    ++ name_text FreshBad
-    ++ name_text CutShort
-    ++ name_text UnknownKind
-    ++ name_text WrongLength
-
 abbrev pub meaning_text : Refusal → List ℕ
 meaning_text ContentsWrong = text "the file is too long, or its sections are not known ones that lie end to end\n"
 meaning_text SectionMissing = text "the fresh card's inputs or the events are not listed\n"
@@ -30,16 +20,6 @@ meaning_text FreshBad = text "the fresh card's inputs are under 32 bytes, or no 
 meaning_text CutShort = text "the events end within an event\n"
 meaning_text UnknownKind = text "an event is of no kind that there is\n"
 meaning_text WrongLength = text "an event has too few or too many bytes for its kind\n"
-
--- the meanings one after the other, as the code keeps them: each is a piece of this text
-abbrev pub refusal_meanings : List ℕ
-refusal_meanings =
-    meaning_text ContentsWrong
-    ++ meaning_text SectionMissing
-    ++ meaning_text FreshBad
-    ++ meaning_text CutShort
-    ++ meaning_text UnknownKind
-    ++ meaning_text WrongLength
 
 -- "A refused file has one line and nothing else"; for a person "three lines: the refusal, what it means, and that nothing was counted"
 unfoldable pub line_text : Refusal → List ℕ

@@ -35,24 +35,6 @@ meaning_of NoRoom = text "no free place, or no room in the memory or the quota"
 meaning_of More = text "done, more rows to come"
 meaning_of Done = text "done"
 
--- the meanings one after the other, as the code keeps them: each is a piece of this text
-abbrev pub meanings : List ℕ
-meanings =
-    meaning_of Unsound
-    ++ meaning_of BufferShort
-    ++ meaning_of LengthWrong
-    ++ meaning_of ClassWrong
-    ++ meaning_of InstructionWrong
-    ++ meaning_of ParametersWrong
-    ++ meaning_of DataWrong
-    ++ meaning_of StateWrong
-    ++ meaning_of NotHeld
-    ++ meaning_of PolicyForbids
-    ++ meaning_of VerdictWrong
-    ++ meaning_of NoRoom
-    ++ meaning_of More
-    ++ meaning_of Done
-
 unfoldable pub word_text : Status → List ℕ
 word_text s = hex8 (number_of s / 256) ++ text " " ++ hex8 (number_of s % 256) ++ text " " ++ meaning_of s ++ text "\n"
 
@@ -65,10 +47,6 @@ kind_text Silent = text "none"
 kind_text Changed = text "changed"
 kind_text RolledBack = text "rolled back"
 kind_text FallenBack = text "fallen back"
-
--- the kinds one after the other, as the code keeps them: each is a piece of this text
-abbrev pub kinds : List ℕ
-kinds = kind_text Silent ++ kind_text Changed ++ kind_text RolledBack ++ kind_text FallenBack
 
 -- "notification 2: rolled back, A000000001 enabled"
 unfoldable pub issued_text : Notification → List ℕ

@@ -1,8 +1,7 @@
 // An answer for a person: the word and what it means, response and notification, the profiles, the phase, an open listing, and the ticks to come.
 ghost use Rattle.std.specs.Prelude.{◌≡◌, ◌+◌, ◌*◌, ◌≤◌, length};
 ghost use Rattle.base_bytes.specs.Put.{Wrote};
-ghost use Rattle.text_words.specs.Letters.{piece_of};
-ghost use Rattle.script_answer.specs.Explained.{meaning_of, meanings, word_text, response_text, kind_text, kinds, issued_text, notice_text};
+ghost use Rattle.script_answer.specs.Explained.{meaning_of, word_text, response_text, kind_text, issued_text, notice_text};
 ghost use Rattle.script_answer.specs.Explained.{open_text, trial_text, phase_text, listing_text, explained_text, most_explained};
 
 use base_bytes::{put_byte, put_bytes};
@@ -10,48 +9,28 @@ use base_status::Status;
 use card_record::{Answer, Card, Kind, Notification, Phase};
 use script_table::put_table;
 use text_aid::put_aid;
-use text_words::{Piece, put_decimal, put_hex, put_hex_8, put_piece};
+use text_words::{put_decimal, put_hex, put_hex_8};
 
-// Where the meaning of a status word stands in the text of all meanings.
-fn meaning_piece(status: Status) -> Piece
-    ensures { piece_of meanings result ≡ meaning_of status }
+// What a status word means.
+fn meaning(status: Status) -> &'static [u8]
+    ensures { result.now ≡ meaning_of status }
 {
     match status {
-        Status::Unsound => Piece(0, 21),
-        Status::BufferShort => Piece(21, 31),
-        Status::LengthWrong => Piece(52, 36),
-        Status::ClassWrong => Piece(88, 15),
-        Status::InstructionWrong => Piece(103, 21),
-        Status::ParametersWrong => Piece(124, 14),
-        Status::DataWrong => Piece(138, 47),
-        Status::StateWrong => Piece(185, 60),
-        Status::NotHeld => Piece(245, 66),
-        Status::PolicyForbids => Piece(311, 21),
-        Status::VerdictWrong => Piece(332, 19),
-        Status::NoRoom => Piece(351, 52),
-        Status::More => Piece(403, 23),
-        Status::Done => Piece(426, 4),
+        Status::Unsound => b"the card is not sound",
+        Status::BufferShort => b"response buffer under 256 bytes",
+        Status::LengthWrong => b"command length or length shape wrong",
+        Status::ClassWrong => b"class not known",
+        Status::InstructionWrong => b"instruction not known",
+        Status::ParametersWrong => b"P1 or P2 wrong",
+        Status::DataWrong => b"data field or values wrong, or AID already held",
+        Status::StateWrong => b"a change is open, or none is, or the target's state is wrong",
+        Status::NotHeld => b"target not held, or not the outstanding number, or no listing open",
+        Status::PolicyForbids => b"the policy forbids it",
+        Status::VerdictWrong => b"token verdict not 1",
+        Status::NoRoom => b"no free place, or no room in the memory or the quota",
+        Status::More => b"done, more rows to come",
+        Status::Done => b"done",
     }
-}
-
-fn put_meaning(status: Status, buf: &mut [u8], at: usize) -> usize
-    ensures { Wrote buf.old at (meaning_of status) result buf.new }
-{
-    let all = b"the card is not sound\
-          response buffer under 256 bytes\
-          command length or length shape wrong\
-          class not known\
-          instruction not known\
-          P1 or P2 wrong\
-          data field or values wrong, or AID already held\
-          a change is open, or none is, or the target's state is wrong\
-          target not held, or not the outstanding number, or no listing open\
-          the policy forbids it\
-          token verdict not 1\
-          no free place, or no room in the memory or the quota\
-          done, more rows to come\
-          done";
-    put_piece(buf, at, all, meaning_piece(status))
 }
 
 fn put_word(status: Status, buf: &mut [u8], at: usize) -> usize
@@ -64,7 +43,7 @@ fn put_word(status: Status, buf: &mut [u8], at: usize) -> usize
     let b = put_byte(buf, a, b' ');
     let c = put_hex_8(buf, b, low);
     let d = put_byte(buf, c, b' ');
-    let e = put_meaning(status, buf, d);
+    let e = put_bytes(buf, d, meaning(status));
     put_byte(buf, e, b'\n')
 }
 
@@ -79,26 +58,15 @@ fn put_response(response: &[u8], buf: &mut [u8], at: usize) -> usize
     put_byte(buf, b, b'\n')
 }
 
-// Where the word of a kind stands in the text of all.
-fn kind_piece(kind: Kind) -> Piece
-    ensures { piece_of kinds result ≡ kind_text kind }
+fn kind_word(kind: Kind) -> &'static [u8]
+    ensures { result.now ≡ kind_text kind }
 {
     match kind {
-        Kind::Silent => Piece(0, 4),
-        Kind::Changed => Piece(4, 7),
-        Kind::RolledBack => Piece(11, 11),
-        Kind::FallenBack => Piece(22, 11),
+        Kind::Silent => b"none",
+        Kind::Changed => b"changed",
+        Kind::RolledBack => b"rolled back",
+        Kind::FallenBack => b"fallen back",
     }
-}
-
-fn put_kind(kind: Kind, buf: &mut [u8], at: usize) -> usize
-    ensures { Wrote buf.old at (kind_text kind) result buf.new }
-{
-    let all = b"none\
-          changed\
-          rolled back\
-          fallen back";
-    put_piece(buf, at, all, kind_piece(kind))
 }
 
 fn put_issued(notification: Notification, buf: &mut [u8], at: usize) -> usize
@@ -109,7 +77,7 @@ fn put_issued(notification: Notification, buf: &mut [u8], at: usize) -> usize
     let a = put_bytes(buf, at, b"notification ");
     let b = put_decimal(buf, a, notification.number as u64);
     let c = put_bytes(buf, b, b": ");
-    let d = put_kind(kind, buf, c);
+    let d = put_bytes(buf, c, kind_word(kind));
     let e = put_bytes(buf, d, b", ");
     let f = put_aid(aid, buf, e);
     put_bytes(buf, f, b" enabled\n")

@@ -16,18 +16,6 @@ reason_text BadNumber = text "bad number"
 reason_text BadPlace = text "bad place"
 reason_text BadPhase = text "bad phase"
 
--- the reasons one after the other, as the code keeps them: each is a piece of this text
-abbrev pub reasons : List ℕ
-reasons =
-    reason_text TooLong
-    ++ reason_text UnknownWord
-    ++ reason_text WordsMissing
-    ++ reason_text TooManyWords
-    ++ reason_text BadHex
-    ++ reason_text BadNumber
-    ++ reason_text BadPlace
-    ++ reason_text BadPhase
-
 unfoldable pub reason_line : ℕ → Reason → List ℕ
 reason_line n reason = text "line " ++ decimal_text n ++ text ": " ++ reason_text reason ++ text "\n"
 

@@ -1,5 +1,5 @@
 -- `refusals::write_refusal`: the line alone, or the line, what it means and the last line.
-use Rattle.base_bytes.proofs.PutLaws.{wrote_then}
+use Rattle.base_bytes.proofs.PutLaws.{wrote_as, wrote_then}
 use Rattle.base_choice.specs.Choice.{pick}
 use Rattle.month_account.specs.Refusals.{refusal_text}
 use Rattle.month_account.proofs.Lengths.{refusal-length}
@@ -13,5 +13,5 @@ returns-then-not-explain c = let a = c.args in
 pub returns : goal.returns
 unfolding refusal_text pick
 returns c = let a = c.args in
-    let written = wrote_then (wrote_then c.put_line-a.ensures c.put_meaning-b.ensures) c.put_bytes.ensures in
+    let written = wrote_then (wrote_then c.put_line-a.ensures (wrote_as _ c.meaning.ensures c.put_bytes-b.ensures)) c.put_bytes.ensures in
     (rw c.if-not-explain.false written, refusal-length a.explain a.refusal)

@@ -10,4 +10,4 @@ pub returns : goal.returns
 unfolding word_text
 returns c = wrote_then (wrote_then (wrote_then (wrote_then (wrote_then (wrote_as _ (ap (λ (n : ℕ). hex8 (n / 256)) c.number-n.ensures)
     c.put_hex_8-a.ensures) c.put_byte-b.ensures) (wrote_as _ (ap (λ (n : ℕ). hex8 (n % 256)) c.number-n.ensures)
-    c.put_hex_8-c.ensures)) c.put_byte-d.ensures) c.put_meaning-e.ensures) c.put_byte.ensures
+    c.put_hex_8-c.ensures)) c.put_byte-d.ensures) (wrote_as _ c.meaning.ensures c.put_bytes-e.ensures)) c.put_byte.ensures
