@@ -1,10 +1,11 @@
 // Decimal numbers, read from digits.
-ghost use Rattle.std.specs.Prelude.{◌≡◌};
+ghost use Rattle.std.specs.Prelude.{◌≡◌, ◌≤◌, IfSome};
 ghost use Rattle.text_words.specs.Numbers.{decimal_of};
 
 // The number that a text of digits spells, at least one digit, where it is at most `most`. Zeros may stand in front.
 pub fn decimal(s: &[u8], most: u32) -> Option<u32>
-    ensures { result ≡ decimal_of most s.now }
+    ensures value { result ≡ decimal_of most s.now }
+    ensures within { IfSome result (λ n. n ≤ most) }
 {
     if s.is_empty() {
         return None;

@@ -1,5 +1,5 @@
 // Words of a line, parted by spaces, and fields of a word, parted by one byte.
-ghost use Rattle.std.specs.Prelude.{◌≡◌, ◌==◌, ◌≤◌, ◌+◌, not, length, drop, take_while};
+ghost use Rattle.std.specs.Prelude.{◌≡◌, ◌==◌, ◌≤◌, ◌<◌, ◌+◌, not, length, drop, take_while, IfSome};
 ghost use Rattle.text_words.specs.Words.{before, leading, word_at, field_at, words_of};
 
 // What stands from a place on: nothing past the end.
@@ -50,7 +50,8 @@ pub struct Span {
 
 // The next word from a place on.
 pub fn next_word(s: &[u8], at: usize) -> Option<Span>
-    ensures { result ≡ word_at s.now at }
+    ensures value { result ≡ word_at s.now at }
+    ensures inside { IfSome result (λ w. (w.from < w.to) × (w.to ≤ length s.now)) }
 {
     let from = past(s, at, b' ');
     if s.len() <= from {
@@ -62,7 +63,8 @@ pub fn next_word(s: &[u8], at: usize) -> Option<Span>
 
 // The field that starts at a place and ends before the next `by`. The field after it starts one past its end.
 pub fn next_field(s: &[u8], at: usize, by: u8) -> Option<Span>
-    ensures { result ≡ field_at by s.now at }
+    ensures value { result ≡ field_at by s.now at }
+    ensures inside { IfSome result (λ w. (w.from ≤ w.to) × (w.to ≤ length s.now)) }
 {
     if s.len() < at {
         return None;

@@ -8,25 +8,25 @@ use Rattle.base_bytes.proofs.Rest.{rest_all}
 use Rattle.text_words.proofs.numbers.decimal.Goals.{then-c-lt48-via-then-c-lt48, then-c-lt48-via-else-c-lt48+then-c-gt57}
 use Rattle.text_words.proofs.numbers.decimal.Goals as goal
 
-pub returns-then-is_empty : goal.returns-then-is_empty
-returns-then-is_empty c = decimal-none _ _ (search rules)
+pub returns-then-is_empty-clause-value : goal.returns-then-is_empty-clause-value
+returns-then-is_empty-clause-value c = decimal-none _ _ (search rules)
 
 pub loop-c-init : goal.loop-c-init
 loop-c-init c = (omega arith, ap (digits_on _ 0) (rest_all _) ∙ sym (decimal-some _ _ (search rules)))
 
-pub returns-then-c-lt48 : goal.returns-then-c-lt48
-returns-then-c-lt48 c =
+pub returns-then-c-lt48-clause-value : goal.returns-then-c-lt48-clause-value
+returns-then-c-lt48-clause-value c =
     let l = c.loop-c in
     elim c.then-c-lt48.branch [
       | then-c-lt48-via-then-c-lt48 w ↦ digits_low _ _ _ _ _ l.invariant.1 (omega arith) (omega arith)
       | then-c-lt48-via-else-c-lt48+then-c-gt57 w ↦ digits-high _ _ _ _ _ l.invariant.1 (omega arith) (omega arith) (omega arith)
     ]
 
-pub returns-then-most-value : goal.returns-then-most-value
-returns-then-most-value c = digits-much _ _ _ _ _ c.loop-c.invariant.1 (omega arith) (omega arith) (omega arith) (omega arith)
+pub returns-then-most-value-clause-value : goal.returns-then-most-value-clause-value
+returns-then-most-value-clause-value c = digits-much _ _ _ _ _ c.loop-c.invariant.1 (omega arith) (omega arith) (omega arith) (omega arith)
 
 pub loop-c-preserved : goal.loop-c-preserved
 loop-c-preserved c = (omega arith, digits-next _ _ _ _ _ c.loop-c.invariant.1 (omega arith) (omega arith) (omega arith) (omega arith))
 
-pub returns : goal.returns
-returns c = digits-end _ _ _ _ _ c.loop-c.invariant.1 (omega arith)
+pub returns-clause-value : goal.returns-clause-value
+returns-clause-value c = digits-end _ _ _ _ _ c.loop-c.invariant.1 (omega arith)
