@@ -16,14 +16,13 @@ use Rattle.text_lines.specs.Lines.{longest}
 use Rattle.base_bytes.specs.Bytes.{between}
 use Rattle.base_bytes.specs.declared.Part.{Part}
 use Rattle.record_door.specs.declared.Call.TheVariants as call
-use Rattle.script_words.specs.Arguments.{most32, most8, on_some, on_ok, on_bytes, on_value, bytes_at, value_at}
+use Rattle.script_words.specs.Arguments.{most32, most8, on_some, on_ok, on_next, bytes_at, value_at}
 use Rattle.script_line.specs.Orders.{hash, verb_of, most_buffer, count_ok, words_counted, inner, value_or, sent_at, record_words, order_by, order_of}
 use Rattle.script_line.specs.Orders.{fresh_with, fresh_at, command_at, keyed_at, stored_at, finished_at, policy_line_at}
 use Rattle.script_line.specs.Fits.{Fits, OrderFits, OrdersFit}
 use Rattle.script_words.specs.declared.Reason.{Reason}
 use Rattle.script_words.specs.declared.Reason.TheVariants.{WordsMissing, UnknownWord, BadHex}
-use Rattle.script_words.specs.declared.Bytes.{Bytes}
-use Rattle.script_words.specs.declared.Value.{Value}
+use Rattle.script_words.specs.declared.Read.{Read}
 use Rattle.script_line.specs.declared.Verb.{Verb}
 use Rattle.script_line.specs.declared.Verb.TheVariants as verb
 use Rattle.script_line.specs.declared.Sent.{Sent}
@@ -32,8 +31,8 @@ use Rattle.script_line.specs.declared.Order.TheVariants as order
 use Rattle.script_words.proofs.Within.{value, value-within}
 
 -- the number that was read
-abbrev number : Result Value Reason → ℕ
-number r = on_value r (λ why. 0) (λ n k. n)
+abbrev number : Result (Read ℕ) Reason → ℕ
+number r = on_next r (λ why. 0) (λ n k. n)
 
 -- what is read fits, whatever reason there may be
 abbrev LineFits : List ℕ → Result Order Reason → Type 0
@@ -57,29 +56,29 @@ module _ (s : List ℕ) (l : length s ≤ longest) where
   -- what is made of a word has a property where every reason has it, and every value that can be read
   module _ {X : Type 0} (P : X → Type 0) {wrong : Reason → X} (refused : (why : Reason) → P (wrong why)) where
     span-as : (at a e : ℕ) → (at ≤ a) × ((a < e) × (e ≤ length s)) → (f : Part → ℕ → X) → ((p : Part) (k : ℕ) → Stands at p k → P (f p k))
-        → P (on_bytes (pick (is_hex (part s a e)) (Ok (record { part = between a e; next = e })) (Err BadHex)) wrong f)
+        → P (on_next (pick (is_hex (part s a e)) (Ok (record { value = between a e; next = e })) (Err BadHex)) wrong f)
     span-as at a e h f g =
-        each (λ (b : Result Bytes Reason). P (on_bytes b wrong f)) (is_hex (part s a e))
+        each (λ (b : Result (Read Part) Reason). P (on_next b wrong f)) (is_hex (part s a e))
         (λ t. g (between a e) e (record { some = omega arith; inside = omega arith; short = omega arith; hex = t }, (omega arith, omega arith)))
         (λ t. refused BadHex)
 
     word-as : (at : ℕ) (w : Option Span) → ((a e : ℕ) → span a e ≡ w → (at ≤ a) × ((a < e) × (e ≤ length s))) → (f : Part → ℕ → X) → ((p : Part) (k : ℕ) → Stands at p k → P (f p k))
-        → P (on_bytes (on_word w (Err WordsMissing) λ a e. pick (is_hex (part s a e)) (Ok (record { part = between a e; next = e })) (Err BadHex)) wrong f)
+        → P (on_next (on_word w (Err WordsMissing) λ a e. pick (is_hex (part s a e)) (Ok (record { value = between a e; next = e })) (Err BadHex)) wrong f)
     word-as at None i f g = refused WordsMissing
     word-as at (Some w) i f g = span-as at w.from w.to (i w.from w.to refl) f g
 
-    bytes-as : (at : ℕ) (f : Part → ℕ → X) → ((p : Part) (k : ℕ) → Stands at p k → P (f p k)) → P (on_bytes (bytes_at s at) wrong f)
+    bytes-as : (at : ℕ) (f : Part → ℕ → X) → ((p : Part) (k : ℕ) → Stands at p k → P (f p k)) → P (on_next (bytes_at s at) wrong f)
     unfolding bytes_at
     bytes-as at f g = word-as at (word_at s at) (word-inside s at) f g
 
-    value_as : (v : Result Value Reason) (f : ℕ → ℕ → X) → ((n k : ℕ) → value n k ≡ v → P (f n k)) → P (on_value v wrong f)
+    value_as : (v : Result (Read ℕ) Reason) (f : ℕ → ℕ → X) → ((n k : ℕ) → value n k ≡ v → P (f n k)) → P (on_next v wrong f)
     value_as (Err why) f g = refused why
-    value_as (Ok v) f g = g v.n v.next refl
+    value_as (Ok v) f g = g v.value v.next refl
 
-  by_bytes : (at : ℕ) (f : Part → ℕ → Result Order Reason) → ((p : Part) (k : ℕ) → Stands at p k → LineFits s (f p k)) → LineFits s (on_bytes (bytes_at s at) Err f)
+  by_bytes : (at : ℕ) (f : Part → ℕ → Result Order Reason) → ((p : Part) (k : ℕ) → Stands at p k → LineFits s (f p k)) → LineFits s (on_next (bytes_at s at) Err f)
   by_bytes = bytes-as (LineFits s) (λ why. tt)
 
-  by_value : (v : Result Value Reason) (f : ℕ → ℕ → Result Order Reason) → ((n k : ℕ) → value n k ≡ v → LineFits s (f n k)) → LineFits s (on_value v Err f)
+  by_value : (v : Result (Read ℕ) Reason) (f : ℕ → ℕ → Result Order Reason) → ((n k : ℕ) → value n k ≡ v → LineFits s (f n k)) → LineFits s (on_next v Err f)
   by_value = value_as (LineFits s) (λ why. tt)
 
   by-sent : (at : ℕ) (f : Sent → Result Order Reason)

@@ -11,10 +11,10 @@ use Rattle.rule_run.specs.Table.{least_buffer}
 use Rattle.record_door.specs.declared.Call.{Call}
 use Rattle.record_door.specs.declared.Call.TheVariants as call
 use Rattle.script_words.specs.Ascii.{ascii}
-use Rattle.script_words.specs.Arguments.{most32, most8, on_some, on_ok, on_bytes, on_value, bytes_at, value_at}
+use Rattle.script_words.specs.Arguments.{most32, most8, on_some, on_ok, on_next, bytes_at, value_at}
 use Rattle.script_words.specs.declared.Reason.{Reason}
 use Rattle.script_words.specs.declared.Reason.TheVariants.{TooLong, UnknownWord, WordsMissing, TooManyWords}
-use Rattle.script_words.specs.declared.Value.{Value}
+use Rattle.script_words.specs.declared.Read.{Read}
 use Rattle.script_line.specs.declared.Verb.{Verb}
 use Rattle.script_line.specs.declared.Verb.TheVariants as verb
 use Rattle.script_line.specs.declared.Sent.{Sent}
@@ -62,20 +62,20 @@ words_counted least most n o = on_ok (count_ok least most n) Err λ counted. o
 -- CAPACITY QUOTA USED VOLATILE
 unfoldable pub fresh_with : List ℕ → ℕ → Part → Part → Result Order Reason
 fresh_with s at eid aid =
-    on_value (value_at most32 s at) Err λ capacity b.
-    on_value (value_at most32 s b) Err λ quota c.
-    on_value (value_at most32 s c) Err λ used d.
-    on_value (value_at most32 s d) Err λ volatile e. Ok (order.Fresh eid aid capacity quota used volatile)
+    on_next (value_at most32 s at) Err λ capacity b.
+    on_next (value_at most32 s b) Err λ quota c.
+    on_next (value_at most32 s c) Err λ used d.
+    on_next (value_at most32 s d) Err λ volatile e. Ok (order.Fresh eid aid capacity quota used volatile)
 
 -- EID AID CAPACITY QUOTA USED VOLATILE
 unfoldable pub fresh_at : List ℕ → ℕ → Result Order Reason
 fresh_at s at =
-    on_bytes (bytes_at s at) Err λ eid b.
-    on_bytes (bytes_at s b) Err λ aid c. fresh_with s c eid aid
+    on_next (bytes_at s at) Err λ eid b.
+    on_next (bytes_at s b) Err λ aid c. fresh_with s c eid aid
 
 -- the last word, a number up to `most`, which may be missing and then counts as `missing`
-unfoldable pub value_or : ℕ → ℕ → List ℕ → ℕ → Result Value Reason
-value_or missing most s at = on_word (word_at s at) (Ok (record { n = missing; next = at })) λ a e. value_at most s at
+unfoldable pub value_or : ℕ → ℕ → List ℕ → ℕ → Result (Read ℕ) Reason
+value_or missing most s at = on_word (word_at s at) (Ok (record { value = missing; next = at })) λ a e. value_at most s at
 
 -- the largest response buffer that a line may ask for
 abbrev pub most_buffer : ℕ
@@ -84,19 +84,19 @@ most_buffer = 1024
 -- HEX, or HEX LENGTH: a command, and "a response buffer of 256 bytes, or of LENGTH", 0 to 1,024 (decision B25)
 unfoldable pub sent_at : List ℕ → ℕ → Result Sent Reason
 sent_at s at =
-    on_bytes (bytes_at s at) Err λ bytes b.
-    on_value (value_or least_buffer most_buffer s b) Err λ room e. Ok (record { bytes = bytes; room = room })
+    on_next (bytes_at s at) Err λ bytes b.
+    on_next (value_or least_buffer most_buffer s b) Err λ room e. Ok (record { bytes = bytes; room = room })
 
 -- VERDICT HEX, or VERDICT HEX LENGTH
 unfoldable pub command_at : List ℕ → ℕ → Result Order Reason
 command_at s at =
-    on_value (value_at most8 s at) Err λ verdict b.
+    on_next (value_at most8 s at) Err λ verdict b.
     on_ok (sent_at s b) Err λ sent. Ok (order.Call (call.Command verdict sent.bytes) sent.room)
 
 -- SPEAKER HEX, or SPEAKER HEX LENGTH: the AID of the profile whose domain speaks, and the command that this domain was sent (decision B85)
 unfoldable pub policy_line_at : List ℕ → ℕ → Result Order Reason
 policy_line_at s at =
-    on_bytes (bytes_at s at) Err λ speaker b.
+    on_next (bytes_at s at) Err λ speaker b.
     on_ok (sent_at s b) Err λ sent. Ok (order.Call (call.PolicyUpdate speaker sent.bytes) sent.room)
 
 -- a call that has no response lends no buffer
@@ -105,20 +105,20 @@ inner x = order.Call x 0
 
 -- AID
 unfoldable pub keyed_at : List ℕ → ℕ → Result Order Reason
-keyed_at s at = on_bytes (bytes_at s at) Err λ aid b. Ok (inner (call.Keyed aid))
+keyed_at s at = on_next (bytes_at s at) Err λ aid b. Ok (inner (call.Keyed aid))
 
 -- AID N
 unfoldable pub stored_at : List ℕ → ℕ → Result Order Reason
 stored_at s at =
-    on_bytes (bytes_at s at) Err λ aid b.
-    on_value (value_at most32 s b) Err λ n e. Ok (inner (call.Stored aid n))
+    on_next (bytes_at s at) Err λ aid b.
+    on_next (value_at most32 s b) Err λ n e. Ok (inner (call.Stored aid n))
 
 -- AID POLICY, or AID POLICY MARK: where MARK is missing the profile counts as marked (decision B59)
 unfoldable pub finished_at : List ℕ → ℕ → Result Order Reason
 finished_at s at =
-    on_bytes (bytes_at s at) Err λ aid b.
-    on_value (value_at most8 s b) Err λ policy c.
-    on_value (value_or 1 most8 s c) Err λ mark e. Ok (inner (call.Finished aid policy mark))
+    on_next (bytes_at s at) Err λ aid b.
+    on_next (value_at most8 s b) Err λ policy c.
+    on_next (value_or 1 most8 s c) Err λ mark e. Ok (inner (call.Finished aid policy mark))
 
 -- `card` EID CAPACITY VOLATILE FREE LAST FALLBACK PHASE KEPT, and a word for each place (decisions B68, B76)
 abbrev pub record_words : ℕ

@@ -7,7 +7,7 @@ ghost use Rattle.script_line.specs.Orders.{verb_of, count_ok, inner, value_or, s
 use base_bytes::{Part, same};
 use card_record::Card;
 use record_door::{Call, LEAST_BUFFER};
-use script_words::{Bytes, MOST_NUMBER, Reason, Value, next_bytes, next_value};
+use script_words::{MOST_NUMBER, Read, Reason, next_bytes, next_value};
 use text_lines::LONGEST;
 use text_words::{Span, count_words, next_word};
 
@@ -112,10 +112,10 @@ fn fresh_with(s: &[u8], at: usize, eid: Part, aid: Part) -> Result<Order, Reason
     Ok(Order::Fresh {
         eid,
         aid,
-        capacity: capacity.n,
-        quota: quota.n,
-        used: used.n,
-        volatile: volatile.n,
+        capacity: capacity.value,
+        quota: quota.value,
+        used: used.value,
+        volatile: volatile.value,
     })
 }
 
@@ -125,18 +125,18 @@ fn fresh_order(s: &[u8], at: usize) -> Result<Order, Reason>
 {
     let eid = next_bytes(s, at)?;
     let aid = next_bytes(s, eid.next)?;
-    fresh_with(s, aid.next, eid.part, aid.part)
+    fresh_with(s, aid.next, eid.value, aid.value)
 }
 
 // The last word, a number, which may be missing and then counts as `missing`.
 #[tactic(auto, unfolding(crate::specs::Orders::value_or))]
-fn next_or(missing: u32, most: u32, s: &[u8], at: usize) -> Result<Value, Reason>
+fn next_or(missing: u32, most: u32, s: &[u8], at: usize) -> Result<Read<u32>, Reason>
     ensures value { result ≡ value_or missing most s.now at }
-    ensures within { missing ≤ most → IfOk result (λ v. v.n ≤ most) }
+    ensures within { missing ≤ most → IfOk result (λ v. v.value ≤ most) }
 {
     if next_word(s, at).is_none() {
-        return Ok(Value {
-            n: missing,
+        return Ok(Read {
+            value: missing,
             next: at,
         });
     }
@@ -154,11 +154,11 @@ pub struct Sent {
 fn next_sent(s: &[u8], at: usize) -> Result<Sent, Reason>
     ensures { result ≡ sent_at s.now at }
 {
-    let Bytes { part, next } = next_bytes(s, at)?;
-    let length = next_or(LEAST_BUFFER as u32, MOST_ROOM as u32, s, next)?;
+    let bytes = next_bytes(s, at)?;
+    let length = next_or(LEAST_BUFFER as u32, MOST_ROOM as u32, s, bytes.next)?;
     Ok(Sent {
-        bytes: part,
-        room: length.n as usize,
+        bytes: bytes.value,
+        room: length.value as usize,
     })
 }
 
@@ -166,10 +166,12 @@ fn next_sent(s: &[u8], at: usize) -> Result<Sent, Reason>
 fn command_order(s: &[u8], at: usize) -> Result<Order, Reason>
     ensures { result ≡ command_at s.now at }
 {
-    let Value { n, next } = next_value(s, at, 255)?;
-    let Sent { bytes, room } = next_sent(s, next)?;
-    let verdict = n as u8;
-    let call = Call::Command { verdict, bytes };
+    let verdict = next_value(s, at, 255)?;
+    let Sent { bytes, room } = next_sent(s, verdict.next)?;
+    let call = Call::Command {
+        verdict: verdict.value as u8,
+        bytes,
+    };
     Ok(Order::Call { call, room })
 }
 
@@ -180,7 +182,7 @@ fn policy_order(s: &[u8], at: usize) -> Result<Order, Reason>
     let speaker = next_bytes(s, at)?;
     let Sent { bytes, room } = next_sent(s, speaker.next)?;
     let call = Call::PolicyUpdate {
-        speaker: speaker.part,
+        speaker: speaker.value,
         bytes,
     };
     Ok(Order::Call { call, room })
@@ -198,7 +200,7 @@ fn keyed_order(s: &[u8], at: usize) -> Result<Order, Reason>
     ensures { result ≡ keyed_at s.now at }
 {
     let aid = next_bytes(s, at)?;
-    Ok(inner(Call::Keyed(aid.part)))
+    Ok(inner(Call::Keyed(aid.value)))
 }
 
 #[tactic(auto, unfolding(crate::specs::Orders::stored_at))]
@@ -208,8 +210,8 @@ fn stored_order(s: &[u8], at: usize) -> Result<Order, Reason>
     let aid = next_bytes(s, at)?;
     let used = next_value(s, aid.next, MOST_NUMBER)?;
     Ok(inner(Call::Stored {
-        aid: aid.part,
-        n: used.n,
+        aid: aid.value,
+        n: used.value,
     }))
 }
 
@@ -221,9 +223,9 @@ fn finished_order(s: &[u8], at: usize) -> Result<Order, Reason>
     let policy = next_value(s, aid.next, 255)?;
     let mark = next_or(1, 255, s, policy.next)?;
     Ok(inner(Call::Finished {
-        aid: aid.part,
-        policy: policy.n as u8,
-        mark: mark.n as u8,
+        aid: aid.value,
+        policy: policy.value as u8,
+        mark: mark.value as u8,
     }))
 }
 

@@ -21,7 +21,7 @@ bad-place : (n : ℕ) (s : List ℕ) (at : ℕ) (why : Reason) (l : List Isdp) �
 unfolding places_on
 bad-place n s at why l q = rw (← q) refl
 
-good-place : (n : ℕ) (s : List ℕ) (at : ℕ) (p : Isdp) (e : ℕ) (l : List Isdp) → Ok (record { place = p; next = e }) ≡ place_at s at
+good-place : (n : ℕ) (s : List ℕ) (at : ℕ) (p : Isdp) (e : ℕ) (l : List Isdp) → Ok (record { value = p; next = e }) ≡ place_at s at
     → places_on n s e (l ++ (p ∷ [])) ≡ places_on (suc n) s at l
 unfolding places_on
 good-place n s at p e l q = rw (← q) refl
@@ -43,7 +43,7 @@ module _ (s : List ℕ) (at i : ℕ) (ps : List Isdp) (o : Result (List Isdp) Re
   pub places-bad : (why : Reason) → i < most_places → Err why ≡ place_at s at → Err why ≡ o
   places-bad why h q = bad-place _ s at why _ q ∙ sym (one_left s at i (take i ps) h) ∙ inv
 
-  pub places-next : (p : Isdp) (e : ℕ) → i < most_places → length ps ≡ most_places → Ok (record { place = p; next = e }) ≡ place_at s at
+  pub places-next : (p : Isdp) (e : ℕ) → i < most_places → length ps ≡ most_places → Ok (record { value = p; next = e }) ≡ place_at s at
       → places_on (most_places - (i + 1)) s e (take (i + 1) (set ps i p)) ≡ o
   places-next p e h m q =
       let k : i < length ps = omega arith in

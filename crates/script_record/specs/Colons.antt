@@ -17,7 +17,7 @@ use Rattle.card_record.specs.declared.Phase.{Phase}
 use Rattle.card_record.specs.declared.Phase.TheVariants.{Quiet, Trial, Back, Fallen}
 use Rattle.script_words.specs.Ascii.{ascii}
 use Rattle.script_words.specs.Arguments.{most32, most16, most8, on_some}
-use Rattle.script_record.specs.declared.colons.Field.{Field}
+use Rattle.script_words.specs.declared.Read.{Read}
 use Rattle.script_record.specs.declared.colons.Open.{Open}
 use Rattle.script_record.specs.declared.colons.Sizes.{Sizes}
 
@@ -25,9 +25,9 @@ use Rattle.script_record.specs.declared.colons.Sizes.{Sizes}
 abbrev pub colon : ℕ
 colon = 58
 
-abbrev pub on_field {ℓ} : {X : Type ℓ} → Option Field → X → (ℕ → ℕ → X) → X
+abbrev pub on_field {ℓ} : {X : Type ℓ} → Option (Read ℕ) → X → (ℕ → ℕ → X) → X
 on_field None x f = x
-on_field (Some v) x f = f v.n v.next
+on_field (Some v) x f = f v.value v.next
 
 abbrev pub on_open {ℓ} : {X : Type ℓ} → Option Open → X → (ℕ → ℕ → X) → X
 on_open None x f = x
@@ -43,10 +43,10 @@ on_read (Ok n) x f = f n
 on_read (Err why) x f = x
 
 -- the next field is a number, and this is the place of the field after it
-unfoldable pub number_field : ℕ → List ℕ → ℕ → Option Field
+unfoldable pub number_field : ℕ → List ℕ → ℕ → Option (Read ℕ)
 number_field most w at =
     on_word (field_at colon w at) None λ a e.
-    on_some (decimal_of most (part w a e)) None λ n. Some (record { n = n; next = e + 1 })
+    on_some (decimal_of most (part w a e)) None λ n. Some (record { value = n; next = e + 1 })
 
 -- LEFT:NUMBER
 unfoldable pub open_fields : List ℕ → ℕ → Option Open

@@ -5,24 +5,21 @@ ghost use Rattle.script_record.specs.Colons.{number_field, open_fields, trial_fi
 use base_bytes::same;
 use card_isdp::{Aid, Isdp};
 use card_record::Phase;
-use script_words::MOST_NUMBER;
+use script_words::{MOST_NUMBER, Read};
 use text_words::{Span, decimal, hex_byte, next_field, read_hex};
 
-// A number, and the place of the field after it.
-#[derive(Clone, Copy)]
-pub struct Field {
-    pub n: u32,
-    pub next: usize,
-}
-
+// The number of a field, and the place of the field after it.
 #[tactic(auto, unfolding(crate::specs::Colons::number_field))]
-fn next_number(w: &[u8], at: usize, most: u32) -> Option<Field>
+fn next_number(w: &[u8], at: usize, most: u32) -> Option<Read<u32>>
     ensures value { result ≡ number_field most w.now at }
-    ensures within { IfSome result (λ f. f.n ≤ most) }
+    ensures within { IfSome result (λ f. f.value ≤ most) }
 {
     let Span { from, to } = next_field(w, at, b':')?;
-    let n = decimal(&w[from..to], most)?;
-    Some(Field { n, next: to + 1 })
+    let value = decimal(&w[from..to], most)?;
+    Some(Read {
+        value,
+        next: to + 1,
+    })
 }
 
 // What an open change has left, and its number.
@@ -43,8 +40,8 @@ fn open_at(w: &[u8], at: usize) -> Option<Open>
         return None;
     }
     Some(Open {
-        left: left.n as u8,
-        number: number.n as u16,
+        left: left.value as u8,
+        number: number.value as u16,
     })
 }
 
@@ -56,7 +53,7 @@ fn trial_at(w: &[u8], at: usize) -> Option<Phase>
     let previous = next_number(w, at, 255)?;
     let Open { left, number } = open_at(w, previous.next)?;
     Some(Phase::Trial {
-        previous: previous.n as u8,
+        previous: previous.value as u8,
         left,
         number,
     })
@@ -105,10 +102,10 @@ fn sizes_at(w: &[u8], at: usize) -> Option<Sizes>
         return None;
     }
     Some(Sizes {
-        quota: quota.n,
-        used: used.n,
-        policy: policy.n as u8,
-        mark: mark.n as u8,
+        quota: quota.value,
+        used: used.value,
+        policy: policy.value as u8,
+        mark: mark.value as u8,
     })
 }
 

@@ -13,23 +13,16 @@ use base_bytes::same;
 use card_isdp::Isdp;
 use card_record::{Card, Phase};
 use colons::{read_phase, read_place};
-use script_words::{MOST_NUMBER, Reason, Value, next_value};
+use script_words::{MOST_NUMBER, Read, Reason, next_value};
 use text_words::{Span, decimal, next_word, read_hex};
 
-// The phase, and the place after it.
-#[derive(Clone, Copy)]
-pub struct PhaseRead {
-    pub phase: Phase,
-    pub next: usize,
-}
-
 #[tactic(auto, unfolding(crate::specs::Records::phase_at))]
-fn next_phase(s: &[u8], at: usize) -> Result<PhaseRead, Reason>
+fn next_phase(s: &[u8], at: usize) -> Result<Read<Phase>, Reason>
     ensures { result ≡ phase_at s.now at }
 {
     let Span { from, to } = next_word(s, at).ok_or(Reason::WordsMissing)?;
-    let phase = read_phase(&s[from..to]).ok_or(Reason::BadPhase)?;
-    Ok(PhaseRead { phase, next: to })
+    let value = read_phase(&s[from..to]).ok_or(Reason::BadPhase)?;
+    Ok(Read { value, next: to })
 }
 
 // KEPT: no number spells `Card::NO_PLACE`.
@@ -45,61 +38,63 @@ fn kept_in(w: &[u8]) -> Option<u32>
 }
 
 #[tactic(auto, unfolding(crate::specs::Records::kept_at))]
-fn next_kept(s: &[u8], at: usize) -> Result<Value, Reason>
+fn next_kept(s: &[u8], at: usize) -> Result<Read<u32>, Reason>
     ensures value { result ≡ kept_at s.now at }
-    ensures within { IfOk result (λ v. v.n ≤ no_place) }
+    ensures within { IfOk result (λ v. v.value ≤ no_place) }
 {
     let Span { from, to } = next_word(s, at).ok_or(Reason::WordsMissing)?;
-    let n = kept_in(&s[from..to]).ok_or(Reason::BadNumber)?;
-    Ok(Value { n, next: to })
+    let value = kept_in(&s[from..to]).ok_or(Reason::BadNumber)?;
+    Ok(Read { value, next: to })
 }
 
-// The change and the listing that are open, and the place after them.
+// The change and the listing that are open.
 #[derive(Clone, Copy)]
 pub struct Pending {
     pub phase: Phase,
     pub kept: u8,
-    pub next: usize,
 }
 
 #[tactic(auto, unfolding(crate::specs::Records::pending_at))]
-fn pending_at(s: &[u8], at: usize) -> Result<Pending, Reason>
+fn pending_at(s: &[u8], at: usize) -> Result<Read<Pending>, Reason>
     ensures { result ≡ pending_at s.now at }
 {
-    let PhaseRead { phase, next } = next_phase(s, at)?;
-    let kept = next_kept(s, next)?;
-    Ok(Pending {
-        phase,
-        kept: kept.n as u8,
+    let phase = next_phase(s, at)?;
+    let kept = next_kept(s, phase.next)?;
+    Ok(Read {
+        value: Pending {
+            phase: phase.value,
+            kept: kept.value as u8,
+        },
         next: kept.next,
     })
 }
 
-// The figures of the card's memory, which stand after the EID, and the place after them.
+// The figures of the card's memory, which stand after the EID.
 #[derive(Clone, Copy)]
 pub struct Memory {
     pub capacity: u32,
     pub volatile: u32,
     pub free: u32,
-    pub next: usize,
 }
 
 #[tactic(auto, unfolding(crate::specs::Records::record_memory_at))]
-fn record_memory_at(s: &[u8], at: usize) -> Result<Memory, Reason>
+fn record_memory_at(s: &[u8], at: usize) -> Result<Read<Memory>, Reason>
     ensures { result ≡ record_memory_at s.now at }
 {
     let capacity = next_value(s, at, MOST_NUMBER)?;
     let volatile = next_value(s, capacity.next, MOST_NUMBER)?;
     let free = next_value(s, volatile.next, MOST_NUMBER)?;
-    Ok(Memory {
-        capacity: capacity.n,
-        volatile: volatile.n,
-        free: free.n,
+    Ok(Read {
+        value: Memory {
+            capacity: capacity.value,
+            volatile: volatile.value,
+            free: free.value,
+        },
         next: free.next,
     })
 }
 
-// What stands between the EID and the places, and where these begin.
+// What stands between the EID and the places.
 #[derive(Clone, Copy)]
 pub struct Head {
     pub memory: Memory,
@@ -109,35 +104,31 @@ pub struct Head {
 }
 
 #[tactic(auto, unfolding(crate::specs::Records::record_head_at))]
-fn record_head_at(s: &[u8], at: usize) -> Result<Head, Reason>
+fn record_head_at(s: &[u8], at: usize) -> Result<Read<Head>, Reason>
     ensures { result ≡ record_head_at s.now at }
 {
     let memory = record_memory_at(s, at)?;
     let last = next_value(s, memory.next, 65535)?;
     let fallback = next_value(s, last.next, 255)?;
     let pending = pending_at(s, fallback.next)?;
-    Ok(Head {
-        memory,
-        last: last.n as u16,
-        fallback: fallback.n as u8,
-        pending,
+    Ok(Read {
+        value: Head {
+            memory: memory.value,
+            last: last.value as u16,
+            fallback: fallback.value as u8,
+            pending: pending.value,
+        },
+        next: pending.next,
     })
 }
 
-// A place, and the place in the line after it.
-#[derive(Clone, Copy)]
-pub struct PlaceRead {
-    pub place: Isdp,
-    pub next: usize,
-}
-
 #[tactic(auto, unfolding(crate::specs::Records::place_at))]
-fn next_place(s: &[u8], at: usize) -> Result<PlaceRead, Reason>
+fn next_place(s: &[u8], at: usize) -> Result<Read<Isdp>, Reason>
     ensures { result ≡ place_at s.now at }
 {
     let Span { from, to } = next_word(s, at).ok_or(Reason::WordsMissing)?;
-    let place = read_place(&s[from..to]).ok_or(Reason::BadPlace)?;
-    Ok(PlaceRead { place, next: to })
+    let value = read_place(&s[from..to]).ok_or(Reason::BadPlace)?;
+    Ok(Read { value, next: to })
 }
 
 fn read_places(s: &[u8], start: usize) -> Result<[Isdp; Card::PLACES], Reason>
@@ -146,9 +137,9 @@ fn read_places(s: &[u8], start: usize) -> Result<[Isdp; Card::PLACES], Reason>
     let mut places = [Isdp::none(); Card::PLACES];
     let mut at = start;
     for i in 0..Card::PLACES {
-        let PlaceRead { place, next } = next_place(s, at)?;
-        places[i] = place;
-        at = next;
+        let place = next_place(s, at)?;
+        places[i] = place.value;
+        at = place.next;
     }
     Ok(places)
 }
@@ -158,22 +149,17 @@ fn read_places(s: &[u8], start: usize) -> Result<[Isdp; Card::PLACES], Reason>
 fn record_with(s: &[u8], at: usize, eid: [u8; 16]) -> Result<Card, Reason>
     ensures { result ≡ record_with s.now at eid }
 {
-    let Head {
-        memory,
-        last,
-        fallback,
-        pending,
-    } = record_head_at(s, at)?;
-    let places = read_places(s, pending.next)?;
+    let Read { value: head, next } = record_head_at(s, at)?;
+    let places = read_places(s, next)?;
     Ok(Card::with(
         eid,
-        memory.capacity,
-        memory.volatile,
-        memory.free,
-        last,
-        fallback,
-        pending.phase,
-        pending.kept,
+        head.memory.capacity,
+        head.memory.volatile,
+        head.memory.free,
+        head.last,
+        head.fallback,
+        head.pending.phase,
+        head.pending.kept,
         places,
     ))
 }

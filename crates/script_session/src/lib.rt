@@ -74,12 +74,13 @@ fn lay_update(s: &[u8], speaker: Part, bytes: Part, out: &mut [u8]) -> Call
     ensures { LaidOut out.old s.now (PolicyUpdate speaker bytes) result out.new }
 {
     let first = spell(s, speaker, out);
-    let m = first.len;
-    let second = spell(s, bytes, &mut out[m..]);
-    let n = second.len;
+    let second = spell(s, bytes, &mut out[first.len..]);
     Call::PolicyUpdate {
         speaker: first,
-        bytes: Part { start: m, len: n },
+        bytes: Part {
+            start: first.len,
+            len: second.len,
+        },
     }
 }
 
@@ -162,13 +163,10 @@ fn write_text(explain: bool, answer: Answer, response: &[u8], out: &mut [u8], at
 fn first_reply(explain: bool, answer: Answer, out: &mut [u8], at: usize) -> Turn
     ensures { (result.card ≡ answer.card) × ((result.sound ≡ is_done answer.status) × ((result.goes ≡ true) × (Wrote out.old at (answer_text explain answer []) result.filled out.new × (length (answer_text explain answer []) ≤ most_text)))) }
 {
-    let status = answer.status;
-    let none = [0u8; 1];
-    let filled = write_text(explain, answer, &none[..0], out, at);
-    let card = answer.card;
+    let filled = write_text(explain, answer, &[], out, at);
     Turn {
-        card,
-        sound: status.is_done(),
+        card: answer.card,
+        sound: answer.status.is_done(),
         filled,
         goes: true,
     }
@@ -198,17 +196,20 @@ fn call_reply(
     requires { ((length (bytes_in s.now call) ≤ most_bytes) × (room ≤ most_buffer)) × ((length bytes.old ≡ most_bytes) × (length response.old ≡ most_buffer)) }
     ensures { Replied out.old turn.filled (reply_of explain turn.sound (bytes_in s.now call) (answer_to turn.sound turn.card (call_spelled s.now room call))) result out.new × Used bytes.old response.old (reply_of explain turn.sound (bytes_in s.now call) (answer_to turn.sound turn.card (call_spelled s.now room call))) bytes.new response.new }
 {
-    let card = turn.card;
     let laid = lay(s, call, bytes);
-    let answer = answer_to(turn.sound, card, laid, bytes, &mut response[..room]);
-    let length = answer.length;
-    let filled = write_text(explain, answer, &response[..length], out, turn.filled);
-    let after = answer.card;
+    let answer = answer_to(turn.sound, turn.card, laid, bytes, &mut response[..room]);
+    let filled = write_text(
+        explain,
+        answer,
+        &response[..answer.length],
+        out,
+        turn.filled,
+    );
     Turn {
-        card: after,
-        sound: turn.sound,
+        card: answer.card,
         filled,
         goes: true,
+        ..turn
     }
 }
 
@@ -216,19 +217,18 @@ fn call_reply(
 fn stopped(turn: Turn, filled: usize) -> Turn
     ensures { result ≡ record { card = turn.card; sound = turn.sound; filled = filled; goes = false } }
 {
-    let mut after = turn;
-    after.filled = filled;
-    after.goes = false;
-    after
+    Turn {
+        filled,
+        goes: false,
+        ..turn
+    }
 }
 
 // A line that asks nothing.
 fn passed_over(turn: Turn) -> Turn
     ensures { result ≡ record { card = turn.card; sound = turn.sound; filled = turn.filled; goes = true } }
 {
-    let mut after = turn;
-    after.goes = true;
-    after
+    Turn { goes: true, ..turn }
 }
 
 // A line whose words from `at` on are those of a record.

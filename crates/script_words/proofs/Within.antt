@@ -8,17 +8,17 @@ use Rattle.text_words.specs.Numbers.{decimal_of}
 use Rattle.text_words.specs.declared.words.Span.{Span}
 use Rattle.std.specs.Prelude.{Option, Some, None, Result, Ok, Err}
 use Rattle.text_words.proofs.NumberLaws.{decimal-within}
-use Rattle.script_words.specs.Arguments.{on_some, on_value, value_at}
+use Rattle.script_words.specs.Arguments.{on_some, on_next, value_at}
 use Rattle.script_words.specs.declared.Reason.TheVariants as reason
-use Rattle.script_words.specs.declared.Value.{Value}
+use Rattle.script_words.specs.declared.Read.{Read}
 use Rattle.script_words.specs.declared.Reason.{Reason}
 
 -- a number that was read, and the place after it
-abbrev pub value : ℕ → ℕ → Result Value Reason
-value n next = Ok (record { n = n; next = next })
+abbrev pub value : ℕ → ℕ → Result (Read ℕ) Reason
+value n next = Ok (record { value = n; next = next })
 
-abbrev of : Result Value Reason → ℕ
-of r = on_value r (λ why. 0) (λ n k. n)
+abbrev of : Result (Read ℕ) Reason → ℕ
+of r = on_next r (λ why. 0) (λ n k. n)
 
 word-within : (most e n k : ℕ) (d : Option ℕ) → ((m : ℕ) → Some m ≡ d → m ≤ most)
     → value n k ≡ on_some d (Err reason.BadNumber) (λ m. value m e)

@@ -9,8 +9,7 @@ use Rattle.base_bytes.specs.Bytes.{between}
 use Rattle.base_bytes.specs.declared.Part.{Part}
 use Rattle.script_words.specs.declared.Reason.{Reason}
 use Rattle.script_words.specs.declared.Reason.TheVariants.{WordsMissing, BadHex, BadNumber}
-use Rattle.script_words.specs.declared.Bytes.{Bytes}
-use Rattle.script_words.specs.declared.Value.{Value}
+use Rattle.script_words.specs.declared.Read.{Read}
 
 -- the most that a number of 32, 16 and 8 bits can be (decision B25)
 abbrev pub most32 : ℕ
@@ -32,22 +31,19 @@ abbrev pub on_ok {ℓ} : {A : Type 0} {X : Type ℓ} → Result A Reason → (Re
 on_ok (Err why) g f = g why
 on_ok (Ok a) g f = f a
 
-abbrev pub on_bytes {ℓ} : {X : Type ℓ} → Result Bytes Reason → (Reason → X) → (Part → ℕ → X) → X
-on_bytes (Err why) g f = g why
-on_bytes (Ok b) g f = f b.part b.next
-
-abbrev pub on_value {ℓ} : {X : Type ℓ} → Result Value Reason → (Reason → X) → (ℕ → ℕ → X) → X
-on_value (Err why) g f = g why
-on_value (Ok v) g f = f v.n v.next
+-- the same of a value and the place after it
+abbrev pub on_next {ℓ} : {A : Type 0} {X : Type ℓ} → Result (Read A) Reason → (Reason → X) → (A → ℕ → X) → X
+on_next (Err why) g f = g why
+on_next (Ok r) g f = f r.value r.next
 
 -- the next word is a byte string, and this is the place after it
-unfoldable pub bytes_at : List ℕ → ℕ → Result Bytes Reason
+unfoldable pub bytes_at : List ℕ → ℕ → Result (Read Part) Reason
 bytes_at s at =
     on_word (word_at s at) (Err WordsMissing) λ a e.
-    pick (is_hex (part s a e)) (Ok (record { part = between a e; next = e })) (Err BadHex)
+    pick (is_hex (part s a e)) (Ok (record { value = between a e; next = e })) (Err BadHex)
 
 -- the next word is a number, and this is the place after it
-unfoldable pub value_at : ℕ → List ℕ → ℕ → Result Value Reason
+unfoldable pub value_at : ℕ → List ℕ → ℕ → Result (Read ℕ) Reason
 value_at most s at =
     on_word (word_at s at) (Err WordsMissing) λ a e.
-    on_some (decimal_of most (part s a e)) (Err BadNumber) λ n. Ok (record { n = n; next = e })
+    on_some (decimal_of most (part s a e)) (Err BadNumber) λ n. Ok (record { value = n; next = e })

@@ -24,41 +24,35 @@ pub enum Reason {
 // The most that a number of a line can be.
 pub const MOST_NUMBER: u32 = 4294967295;
 
-// A byte string, by the part of the line that spells it; `next` is the place after it.
+// What was read of a line, and the place after it.
 #[derive(Clone, Copy)]
-pub struct Bytes {
-    pub part: Part,
+pub struct Read<T> {
+    pub value: T,
     pub next: usize,
 }
 
-// A number; `next` is the place after it.
-#[derive(Clone, Copy)]
-pub struct Value {
-    pub n: u32,
-    pub next: usize,
-}
-
+// A byte string, by the part of the line that spells it.
 #[tactic(auto, unfolding(crate::specs::Arguments::bytes_at, base_choice::specs::Choice::pick))]
-pub fn next_bytes(s: &[u8], at: usize) -> Result<Bytes, Reason>
+pub fn next_bytes(s: &[u8], at: usize) -> Result<Read<Part>, Reason>
     ensures { result ≡ bytes_at s.now at }
 {
     let Span { from, to } = next_word(s, at).ok_or(Reason::WordsMissing)?;
     if !is_hex(&s[from..to]) {
         return Err(Reason::BadHex);
     }
-    let part = Part {
+    let value = Part {
         start: from,
         len: to - from,
     };
-    Ok(Bytes { part, next: to })
+    Ok(Read { value, next: to })
 }
 
 #[tactic(auto, unfolding(crate::specs::Arguments::value_at))]
-pub fn next_value(s: &[u8], at: usize, most: u32) -> Result<Value, Reason>
+pub fn next_value(s: &[u8], at: usize, most: u32) -> Result<Read<u32>, Reason>
     ensures value { result ≡ value_at most s.now at }
-    ensures within { IfOk result (λ v. v.n ≤ most) }
+    ensures within { IfOk result (λ v. v.value ≤ most) }
 {
     let Span { from, to } = next_word(s, at).ok_or(Reason::WordsMissing)?;
-    let n = decimal(&s[from..to], most).ok_or(Reason::BadNumber)?;
-    Ok(Value { n, next: to })
+    let value = decimal(&s[from..to], most).ok_or(Reason::BadNumber)?;
+    Ok(Read { value, next: to })
 }
