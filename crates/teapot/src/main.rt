@@ -4,7 +4,8 @@
 // What a line means and what is written of it is proved below, in `script_session`; here only bytes are moved.
 #![tactic(auto)]
 
-ghost use Rattle.std.specs.Prelude.{◌≡◌, ◌≤◌};
+ghost use Rattle.std.specs.Prelude.{◌≡◌, ◌+◌, ◌≤◌};
+ghost use Rattle.script_reply.specs.Replies.{most_text};
 
 use base_bytes::same;
 use script_line::MOST_ROOM;
@@ -14,7 +15,7 @@ use text_input::{Arrival, Input, fail, fill, open, put_out};
 use text_lines::{Found, LONGEST, Window};
 
 // The bytes collected before they are written out, and the room that is kept for the answer of one line: no answer is longer, which
-// `Session::answer` needs (decision B30).
+// `make_room` promises (decision B30).
 const OUT: usize = 32768;
 
 const ANSWER: usize = 16384;
@@ -50,6 +51,7 @@ impl Session {
         }
     }
 
+    // What is collected is written out; none of it is left to write.
     fn write_out(&mut self, rt: &HostRuntime)
         requires { self.old.turn.filled ≤ 32768 }
         ensures { self.new.turn.filled ≡ 0 }
@@ -57,14 +59,22 @@ impl Session {
         self.turn.filled = put_out(rt, &self.out[..self.turn.filled]);
     }
 
-    // A line is counted and answered, where the longest answer has room after what is still to be written.
-    fn answer(&mut self, rt: &HostRuntime, options: Options, line: &[u8])
+    // The same where the room for one more answer is short: after it the longest answer has room.
+    fn make_room(&mut self, rt: &HostRuntime)
         requires { self.old.turn.filled ≤ 32768 }
-        ensures { self.new.turn.filled ≤ 32768 }
+        ensures { self.new.turn.filled + most_text ≤ 32768 }
     {
         if OUT - ANSWER < self.turn.filled {
             self.write_out(rt);
         }
+    }
+
+    // A line is counted and answered.
+    fn answer(&mut self, rt: &HostRuntime, options: Options, line: &[u8])
+        requires { self.old.turn.filled ≤ 32768 }
+        ensures { self.new.turn.filled ≤ 32768 }
+    {
+        self.make_room(rt);
         self.number = self.number.saturating_add(1);
         self.turn.sound = self.turn.sound & !options.ask;
         self.turn = take_line(
