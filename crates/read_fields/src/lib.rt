@@ -11,9 +11,10 @@ ghost use Rattle.read_fields.specs.Delete.{verification_at, deletion_at};
 ghost use Rattle.read_fields.specs.GetStatus.{tag_noted, listed_at, tags_at, listing_at};
 
 use base_bytes::read_pair;
+pub use card_isdp::Tags;
 use read_elements::Reader;
 use read_tlv::read_tag;
-pub use request::{Request, Tags};
+pub use request::Request;
 
 // A DGI that fills the window: its number, and where its contents start.
 #[derive(Clone, Copy)]
