@@ -1,22 +1,20 @@
 -- What a command is answered is the word of the rows: a refusal exactly where a row's condition holds, by the first such row, and a request
 -- exactly where none does. By the laws of framing on rows and on a reader's answers, over the requests of the root domain.
 use Prim.Native.Nat.{ℕ}
-use mathlib.Core.Path.{◌≡◌, refl, sym}
+use mathlib.Core.Path.{◌≡◌}
 use mathlib.Core.List.{List, ◌++◌}
-use mathlib.Core.Bool.{true, false, false≢true}
-use native.Mathlib.Omega.{arith}
-use Rattle.std.specs.Prelude.{Some, None, Ok, Err}
+use mathlib.Core.Bool.{false}
+use Rattle.std.specs.Prelude.{Some, Ok, Err}
 use Rattle.base_status.specs.StatusWords.{is_done}
 use Rattle.base_status.specs.Rows.{Row, word_of}
 use Rattle.base_status.specs.declared.Status.{Status}
 use Rattle.base_status.specs.declared.Status.TheVariants as status
 use Rattle.read_fields.specs.declared.request.Request.{Request}
-use Rattle.read_fields.specs.Found.{Field}
 use Rattle.read_frame.specs.Framing.{length_wrong, class_wrong, instruction_wrong, parameters_wrong, shape_wrong}
 use Rattle.read_frame.proofs.Rows as rows
 use Rattle.read_frame.proofs.Answers as answers
-use Rattle.read_command.specs.Requests.{field_of, data_wrong, is_field_wrong}
-use Rattle.read_command.specs.Reading.{reading_rows, request_read, read_of, Reading}
+use Rattle.read_command.specs.Requests.{field_of, data_wrong}
+use Rattle.read_command.specs.Reading.{reading_rows, request_read, read_of}
 
 -- no row's condition holds
 abbrev pub Passes : List ℕ → ℕ → Type 0

@@ -9,7 +9,7 @@ use Rattle.base_status.specs.StatusWords.{is_done}
 use Rattle.base_status.specs.Rows.{word_of}
 use Rattle.base_status.specs.declared.Status.{Status}
 use Rattle.base_status.specs.declared.Status.TheVariants as status
-use Rattle.read_frame.specs.Rows.{rows_by}
+use Rattle.read_frame.specs.Rows.{rows_by, word_read}
 use Rattle.read_frame.proofs.Rows.{Passes, passes-done, done-passes}
 
 -- a data field is found to hold a value or is wrong, and the answer is the value read or the word of the refusal
@@ -40,6 +40,12 @@ module _ {A : Type 0} where
     refused-case : (b : Bool) (v : Status) → (b ≡ true → is_none f ≡ false) → Err v ≡ cond b (ok_or f status.DataWrong) (Err w) → (v ≡ w) × (b ≡ false)
     refused-case true v h q = let r = given f (h refl) in absurd (apart r.0 v (r.1 ∙ sym q))
     refused-case false v h q = (worded v w q, refl)
+
+  word-case : (f : Option A) (w : Status) (b : Bool) → (b ≡ true → (is_none f ≡ false) × (w ≡ status.Done))
+      → word_read (cond b (ok_or f status.DataWrong) (Err w)) ≡ w
+  word-case f w false h = refl
+  word-case (Some v) w true h = sym (h refl).1
+  word-case None w true h = absurd (false≢true (sym (h refl).0))
 
 -- the rows of a command with what its data field was found to hold
 module _ {A : Type 0} (length class instruction parameters shape : Bool) (f : Option A) where
@@ -77,3 +83,7 @@ module _ {A : Type 0} (length class instruction parameters shape : Bool) (f : Op
 
   pub passes-answer : Pass → ok_or f status.DataWrong ≡ answer
   passes-answer p = rw (passed-done p) refl
+
+  -- the word that the answer gives is that of the rows
+  pub rows-word : word_read answer ≡ word
+  rows-word = word-case f word (is_done word) (λ e. let p = done-passed e in (p.data_right, passed-done p))

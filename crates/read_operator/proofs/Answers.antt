@@ -1,11 +1,10 @@
 -- What a policy update is answered is the word of its rows: a refusal exactly where a row's condition holds, by the first such row, and a policy
 -- exactly where none does. By the laws of framing on rows and on a reader's answers, over the policies of an operator.
 use Prim.Native.Nat.{ℕ}
-use mathlib.Core.Path.{◌≡◌, refl, sym}
+use mathlib.Core.Path.{◌≡◌}
 use mathlib.Core.List.{List, ◌++◌}
-use mathlib.Core.Bool.{Bool, true, false, false≢true}
-use native.Mathlib.Omega.{arith}
-use Rattle.std.specs.Prelude.{Some, None, Ok, Err}
+use mathlib.Core.Bool.{Bool, true, false}
+use Rattle.std.specs.Prelude.{Some, Ok, Err}
 use Rattle.base_status.specs.StatusWords.{is_done}
 use Rattle.base_status.specs.Rows.{Row, word_of}
 use Rattle.base_status.specs.declared.Status.{Status}
@@ -14,8 +13,8 @@ use Rattle.read_frame.specs.Framing.{length_wrong, class_wrong, parameters_wrong
 use Rattle.read_frame.specs.Rows.{rows_by}
 use Rattle.read_frame.proofs.Rows as rows
 use Rattle.read_frame.proofs.Answers as answers
-use Rattle.read_operator.specs.Field.{policy_of, is_policy_wrong, Policy}
-use Rattle.read_operator.specs.Reading.{not_store_data, policy_wrong, update_rows, update_read, update_of, Update}
+use Rattle.read_operator.specs.Field.{policy_of}
+use Rattle.read_operator.specs.Reading.{not_store_data, policy_wrong, update_rows, update_read, update_of}
 
 -- no row's condition holds
 abbrev pub Passes : List ℕ → Type 0
