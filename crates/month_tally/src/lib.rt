@@ -32,7 +32,7 @@ pub struct Tally {
     pub refused: u32,
 }
 
-// Have the two AIDs the same length and the same bytes?
+// Have the two AIDs the same length and the same bytes? A derived equality would ask the bytes after them too (`SameAids`).
 pub fn same_aid(a: Aid, b: Aid) -> bool
     ensures { result ≡ same_aid a b }
 {
