@@ -2,3 +2,4 @@
 pub mod Pieces
 pub mod Lengths
 pub mod Columns
+pub mod Writing
