@@ -154,6 +154,13 @@ wrote_cut l at vs n k {ys} h e f p =
       content = u ∙ sym (rw (← w) at v ∙ append_assoc (take at l) (take n vs) (drop (at + n) l)) ∙ put_cut l at vs n (leb (length vs) (length l - at)) refl h e;
     }
 
+-- a text over the bytes where it goes, where all of it fits
+pub wrote_over : (l : List ℕ) (at : ℕ) (vs : List ℕ) (k : ℕ) {r : ℕ} {ys : List ℕ} → at + length vs ≤ length l → k ≡ length vs → ys ≡ vs → r ≡ at + length vs
+    → Wrote l at vs r (put_mid at k l ys)
+wrote_over l at vs k h f p e =
+    let q : length vs ≡ length vs = refl in
+    rw e (wrote_cut l at vs (length vs) k (omega arith) (omega arith) f (p ∙ sym (take_all (length vs) vs (omega arith))))
+
 -- the same text, said otherwise
 pub put_as : {l vs ws : List ℕ} (l₀ : List ℕ) (i : ℕ) → vs ≡ ws → l ≡ put l₀ i vs → l ≡ put l₀ i ws
 put_as l₀ i e p = p ∙ ap (put l₀ i) e

@@ -86,27 +86,19 @@ pub fn same(a: &[u8], b: &[u8]) -> bool
     true
 }
 
-// One byte, written from a place on. What does not fit is dropped; the answer is the place after what was written, so that one
-// writer goes on where another ended, and a text that reaches the buffer's end stays there.
+// A byte, or a byte string, written from a place on; the answer is the place after it. A `Writer` does the same and keeps the place.
 pub fn put_byte(buf: &mut [u8], at: usize, byte: u8) -> usize
     ensures { Wrote buf.old at (byte ∷ []) result buf.new }
 {
-    if at < buf.len() {
-        buf[at] = byte;
-        return at + 1;
-    }
-    at
+    let mut out = Writer::new(buf, at);
+    out.byte(byte);
+    out.at
 }
 
-// The same for a byte string as it stands.
 pub fn put_bytes(buf: &mut [u8], at: usize, text: &[u8]) -> usize
     ensures { Wrote buf.old at text.now result buf.new }
 {
-    let mut i = 0;
-    let mut k = at;
-    while i < text.len() {
-        k = put_byte(buf, k, text[i]);
-        i += 1;
-    }
-    k
+    let mut out = Writer::new(buf, at);
+    out.bytes(text);
+    out.at
 }

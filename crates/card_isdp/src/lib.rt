@@ -96,6 +96,14 @@ impl Aid {
         }
         n
     }
+
+    // The bytes that are the AID.
+    pub fn as_bytes(&self) -> &[u8]
+        ensures { result.now ≡ bytes_of self.now }
+    {
+        let n = self.size();
+        &self.bytes[..n]
+    }
 }
 
 // Is the policy byte legal?

@@ -13,8 +13,7 @@ use Rattle.card_isdp.specs.Place.{vacant, held, is_for}
 use Rattle.card_isdp.specs.declared.Isdp.{Isdp}
 use Rattle.card_isdp.proofs.Bools.{and_l}
 use Rattle.card_places.specs.Places.{at, seek, found_of, any_of, count_of}
-use Rattle.card_places.specs.declared.Found.{Found}
-use Rattle.card_places.specs.declared.Found.TheVariants.{At, Nothing}
+use Rattle.std.specs.Prelude.{Option, Some, None}
 
 seek-case : (t : Isdp → Bool) (p : Isdp) (ps : List Isdp) (b : Bool) → t p ≡ b → t vacant ≡ false → t (at ps (seek t ps)) ≡ any_of t ps → t (at (p ∷ ps) (cond b 0 (suc (seek t ps)))) ≡ (b || any_of t ps)
 seek-case t p ps true e n r = e
@@ -49,18 +48,18 @@ pub enabled-at : (l : List Isdp) → count_of is_enabled l ≡ 1 → is_enabled 
 enabled-at l h = seek-at is_enabled refl l ∙ count-any is_enabled l (omega arith)
 
 -- the code's answer, taken apart
-hit-case : (n e : ℕ) (b : Bool) → ltb n most_places ≡ b → ◌≡◌ {A = Found} (cond b (At n) Nothing) (At e) → (n ≡ e) × (n < most_places)
+hit-case : (n e : ℕ) (b : Bool) → ltb n most_places ≡ b → ◌≡◌ {A = Option ℕ} (cond b (Some n) None) (Some e) → (n ≡ e) × (n < most_places)
 hit-case n e true q r = let h : n ≡ e = cc in (h, ltb-true n most_places q)
 hit-case n e false q r = let z : ◌≡◌ {A = ℕ} 0 1 = cc in absurd (omega arith)
 
-pub found-hit : (n e : ℕ) → found_of n ≡ At e → (n ≡ e) × (n < most_places)
+pub found-hit : (n e : ℕ) → found_of n ≡ Some e → (n ≡ e) × (n < most_places)
 found-hit n e r = hit-case n e (ltb n most_places) refl r
 
-miss-case : (n : ℕ) (b : Bool) → ltb n most_places ≡ b → ◌≡◌ {A = Found} (cond b (At n) Nothing) Nothing → most_places ≤ n
+miss-case : (n : ℕ) (b : Bool) → ltb n most_places ≡ b → ◌≡◌ {A = Option ℕ} (cond b (Some n) None) None → most_places ≤ n
 miss-case n true q r = let z : ◌≡◌ {A = ℕ} 0 1 = cc in absurd (omega arith)
 miss-case n false q r = ltb-false n most_places q
 
-pub found-miss : (n : ℕ) → found_of n ≡ Nothing → most_places ≤ n
+pub found-miss : (n : ℕ) → found_of n ≡ None → most_places ≤ n
 found-miss n r = miss-case n (ltb n most_places) refl r
 
 -- past the last place there is none
@@ -77,7 +76,7 @@ seek-most t [] = omega arith
 seek-most t (p ∷ ps) = most-case (t p) (seek t ps) (length ps) (seek-most t ps)
 
 -- the code's search for an AID, and the row "target AID not held"
-pub held_none : (l : List Isdp) (aid : List ℕ) → length l ≡ most_places → found_of (seek (is_for aid) l) ≡ Nothing → held (at l (seek (is_for aid) l)) ≡ false
+pub held_none : (l : List Isdp) (aid : List ℕ) → length l ≡ most_places → found_of (seek (is_for aid) l) ≡ None → held (at l (seek (is_for aid) l)) ≡ false
 held_none l aid n e =
     let m = found-miss (seek (is_for aid) l) e in
     rw (past l (seek (is_for aid) l) (omega arith))
@@ -86,7 +85,7 @@ pub bears : (aid : List ℕ) (p : Isdp) → is_for aid p ≡ true → held p ≡
 unfolding is_for
 bears aid p e = and_l (held p) _ e
 
-pub held-some : (l : List Isdp) (aid : List ℕ) (t : ℕ) → length l ≡ most_places → found_of (seek (is_for aid) l) ≡ At t → (seek (is_for aid) l ≡ t) × (held (at l (seek (is_for aid) l)) ≡ true)
+pub held-some : (l : List Isdp) (aid : List ℕ) (t : ℕ) → length l ≡ most_places → found_of (seek (is_for aid) l) ≡ Some t → (seek (is_for aid) l ≡ t) × (held (at l (seek (is_for aid) l)) ≡ true)
 held-some l aid t n e =
     let m = found-hit (seek (is_for aid) l) t e in
     (m.0, bears aid (at l (seek (is_for aid) l)) (seek-below (is_for aid) l (let k = m.1 in omega arith)))

@@ -10,8 +10,8 @@ use borrow.Author.Tests.{lt-ltb}
 use Rattle.card_isdp.specs.Sizes.{most_places}
 use Rattle.card_isdp.specs.Place.{clash}
 use Rattle.card_isdp.specs.declared.Isdp.{Isdp}
+use Rattle.std.specs.Prelude.{Some, None}
 use Rattle.card_places.specs.Places.{seek, found_of, quotas, all_of, any_of, count_of, distinct}
-use Rattle.card_places.specs.declared.Found.TheVariants.{At, Nothing}
 
 -- one turn of a search, as the loop's invariant has it, and its ends
 module _ (t : Isdp → Bool) (l : List Isdp) (d : Isdp) (i : ℕ) (h : i < length l) where
@@ -28,10 +28,10 @@ unfolding seek
 seek-end t l i h = rw (drop_of_length-le l h)
 
 -- the answer of a search that has come to i
-pub found_at : (n i : ℕ) → n ≡ i → i < most_places → At i ≡ found_of n
+pub found_at : (n i : ℕ) → n ≡ i → i < most_places → Some i ≡ found_of n
 found_at n i e h = rw (e, lt-ltb i most_places h)
 
-pub found_none : (n : ℕ) → n ≡ most_places → Nothing ≡ found_of n
+pub found_none : (n : ℕ) → n ≡ most_places → None ≡ found_of n
 found_none n e = rw e
 
 -- one turn of the sum of quotas, and its end
@@ -43,15 +43,11 @@ pub quotas-end : (l : List Isdp) (i : ℕ) → length l ≤ i → quotas (drop i
 unfolding quotas
 quotas-end l i h = rw (drop_of_length-le l h)
 
--- one turn of a test of every place, of some place, of a count, and their ends
+-- one turn of a test of every place, of a count, and their ends
 module _ (t : Isdp → Bool) (l : List Isdp) (d : Isdp) (i : ℕ) (h : i < length l) where
   pub all-step : all_of t (drop i l) ≡ (t (get_or l i d) && all_of t (drop (i + 1) l))
   unfolding all_of
   all-step = rw (drop-cons l i d, add-one)
-
-  pub any_step : any_of t (drop i l) ≡ (t (get_or l i d) || any_of t (drop (i + 1) l))
-  unfolding any_of
-  any_step = rw (drop-cons l i d, add-one)
 
   pub count-step : count_of t (drop i l) ≡ cond (t (get_or l i d)) 1 0 + count_of t (drop (i + 1) l)
   unfolding count_of
@@ -61,10 +57,6 @@ module _ (t : Isdp → Bool) (l : List Isdp) (i : ℕ) (h : length l ≤ i) wher
   pub all_end : all_of t (drop i l) ≡ true
   unfolding all_of
   all_end = rw (drop_of_length-le l h)
-
-  pub any-end : any_of t (drop i l) ≡ false
-  unfolding any_of
-  any-end = rw (drop_of_length-le l h)
 
   pub count-end : count_of t (drop i l) ≡ 0
   unfolding count_of

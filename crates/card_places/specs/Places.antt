@@ -1,12 +1,11 @@
 -- Document 01, 'The card' and 'Steps': the places of a card. A search is the number of the first place that passes a test.
 -- All is said over a list of any length; how many places a card has is said in 'Sizes' alone.
-use Rattle.std.specs.Prelude.{ℕ, zero, suc, ◌+◌, ◌-◌, List, [], ◌∷◌, Bool, true, false, not, cond, ◌&&◌, ◌||◌, get_or, ltb}
+use Rattle.std.specs.Prelude.{ℕ, zero, suc, ◌+◌, ◌-◌, List, [], ◌∷◌, Bool, true, not, cond, ◌&&◌, Option, Some, None, get_or, ltb}
+use Rattle.std.specs.List.{list_all, list_any}
 use Rattle.card_isdp.specs.Sizes.{most_places}
 use Rattle.card_isdp.specs.LifeCycle.{enabled, with_life, off}
 use Rattle.card_isdp.specs.Place.{vacant, held, clash}
 use Rattle.card_isdp.specs.declared.Isdp.{Isdp}
-use Rattle.card_places.specs.declared.Found.{Found}
-use Rattle.card_places.specs.declared.Found.TheVariants.{At, Nothing}
 
 -- the place at a number; past the last one there is a place that is not held (decisions 60, B7)
 abbrev pub at : List Isdp → ℕ → Isdp
@@ -18,8 +17,8 @@ seek t [] = 0
 seek t (p ∷ ps) = cond (t p) 0 (suc (seek t ps))
 
 -- the same, as the code answers it (decision B6)
-abbrev pub found_of : ℕ → Found
-found_of i = cond (ltb i most_places) (At i) Nothing
+abbrev pub found_of : ℕ → Option ℕ
+found_of i = cond (ltb i most_places) (Some i) None
 
 abbrev pub is_free : Isdp → Bool
 is_free p = not (held p)
@@ -35,12 +34,10 @@ free_of capacity l = capacity - quotas l
 
 -- every place passes the test; some does; how many do
 unfoldable pub all_of : (Isdp → Bool) → List Isdp → Bool
-all_of t [] = true
-all_of t (p ∷ ps) = t p && all_of t ps
+all_of t l = list_all t l
 
 unfoldable pub any_of : (Isdp → Bool) → List Isdp → Bool
-any_of t [] = false
-any_of t (p ∷ ps) = t p || any_of t ps
+any_of t l = list_any t l
 
 unfoldable pub count_of : (Isdp → Bool) → List Isdp → ℕ
 count_of t [] = 0

@@ -2,7 +2,8 @@
 // Every search answers for every record; a place's number is a byte, and past the last place it reads as a place that is not held.
 #![tactic(auto)]
 
-ghost use Rattle.std.specs.Prelude.{◌≡◌, ◌&&◌, ◌+◌, ◌<◌, set, drop, eqb};
+ghost use Rattle.std.specs.Prelude.{◌≡◌, ◌&&◌, ◌+◌, ◌<◌, IfSome, set, drop, eqb};
+ghost use Rattle.card_isdp.specs.Sizes.{most_places};
 ghost use Rattle.card_isdp.specs.Aids.{aid_of};
 ghost use Rattle.card_isdp.specs.LifeCycle.{is_enabled};
 ghost use Rattle.card_isdp.specs.Place.{is_for, place_ok, clash};
@@ -16,21 +17,14 @@ pub const PLACES: usize = 32;
 // An AID's hash is below this.
 const HASHES: usize = 256;
 
-#[derive(Clone, Copy)]
-pub enum Found {
-    At(u8),
-    Nothing,
-}
-
 // The place at a number.
-pub fn at(places: [Isdp; PLACES], i: u8) -> Isdp
-    ensures { result ≡ at places i }
+pub fn at(places: &[Isdp; PLACES], i: u8) -> Isdp
+    ensures { result ≡ at places.now i }
 {
-    let n = i as usize;
-    if n >= PLACES {
+    let Some(p) = places.get(i as usize) else {
         return Isdp::none();
-    }
-    places[n]
+    };
+    *p
 }
 
 // The place at a number written anew.
@@ -38,127 +32,90 @@ pub fn put(places: [Isdp; PLACES], i: u8, p: Isdp) -> [Isdp; PLACES]
     ensures { result ≡ set places i p }
 {
     let n = i as usize;
-    if n >= PLACES {
-        return places;
-    }
     let mut all = places;
-    all[n] = p;
+    if n < PLACES {
+        all[n] = p;
+    }
     all
 }
 
-// The place that bears an AID.
-pub fn find(places: [Isdp; PLACES], aid: &[u8]) -> Found
-    ensures { result ≡ found_of (seek (is_for aid.now) places) }
+// The number of the place found, as a byte.
+fn number(i: Option<usize>) -> Option<u8>
+    requires { IfSome i (λ n. n < most_places) }
+    ensures { result ≡ i }
 {
-    let mut i = 0;
-    loop {
-        if i == PLACES {
-            break Found::Nothing;
-        }
-        let p = places[i];
-        if is_for(p, aid) {
-            break Found::At(i as u8);
-        }
-        i += 1;
-    }
+    let i = i?;
+    Some(i as u8)
+}
+
+// The place that bears an AID.
+pub fn find(places: &[Isdp; PLACES], aid: &[u8]) -> Option<u8>
+    ensures { result ≡ found_of (seek (is_for aid.now) places.now) }
+{
+    number(places.iter().position(|p| is_for(*p, aid)))
 }
 
 // The place that is enabled.
-pub fn enabled(places: [Isdp; PLACES]) -> Found
-    ensures { result ≡ found_of (seek is_enabled places) }
+pub fn enabled(places: &[Isdp; PLACES]) -> Option<u8>
+    ensures { result ≡ found_of (seek is_enabled places.now) }
 {
-    let mut i = 0;
-    loop {
-        if i == PLACES {
-            break Found::Nothing;
-        }
-        if places[i].life == Isdp::ENABLED {
-            break Found::At(i as u8);
-        }
-        i += 1;
-    }
+    number(places.iter().position(|p| p.life == Isdp::ENABLED))
 }
 
-// The lowest free place.
-pub fn free_place(places: [Isdp; PLACES]) -> Found
-    ensures { result ≡ found_of (seek is_free places) }
+// The lowest free place. Document 01, "Forms by place in the code", names this form: the search breaks with the index found.
+pub fn free_place(places: &[Isdp; PLACES]) -> Option<u8>
+    ensures { result ≡ found_of (seek is_free places.now) }
 {
     let mut i = 0;
     loop {
         if i == PLACES {
-            break Found::Nothing;
+            break None;
         }
         if places[i].aid.len == 0 {
-            break Found::At(i as u8);
+            break Some(i as u8);
         }
         i += 1;
     }
 }
 
 // Do the quotas leave just so much of the capacity? Taken off one by one, since their sum could pass 32 bits (decision 60).
-pub fn leave(places: [Isdp; PLACES], capacity: u32, free: u32) -> bool
-    ensures { result ≡ eqb (free + quotas places) capacity }
+pub fn leave(places: &[Isdp; PLACES], capacity: u32, free: u32) -> bool
+    ensures { result ≡ eqb (free + quotas places.now) capacity }
 {
     let mut left = capacity;
-    let mut i = 0;
-    while i < PLACES {
-        let q = places[i].quota;
-        if left < q {
+    for p in places {
+        if left < p.quota {
             return false;
         }
-        left -= q;
-        i += 1;
+        left -= p.quota;
     }
     free == left
 }
 
-pub fn all_ok(places: [Isdp; PLACES], capacity: u32) -> bool
-    ensures { result ≡ all_of (place_ok capacity) places }
+#[tactic(auto, unfolding(crate::specs::Places::all_of))]
+pub fn all_ok(places: &[Isdp; PLACES], capacity: u32) -> bool
+    ensures { result ≡ all_of (place_ok capacity) places.now }
 {
-    let mut i = 0;
-    while i < PLACES {
-        let p = places[i];
-        if !place_ok(p, capacity) {
-            return false;
-        }
-        i += 1;
-    }
-    true
+    places.iter().all(|p| place_ok(*p, capacity))
 }
 
 // Does a place from `from` on bear the AID of `p`?
-fn again(places: [Isdp; PLACES], p: Isdp, from: usize) -> bool
-    ensures { result ≡ any_of (clash p) (drop from places) }
+#[tactic(auto, unfolding(crate::specs::Places::any_of))]
+fn again(places: &[Isdp; PLACES], p: Isdp, from: usize) -> bool
+    ensures { result ≡ any_of (clash p) (drop from places.now) }
 {
-    let mut i = from;
-    while i < PLACES {
-        let q = places[i];
-        if clashes(p, q) {
-            return true;
-        }
-        i += 1;
-    }
-    false
-}
-
-fn wide(x: u8) -> usize
-    ensures { (result ≡ x) × (result < 256) }
-{
-    x as usize
+    places.iter().skip(from).any(|q| clashes(p, *q))
 }
 
 // The hash of an AID.
+#[tactic(auto, unfolding(crate::specs::Hashes::hash_of))]
 fn hash_of(aid: &[u8]) -> usize
     ensures { (result ≡ hash_of aid.now) × (result < hashes) }
 {
-    let n = aid.len();
-    if n < 3 {
+    let [.., c, b, a] = aid else {
         return 0;
-    }
-    let a = wide(aid[n - 1]);
-    let b = wide(aid[n - 2]);
-    let c = wide(aid[n - 3]);
-    (a + (29 * b + 7 * c)) % HASHES
+    };
+    (*a as usize + (29 * *b as usize + 7 * *c as usize)) % HASHES
 }
 
 // The hash of the AID that a place bears.
@@ -171,28 +128,16 @@ fn hash_at(p: Isdp) -> usize
     hash_of(&bytes[..n])
 }
 
-// The same as `again` where the hash of `p` was seen; where it was not, no place is looked at.
-fn met(places: [Isdp; PLACES], p: Isdp, from: usize, seen: bool) -> bool
-    ensures { result ≡ (seen && any_of (clash p) (drop from places)) }
-{
-    if !seen {
-        return false;
-    }
-    again(places, p, from)
-}
-
 // From the last place down, so that a place is held against the later ones, as in the definition; only where the hash of its AID was seen before.
-pub fn all_distinct(places: [Isdp; PLACES]) -> bool
-    ensures { result ≡ distinct places }
+pub fn all_distinct(places: &[Isdp; PLACES]) -> bool
+    ensures { result ≡ distinct places.now }
 {
     let mut seen = [false; HASHES];
-    let mut i = PLACES;
-    while i > 0 {
-        i -= 1;
+    for i in (0..PLACES).rev() {
         let p = places[i];
         if p.aid.len != 0 {
             let h = hash_at(p);
-            if met(places, p, i + 1, seen[h]) {
+            if seen[h] && again(places, p, i + 1) {
                 return false;
             }
             seen[h] = true;
@@ -201,18 +146,10 @@ pub fn all_distinct(places: [Isdp; PLACES]) -> bool
     true
 }
 
-pub fn count_enabled(places: [Isdp; PLACES]) -> usize
-    ensures { result ≡ count_of is_enabled places }
+pub fn count_enabled(places: &[Isdp; PLACES]) -> usize
+    ensures { result ≡ count_of is_enabled places.now }
 {
-    let mut n = 0;
-    let mut i = 0;
-    while i < PLACES {
-        if places[i].life == Isdp::ENABLED {
-            n += 1;
-        }
-        i += 1;
-    }
-    n
+    places.iter().filter(|p| p.life == Isdp::ENABLED).count()
 }
 
 // Every enabled place is disabled.
@@ -220,11 +157,8 @@ fn all_off(places: [Isdp; PLACES]) -> [Isdp; PLACES]
     ensures { result ≡ all_off places }
 {
     let mut all = places;
-    let mut i = 0;
-    while i < PLACES {
-        let p = all[i];
-        all[i] = p.off();
-        i += 1;
+    for p in &mut all {
+        *p = p.off();
     }
     all
 }
@@ -234,6 +168,6 @@ pub fn enable_at(places: [Isdp; PLACES], i: u8) -> [Isdp; PLACES]
     ensures { result ≡ enable_at places i }
 {
     let all = all_off(places);
-    let p = at(all, i);
+    let p = at(&all, i);
     put(all, i, p.with_life(Isdp::ENABLED))
 }

@@ -6,7 +6,6 @@ ghost use Rattle.card_places.specs.Places.{at, found_of};
 
 use crate::{Card, Phase};
 use card_isdp::Isdp;
-use card_places::Found;
 
 // Free, or a capacity, less a quota; 0 where that is more, as on no sound card (decision B67).
 pub(crate) fn less(free: u32, quota: u32) -> u32
@@ -47,45 +46,41 @@ impl Phase {
 
 impl Card {
     // The place that bears an AID.
-    pub fn place_of(self, aid: &[u8]) -> Found
+    pub fn place_of(self, aid: &[u8]) -> Option<u8>
         ensures { result ≡ found_of (place_of self aid.now) }
     {
-        let places = self.places;
-        card_places::find(places, aid)
+        card_places::find(&self.places, aid)
     }
 
     // The enabled place.
-    pub fn enabled(self) -> Found
+    pub fn enabled(self) -> Option<u8>
         ensures { result ≡ found_of (enabled_place self) }
     {
-        let places = self.places;
-        card_places::enabled(places)
+        card_places::enabled(&self.places)
     }
 
     // The number of the enabled place, of places if there is none.
     pub fn enabled_place(self) -> u8
         ensures { result ≡ enabled_place self }
     {
-        let Found::At(e) = self.enabled() else {
+        let Some(e) = self.enabled() else {
             return Card::PLACES as u8;
         };
         e
     }
 
     // The lowest free place.
-    pub fn free_place(self) -> Found
+    pub fn free_place(self) -> Option<u8>
         ensures { result ≡ found_of (free_place self) }
     {
-        let places = self.places;
-        card_places::free_place(places)
+        card_places::free_place(&self.places)
     }
 
     // The profile at a place; one that is not held past the last.
     pub fn profile(self, i: u8) -> Isdp
         ensures { result ≡ at self.places i }
     {
-        let places = self.places;
-        card_places::at(places, i)
+        card_places::at(&self.places, i)
     }
 
     // May the profile at a place be deleted, its policy apart?

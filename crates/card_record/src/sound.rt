@@ -23,10 +23,9 @@ impl Card {
     fn places_ok(self) -> bool
         ensures { result ≡ places_ok self }
     {
-        let places = self.places;
-        card_places::all_ok(places, self.capacity)
-            & (card_places::all_distinct(places)
-                & card_places::leave(places, self.capacity, self.free))
+        card_places::all_ok(&self.places, self.capacity)
+            & (card_places::all_distinct(&self.places)
+                & card_places::leave(&self.places, self.capacity, self.free))
     }
 
     // Is no place kept, or a held one?
@@ -40,9 +39,8 @@ impl Card {
     fn roles_ok(self) -> bool
         ensures { result ≡ roles_ok self }
     {
-        let places = self.places;
         let p = self.profile(self.fallback);
-        (card_places::count_enabled(places) == 1) & (p.may_be_fall_back() & self.kept_ok())
+        (card_places::count_enabled(&self.places) == 1) & (p.may_be_fall_back() & self.kept_ok())
     }
 
     fn phase_ok(self) -> bool

@@ -16,8 +16,7 @@ use Rattle.card_isdp.specs.Place.{held}
 use Rattle.card_isdp.specs.declared.Aid.{Aid}
 use Rattle.card_isdp.specs.declared.Isdp.{Isdp}
 use Rattle.card_places.specs.Places.{at, found_of}
-use Rattle.card_places.specs.declared.Found.{Found}
-use Rattle.card_places.specs.declared.Found.TheVariants.{At, Nothing}
+use Rattle.std.specs.Prelude.{Option, Some, None}
 use Rattle.card_record.specs.Cards.{place_of, profile_of}
 use Rattle.card_record.specs.Steps.{step_since, step_to}
 use Rattle.card_record.specs.Ticks.{ticks_by_phase}
@@ -45,13 +44,13 @@ pub record Aimed (c : Card) (aid : List ℕ) (act : Act) (t : ℕ) : Type 0 wher
   pub there : held (profile_of c aid) ≡ true
 
 -- the rows of the values and of the change are passed, and f is what the search for the AID found
-pub record Sought (c : Card) (aid : List ℕ) (act : Act) (f : Found) : Type 0 where
+pub record Sought (c : Card) (aid : List ℕ) (act : Act) (f : Option ℕ) : Type 0 where
   pub values : inner_wrong aid act ≡ false
   pub change : change_wrong c (on aid act) ≡ false
-  pub missing : f ≡ Nothing → held (profile_of c aid) ≡ false
-  pub target : {t : ℕ} → f ≡ At t → Aimed c aid act t
+  pub missing : f ≡ None → held (profile_of c aid) ≡ false
+  pub target : {t : ℕ} → f ≡ Some t → Aimed c aid act t
 
-pub sought : (c : Card) (aid : List ℕ) (act : Act) {f : Found} {vs : List Val} → inner_wrong aid act ≡ false → change_wrong c (on aid act) ≡ false → Is (declared.row C.the_type) c vs → f ≡ found_of (place_of c aid) → Sought c aid act f
+pub sought : (c : Card) (aid : List ℕ) (act : Act) {f : Option ℕ} {vs : List Val} → inner_wrong aid act ≡ false → change_wrong c (on aid act) ≡ false → Is (declared.row C.the_type) c vs → f ≡ found_of (place_of c aid) → Sought c aid act f
 sought c aid act v q g e =
     record { values = v; change = q; missing = absent c aid g e; target = λ h. let k = found c aid g e h in record { change = q; place = k.place; there = k.there } }
 
@@ -60,11 +59,11 @@ pub profile : {c : Card} {aid : List ℕ} {act : Act} {t : ℕ} {p : Isdp} → A
 profile {c} a e = ap (at c.places) a.place ∙ sym e
 
 -- an inner call, whose values come first, has the card's rows then
-pub inner : {c : Card} {aid : List ℕ} {act : Act} {f : Found} → Sought c aid act f → outcome_on_sound c (inner_work c aid act) ≡ outcome_on_sound c (asked_work c (on aid act))
+pub inner : {c : Card} {aid : List ℕ} {act : Act} {f : Option ℕ} → Sought c aid act f → outcome_on_sound c (inner_work c aid act) ≡ outcome_on_sound c (asked_work c (on aid act))
 unfolding word_of
 inner s = rw s.values
 
-pub at_target : {c : Card} {aid : List ℕ} {act : Act} {f : Found} → Sought c aid act f → f ≡ Nothing → outcome_on_sound c (asked_work c (on aid act)) ≡ refused_with (ticks_by_phase c) c NotHeld
+pub at_target : {c : Card} {aid : List ℕ} {act : Act} {f : Option ℕ} → Sought c aid act f → f ≡ None → outcome_on_sound c (asked_work c (on aid act)) ≡ refused_with (ticks_by_phase c) c NotHeld
 unfolding word_of
 at_target s n = rw (s.change, s.missing n)
 

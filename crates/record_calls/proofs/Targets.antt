@@ -9,8 +9,7 @@ use denote.Laws.{Is}
 use denote.Struct.Declared.{row}
 use Rattle.card_isdp.specs.Place.{held}
 use Rattle.card_places.specs.Places.{found_of}
-use Rattle.card_places.specs.declared.Found.{Found}
-use Rattle.card_places.specs.declared.Found.TheVariants.{At, Nothing}
+use Rattle.std.specs.Prelude.{Option, Some, None}
 use Rattle.card_places.proofs.Seeks.{held_none, held-some}
 use Rattle.card_record.specs.Cards.{place_of, profile_of}
 use Rattle.card_record.specs.declared.Card.{Card}
@@ -22,9 +21,9 @@ pub record Target (c : Card) (aid : List ℕ) (t : ℕ) : Type 0 where
   pub place : place_of c aid ≡ t
   pub there : held (profile_of c aid) ≡ true
 
-module _ (c : Card) (aid : List ℕ) {f : Found} {vs : List Val} (g : Is (row C.the_type) c vs) (e : f ≡ found_of (place_of c aid)) where
-  pub absent : f ≡ Nothing → held (profile_of c aid) ≡ false
+module _ (c : Card) (aid : List ℕ) {f : Option ℕ} {vs : List Val} (g : Is (row C.the_type) c vs) (e : f ≡ found_of (place_of c aid)) where
+  pub absent : f ≡ None → held (profile_of c aid) ≡ false
   absent n = held_none c.places aid (full c vs g) (sym e ∙ n)
 
-  pub found : {t : ℕ} → f ≡ At t → Target c aid t
+  pub found : {t : ℕ} → f ≡ Some t → Target c aid t
   found {t} h = let k = held-some c.places aid t (full c vs g) (sym e ∙ h) in record { place = k.0; there = k.1 }

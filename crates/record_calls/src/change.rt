@@ -7,7 +7,6 @@ ghost use Rattle.rule_steps.specs.Steps.{asked_work};
 
 use base_status::Status;
 use card_isdp::{Aid, Isdp, forbids_disabling};
-use card_places::Found;
 use card_record::{Answer, Card};
 
 pub fn enable(card: Card, aid: &[u8]) -> Answer
@@ -17,7 +16,7 @@ pub fn enable(card: Card, aid: &[u8]) -> Answer
     if !phase.is_quiet() {
         return card.refused(Status::StateWrong);
     }
-    let Found::At(t) = card.place_of(aid) else {
+    let Some(t) = card.place_of(aid) else {
         return card.refused(Status::NotHeld);
     };
     let p = card.profile(t);
@@ -41,7 +40,7 @@ pub fn disable(card: Card, aid: &[u8]) -> Answer
     if !phase.is_quiet() {
         return card.refused(Status::StateWrong);
     }
-    let Found::At(t) = card.place_of(aid) else {
+    let Some(t) = card.place_of(aid) else {
         return card.refused(Status::NotHeld);
     };
     let p = card.profile(t);

@@ -8,7 +8,6 @@ ghost use Rattle.record_calls.specs.Into.{AnsweredInto};
 use base_bytes::put_byte;
 use base_status::Status;
 use card_isdp::Isdp;
-use card_places::Found;
 use card_record::{Answer, Card};
 
 pub fn create(card: Card, aid: &[u8], quota: u32, buf: &mut [u8]) -> Answer
@@ -18,10 +17,10 @@ pub fn create(card: Card, aid: &[u8], quota: u32, buf: &mut [u8]) -> Answer
     if !phase.is_quiet() {
         return card.refused(Status::StateWrong);
     }
-    let Found::Nothing = card.place_of(aid) else {
+    let None = card.place_of(aid) else {
         return card.refused(Status::DataWrong);
     };
-    let Found::At(t) = card.free_place() else {
+    let Some(t) = card.free_place() else {
         return card.refused(Status::NoRoom);
     };
     if quota > card.free {

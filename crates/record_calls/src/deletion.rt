@@ -8,7 +8,6 @@ ghost use Rattle.record_calls.specs.Into.{AnsweredInto};
 use base_bytes::put_byte;
 use base_status::Status;
 use card_isdp::forbids_deletion;
-use card_places::Found;
 use card_record::{Answer, Card};
 
 pub fn delete(card: Card, aid: &[u8], buf: &mut [u8]) -> Answer
@@ -18,7 +17,7 @@ pub fn delete(card: Card, aid: &[u8], buf: &mut [u8]) -> Answer
     if !phase.is_quiet() {
         return card.refused(Status::StateWrong);
     }
-    let Found::At(t) = card.place_of(aid) else {
+    let Some(t) = card.place_of(aid) else {
         return card.refused(Status::NotHeld);
     };
     if !card.may_be_deleted(t) {
@@ -39,7 +38,7 @@ pub fn master_delete(card: Card, aid: &[u8], verdict: u8, buf: &mut [u8]) -> Ans
     if !phase.is_quiet() {
         return card.refused(Status::StateWrong);
     }
-    let Found::At(t) = card.place_of(aid) else {
+    let Some(t) = card.place_of(aid) else {
         return card.refused(Status::NotHeld);
     };
     if !card.may_be_master_deleted(t) {

@@ -6,7 +6,6 @@ ghost use Rattle.rule_steps.specs.Asked.{Act.set_fall_back, Asked.on};
 ghost use Rattle.rule_steps.specs.Steps.{asked_work};
 
 use base_status::Status;
-use card_places::Found;
 use card_record::{Answer, Card};
 
 pub fn set_fall_back(card: Card, aid: &[u8]) -> Answer
@@ -16,7 +15,7 @@ pub fn set_fall_back(card: Card, aid: &[u8]) -> Answer
     if !phase.is_quiet() {
         return card.refused(Status::StateWrong);
     }
-    let Found::At(t) = card.place_of(aid) else {
+    let Some(t) = card.place_of(aid) else {
         return card.refused(Status::NotHeld);
     };
     let p = card.profile(t);

@@ -7,7 +7,6 @@ ghost use Rattle.rule_steps.specs.Steps.{inner_work};
 
 use base_status::Status;
 use card_isdp::{Isdp, aid_ok, mark_ok, policy_ok};
-use card_places::Found;
 use card_record::{Answer, Card};
 
 // SELECTABLE to PERSONALIZED.
@@ -17,7 +16,7 @@ pub fn keyed(card: Card, aid: &[u8]) -> Answer
     if !aid_ok(aid) {
         return card.refused(Status::DataWrong);
     }
-    let Found::At(t) = card.place_of(aid) else {
+    let Some(t) = card.place_of(aid) else {
         return card.refused(Status::NotHeld);
     };
     let p = card.profile(t);
@@ -35,7 +34,7 @@ pub fn stored(card: Card, aid: &[u8], n: u32) -> Answer
     if !aid_ok(aid) {
         return card.refused(Status::DataWrong);
     }
-    let Found::At(t) = card.place_of(aid) else {
+    let Some(t) = card.place_of(aid) else {
         return card.refused(Status::NotHeld);
     };
     let p = card.profile(t);
@@ -57,7 +56,7 @@ pub fn finished(card: Card, aid: &[u8], policy: u8, mark: u8) -> Answer
     if !(aid_ok(aid) & (policy_ok(policy) & mark_ok(mark))) {
         return card.refused(Status::DataWrong);
     }
-    let Found::At(t) = card.place_of(aid) else {
+    let Some(t) = card.place_of(aid) else {
         return card.refused(Status::NotHeld);
     };
     let p = card.profile(t);

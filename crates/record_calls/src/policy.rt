@@ -7,7 +7,6 @@ ghost use Rattle.rule_steps.specs.Steps.{inner_work};
 
 use base_status::Status;
 use card_isdp::{Isdp, aid_ok, policy_ok};
-use card_places::Found;
 use card_record::{Answer, Card};
 
 // The policy of the enabled profile, set by its operator's domain; the old one is not asked.
@@ -21,7 +20,7 @@ pub fn set_policy(card: Card, speaker: &[u8], policy: u8) -> Answer
     if !phase.is_quiet() {
         return card.refused(Status::StateWrong);
     }
-    let Found::At(t) = card.place_of(speaker) else {
+    let Some(t) = card.place_of(speaker) else {
         return card.refused(Status::NotHeld);
     };
     let p = card.profile(t);

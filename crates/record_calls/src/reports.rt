@@ -7,7 +7,6 @@ ghost use Rattle.rule_steps.specs.Steps.{part_word, asked_work};
 ghost use Rattle.record_calls.specs.Into.{AnsweredInto};
 
 use base_status::Status;
-use card_places::Found;
 use card_record::{Answer, Card};
 use record_responses::{Information, write_information, write_part};
 
@@ -45,7 +44,7 @@ pub fn status_of_all(card: Card, next: bool, life: bool, fallback: bool, buf: &m
 pub fn status_of_one(card: Card, aid: &[u8], life: bool, fallback: bool, buf: &mut [u8]) -> Answer
     ensures { AnsweredInto buf.old (outcome_on_sound card (asked_work card (on aid.now (status life fallback)))) result buf.new }
 {
-    let Found::At(t) = card.place_of(aid) else {
+    let Some(t) = card.place_of(aid) else {
         return card.refused(Status::NotHeld);
     };
     let n = write_information(

@@ -1,23 +1,26 @@
 -- Laws of columns: a turn and the end of the loop that writes spaces, how long a number's text is, and that a number of up to seven digits
 -- fills its column. A number counts as one of 20 digits at the most, as 64 bits have. Assumes nothing.
 use mathlib.Core.Path.{◌≡◌, ap, sym}
-use Prim.Native.Nat.{ℕ, zero, suc, ◌+◌, ◌-◌, ◌*◌, ◌/◌, ◌≤◌, ◌<◌}
+use Prim.Native.Nat.{ℕ, zero, suc, ◌+◌, ◌*◌, ◌/◌, ◌≤◌, ◌<◌}
 use native.Mathlib.Omega.{arith}
 use mathlib.Core.List.{List, [], ◌∷◌, ◌++◌}
 use lib.ListN.{length, length-append, length-replicate}
+use Rattle.std.proofs.lemmas.Grind.{replicate_next}
+use Rattle.std.specs.Prelude.{filter, nat_lt}
+use Rattle.std.proofs.lemmas.Bool.Decides.{nat_tests}
 use Rattle.base_choice.proofs.Branches.{by-lt}
 use Rattle.text_words.specs.Numbers.{digits_text, decimal_text}
 use Rattle.text_words.specs.Columns.{spaces, lead_of, column_text}
-use Rattle.text_words.proofs.NumberLaws.{text-small}
-
--- one space more is still to write, or none
-pub spaces-step : (count i : ℕ) → i < count → spaces (count - i) ≡ (32 ∷ []) ++ spaces (count - (i + 1))
-unfolding spaces
-spaces-step count i h = let e : count - i ≡ suc (count - (i + 1)) = omega arith in rw e
+use Rattle.text_words.proofs.NumberLaws.{text-small, tens, tens-some}
 
 pub spaces-end : (count : ℕ) → count ≡ 0 → spaces count ≡ []
 unfolding spaces
 spaces-end count h = rw h
+
+-- one space more
+pub spaces_next : (n : ℕ) → spaces n ++ (32 ∷ []) ≡ spaces (n + 1)
+unfolding spaces
+spaces_next n = sym (replicate_next n 32)
 
 pub spaces-length : (n : ℕ) → length (spaces n) ≡ n
 unfolding spaces
@@ -44,15 +47,6 @@ digit-more k n h =
     (λ i. absurd (omega arith))
     (λ i. simp length-append)
 
-unfoldable tens : ℕ → ℕ
-tens zero = 1
-tens (suc d) = tens d * 10
-
-tens-some : (d : ℕ) → 1 ≤ tens d
-unfolding tens
-tens-some zero = omega arith
-tens-some (suc d) = let h = tens-some d in omega arith
-
 digits_are : (d k n : ℕ) → d ≤ k → tens d ≤ n → n < tens d * 10 → length (digits_text k n) ≡ d + 1
 unfolding tens
 digits_are zero k n l h i = one-digit k n i
@@ -75,6 +69,16 @@ module _ (P : ℕ → Type 0) (n : ℕ) where
       (λ j. by-lt P n 10000 (four j)
       (λ l. by-lt P n 100000 (five l)
       (λ m. by-lt P n 1000000 (six m) seven)))))
+
+-- they are as many as the powers of ten above the number
+abbrev pub powers : List ℕ
+powers = 10 ∷ 100 ∷ 1000 ∷ 10000 ∷ 100000 ∷ 1000000 ∷ []
+
+pub lead_counts : (n : ℕ) → length (filter (nat_lt n) powers) ≡ lead_of n
+lead_counts n =
+    by-lead (λ (k : ℕ). length (filter (nat_lt n) powers) ≡ k) n
+    (λ h. grind (arith, nat_tests)) (λ h i. grind (arith, nat_tests)) (λ h i. grind (arith, nat_tests)) (λ h i. grind (arith, nat_tests))
+    (λ h i. grind (arith, nat_tests)) (λ h i. grind (arith, nat_tests)) (λ h. grind (arith, nat_tests))
 
 pub lead-small : (n : ℕ) → lead_of n ≤ 6
 lead-small n =

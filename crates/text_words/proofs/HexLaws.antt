@@ -3,17 +3,19 @@
 use mathlib.Core.Path.{◌≡◌, refl, ap, sym, ◌∙◌}
 use Prim.Native.Nat.{ℕ, ◌+◌, ◌-◌, ◌*◌, ◌/◌, ◌≤◌, ◌<◌}
 use native.Mathlib.Omega.{arith}
-use mathlib.Core.List.{List, [], ◌∷◌}
+use mathlib.Core.List.{List, [], ◌∷◌, ◌++◌}
 use mathlib.Core.Bool.{Bool, true, false}
-use lib.ListN.{length, get_or, set, drop, length-drop}
+use mathlib.Core.List.{append_assoc}
+use lib.ListN.{length, get_or, set, take, drop, length-drop, length-set}
+use Rattle.std.proofs.lemmas.List.{take_more, take_more_set}
 use Rattle.base_choice.specs.Choice.{pick, is_below}
 use Rattle.base_bytes.specs.Bytes.{same_bytes}
 use Rattle.text_words.specs.Hex.{nibble_of, pairs_of, is_hex, byte_of, spelled, spelled_in, hex_byte_of, hex_read_of, hex_left, glyph_of, hex_text, hex_word}
 use Rattle.text_words.specs.declared.hex.Byte.TheVariants as byte
 use Rattle.text_words.specs.declared.hex.HexRead.TheVariants.{Bytes, NoRoom, Wrong}
-use Rattle.base_bytes.specs.Put.{put, Wrote}
-use Rattle.base_choice.proofs.Branches.{each, yes!, no!, lt!, nlt! }
-use Rattle.base_bytes.proofs.PutLaws.{put-none, put-cons, after-fits}
+use Rattle.base_bytes.specs.Put.{put}
+use Rattle.base_choice.proofs.Branches.{yes!, no!, lt!, nlt! }
+use Rattle.base_bytes.proofs.PutLaws.{put-none, put-cons}
 use Rattle.base_bytes.proofs.Rest.{rest, rest-one, rest-two, rest_end}
 
 module _ (s : List ℕ) (i : ℕ) (o : Bool) (q : pairs_of (rest s i) ≡ o) where
@@ -78,29 +80,25 @@ unfolding hex_text
 hex-length [] = refl
 hex-length (b ∷ bs) = let e = hex-length bs in omega arith
 
-module _ (s : List ℕ) (at i : ℕ) (l o : List ℕ) (q : put l (at + i * 2) (hex_text (rest s i)) ≡ o) where
-  pub fill-next : (u v : ℕ) → u ≡ glyph_of (get_or s i 0 / 16) → v ≡ glyph_of (get_or s i 0) → i < length s
-      → put (set (set l (at + i * 2) u) (at + i * 2 + 1) v) (at + (i + 1) * 2) (hex_text (rest s (i + 1))) ≡ o
-  unfolding hex_text
-  fill-next u v e f h =
-      let k = at + i * 2 in
-      let vs = hex_text (rest s (i + 1)) in
-      let j : at + (i + 1) * 2 ≡ k + 1 + 1 = omega arith in
-      ap (λ (n : ℕ). put (set (set l k u) (k + 1) v) n vs) j
-      ∙ sym (put-cons (set l k u) (k + 1) v vs)
-      ∙ sym (put-cons l k u (v ∷ vs))
-      ∙ ap (λ (n : ℕ). put l k (n ∷ v ∷ vs)) e
-      ∙ ap (λ (n : ℕ). put l k (glyph_of (get_or s i 0 / 16) ∷ n ∷ vs)) f
-      ∙ (rw (rest-one s i h) at q)
+-- the digits of one byte more
+hex-append : (xs ys : List ℕ) → hex_text (xs ++ ys) ≡ hex_text xs ++ hex_text ys
+unfolding hex_text
+hex-append [] ys = refl
+hex-append (b ∷ bs) ys = rw (hex-append bs ys)
 
-  pub fill_end : length s ≤ i → l ≡ o
-  unfolding hex_text
-  fill_end h = sym (put-none l (at + i * 2)) ∙ (rw (rest_end s i h) at q)
+pub hex_next : (s : List ℕ) (i : ℕ) → i < length s → hex_text (take i s) ++ hex_text (get_or s i 0 ∷ []) ≡ hex_text (take (i + 1) s)
+hex_next s i h = sym (hex-append (take i s) (get_or s i 0 ∷ [])) ∙ ap hex_text (sym (take_more s i 0 h))
 
-pub text-fits : (l m s : List ℕ) (at : ℕ) → at + length s * 2 ≤ length l → m ≡ put l at (hex_text s) → Wrote l at (hex_text s) (at + length s * 2) m
-text-fits l m s at h e =
-    let n = hex-length s in
-    record { place = ap (◌+◌ at) (sym n) ∙ sym (after-fits (length l) at (length (hex_text s)) (omega arith)); content = e }
+-- a turn of the loop that fills a list with them: those of byte i stand after those of the bytes before it
+pub fill_turn : (l s : List ℕ) (i u v : ℕ) → take (i * 2) l ≡ hex_text (take i s) → u ≡ glyph_of (get_or s i 0 / 16) → v ≡ glyph_of (get_or s i 0)
+    → length l ≡ length s * 2 → i < length s → take ((i + 1) * 2) (set (set l (i * 2) u) (i * 2 + 1) v) ≡ hex_text (take (i + 1) s)
+unfolding hex_text
+fill_turn l s i u v q e f n h =
+    let k = i * 2 in
+    let j : (i + 1) * 2 ≡ k + 1 + 1 = omega arith in
+    let a = take_more_set (set l k u) (k + 1) v (simp length-set (omega arith)) in
+    let b = take_more_set l k u (omega arith) in
+    rw (j, a, b, append_assoc, q, e, f) (hex_next s i h)
 
 -- two digits that are a byte
 pub byte-not : (s : List ℕ) → (length s ≡ 2 → ⊥) → byte.Wrong ≡ hex_byte_of s

@@ -1,11 +1,11 @@
 -- Laws of numbers. Each law on reading takes the loop's equation first, so that a proof finds the numbers by it; then it says
 -- which way the next byte, or the end, decides.
-use mathlib.Core.Path.{◌≡◌, refl, ap, ◌∙◌}
-use Prim.Native.Nat.{ℕ, zero, suc, ◌+◌, ◌-◌, ◌*◌, ◌/◌, ◌%◌, ◌≤◌, ◌<◌}
+use mathlib.Core.Path.{◌≡◌, refl, ap, sym, ◌∙◌}
+use Prim.Native.Nat.{ℕ, zero, suc, ◌+◌, ◌-◌, ◌*◌, ◌/◌, ◌%◌, ◌^◌, ◌≤◌, ◌<◌}
 use native.Mathlib.Omega.{arith}
 use mathlib.Core.List.{List, [], ◌∷◌, ◌++◌}
 use lib.ListN.{length, get_or}
-use Rattle.text_words.specs.Numbers.{digits_on, decimal_of, digits_text}
+use Rattle.text_words.specs.Numbers.{digits_on, decimal_of, digits_text, decimal_text}
 use Rattle.text_words.specs.declared.numbers.Number.{Number}
 use Rattle.text_words.specs.declared.numbers.Number.TheVariants.{Value, Wrong}
 use Rattle.base_choice.proofs.Branches.{by-lt, lt!, nlt! }
@@ -62,6 +62,29 @@ pub text-more : (k n : ℕ) → 10 ≤ n → (k ≡ 0 → ⊥) → digits_text (
 unfolding digits_text
 text-more zero n h f = absurd (f refl)
 text-more (suc k) n h f = let e : suc k - 1 ≡ k = omega arith in rw e (nlt! _ h refl)
+
+-- a power of ten
+unfoldable pub tens : ℕ → ℕ
+tens zero = 1
+tens (suc d) = tens d * 10
+
+pub tens-some : (d : ℕ) → 1 ≤ tens d
+unfolding tens
+tens-some zero = omega arith
+tens-some (suc d) = let h = tens-some d in omega arith
+
+-- a number of fewer digits than are allowed is spelled as it is where one more is allowed
+digits_steady : (k n : ℕ) → n < tens (suc k) → digits_text k n ≡ digits_text (suc k) n
+unfolding digits_text tens
+digits_steady zero n h = lt! _ (omega arith) refl
+digits_steady (suc k) n h = let e = digits_steady k (n / 10) (omega arith) in rw e
+
+-- the digits before the last one are those of a tenth of the number
+pub text-next : (n : ℕ) → 10 ≤ n → n < 2 ^ 64 → decimal_text (n / 10) ++ ((48 + n % 10) ∷ []) ≡ decimal_text n
+unfolding tens
+text-next n h k =
+    let e = digits_steady 18 (n / 10) (omega arith) in
+    ap (λ (l : List ℕ). l ++ ((48 + n % 10) ∷ [])) (sym e) ∙ text-more 19 n h (λ f. absurd (omega arith))
 
 -- what was read is at most what is allowed
 digits-within : (most v n : ℕ) (s : List ℕ) → v ≤ most → Value n ≡ digits_on most v s → n ≤ most

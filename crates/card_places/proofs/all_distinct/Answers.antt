@@ -5,26 +5,31 @@ use native.Mathlib.Omega.{arith}
 use lib.ListN.{length}
 use borrow.Author.Rules.{rules}
 use Rattle.card_isdp.specs.Sizes.{most_places}
-use Rattle.card_places.proofs.Hashes.{walk_first, walk_none, walk-twice, walk-on, walk_end}
+use Rattle.card_places.proofs.Hashes.{walk_first, walk_none, walk-twice, walk-on}
 use Rattle.card_places.proofs.Records.{unread}
 use Rattle.card_places.proofs.all_distinct.Goals as goal
+use Rattle.card_places.proofs.all_distinct.Goals.{else-seen-h-via-then-seen-h+else-again, else-seen-h-via-else-seen-h}
 
 pub loop-i-init : goal.loop-i-init
-loop-i-init c = let n : length c.args.places ≡ most_places = search rules in
-    (omega arith, walk_first c.args.places 32 (omega arith) _ refl)
+loop-i-init c = let n : length c.args.places.now ≡ most_places = search rules in
+    walk_first c.args.places.now 32 (omega arith) _ refl
 
-pub returns-then-met : goal.returns-then-met
-returns-then-met c = let n : length c.args.places ≡ most_places = search rules in
-    walk-twice c.args.places unread (c.loop-i.i - 1) c.loop-i.i (omega arith) (omega arith) c.loop-i.seen c.loop-i.invariant.1 c.hash_at-h.result c.hash_at-h.ensures.0 c.hash_at-h.ensures.1 c.met.result c.met.ensures c.if-met.true
+pub returns-then-again : goal.returns-then-again
+returns-then-again c = let n : length c.args.places.now ≡ most_places = search rules in
+    let o = c.loop-i in
+    let h = c.hash_at-h in
+    walk-twice c.args.places.now unread (o.i - 1) o.i (omega arith) (omega arith) o.seen o.invariant h.result h.ensures.0 h.ensures.1 _ (rw c.if-seen-h.true c.again.ensures) c.if-again.true
 
 pub loop-i-preserved-then-p-ne0 : goal.loop-i-preserved-then-p-ne0
-loop-i-preserved-then-p-ne0 c = let n : length c.args.places ≡ most_places = search rules in
-    (search rules, walk-on c.args.places unread (c.loop-i.i - 1) c.loop-i.i (omega arith) (omega arith) c.loop-i.seen c.loop-i.invariant.1 c.hash_at-h.result c.hash_at-h.ensures.0 c.hash_at-h.ensures.1 c.met.result c.met.ensures c.if-met.false)
+loop-i-preserved-then-p-ne0 c = let n : length c.args.places.now ≡ most_places = search rules in
+    let o = c.loop-i in
+    let h = c.hash_at-h in
+    elim c.else-seen-h.branch [
+      | else-seen-h-via-then-seen-h+else-again w ↦ walk-on c.args.places.now unread (o.i - 1) o.i (omega arith) (omega arith) o.seen o.invariant h.result h.ensures.0 h.ensures.1 _ (rw w.if-seen-h.true w.again.ensures) w.if-again.false
+      | else-seen-h-via-else-seen-h w ↦ walk-on c.args.places.now unread (o.i - 1) o.i (omega arith) (omega arith) o.seen o.invariant h.result h.ensures.0 h.ensures.1 _ (rw w.if-seen-h.false refl) refl
+    ]
 
 pub loop-i-preserved : goal.loop-i-preserved
-loop-i-preserved c = let n : length c.args.places ≡ most_places = search rules in
-    (search rules, walk_none c.args.places unread (c.loop-i.i - 1) c.loop-i.i (omega arith) (omega arith) c.loop-i.seen c.loop-i.invariant.1 c.if-p-ne0.false)
-
-pub returns : goal.returns
-returns c = let o = c.loop-i in
-    walk_end c.args.places o.i (omega arith) o.seen o.invariant.1
+loop-i-preserved c = let n : length c.args.places.now ≡ most_places = search rules in
+    let o = c.loop-i in
+    walk_none c.args.places.now unread (o.i - 1) o.i (omega arith) (omega arith) o.seen o.invariant c.if-p-ne0.false

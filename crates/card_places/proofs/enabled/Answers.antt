@@ -1,30 +1,14 @@
--- `card_places::enabled`: no place before i is enabled; the search is i and what is found in the places left.
-use mathlib.Core.Path.{◌≡◌}
-use native.Mathlib.Omega.{arith}
-use lib.ListN.{length, get_or}
-use borrow.Author.Rules.{rules}
-use borrow.Author.Tests.{eq-eqb, ne_eqb}
-use Rattle.card_isdp.specs.Sizes.{most_places}
-use Rattle.card_isdp.specs.LifeCycle.{enabled, is_enabled}
-use Rattle.card_places.specs.Places.{seek}
-use Rattle.card_places.proofs.Turns.{seek_hit, seek-miss, seek-end, found_at, found_none}
-use Rattle.card_places.proofs.Records.{unread}
+-- `card_places::enabled`: the position of the first enabled place, as a byte.
+use mathlib.Core.Path.{◌∙◌}
+use Rattle.std.proofs.Common.{rules, tests}
+use Rattle.std.proofs.lemmas.Iterator.{YieldsList-from_slice}
+use Rattle.std.proofs.lemmas.Iterator.Search.{position_from_yields_List}
+use Rattle.card_isdp.specs.LifeCycle.{is_enabled}
+use Rattle.card_places.proofs.Library.{found_position}
 use Rattle.card_places.proofs.enabled.Goals as goal
 
-pub loop-i-preserved : goal.loop-i-preserved
-loop-i-preserved c = let o = c.loop-i in
-    let n : length c.args.places ≡ most_places = search rules in
-    let m = seek-miss is_enabled c.args.places unread o.i (omega arith) (ne_eqb (get_or c.args.places o.i unread).life enabled c.if-places-i-eq-ENABLED.false) in
-    (search rules, omega (arith, o.invariant))
-
-pub returns-then-i-eq-PLACES : goal.returns-then-i-eq-PLACES
-returns-then-i-eq-PLACES c = let o = c.loop-i in
-    let n : length c.args.places ≡ most_places = search rules in
-    let m = seek-end is_enabled c.args.places o.i (omega arith) in
-    found_none (seek is_enabled c.args.places) (omega (arith, o.invariant))
-
-pub returns-then-places-i-eq-ENABLED : goal.returns-then-places-i-eq-ENABLED
-returns-then-places-i-eq-ENABLED c = let o = c.loop-i in
-    let n : length c.args.places ≡ most_places = search rules in
-    let m = seek_hit is_enabled c.args.places unread o.i (omega arith) (eq-eqb (get_or c.args.places o.i unread).life enabled c.if-places-i-eq-ENABLED.true) in
-    found_at (seek is_enabled c.args.places) o.i (omega (arith, o.invariant)) (omega arith)
+pub returns : goal.returns
+returns c = let l = c.args.places.now in
+    c.number.ensures
+    ∙ position_from_yields_List is_enabled _ _ _ c.position.ensures.ran (YieldsList-from_slice l cc) (λ x b q k. search (rules, tests))
+    ∙ found_position is_enabled l (search rules)

@@ -1,29 +1,14 @@
--- `card_places::find`: no place before i bears the AID; the search is i and what is found in the places left.
-use mathlib.Core.Path.{◌≡◌, sym, ◌∙◌}
-use native.Mathlib.Omega.{arith}
-use lib.ListN.{length}
-use borrow.Author.Rules.{rules}
-use Rattle.card_isdp.specs.Sizes.{most_places}
+-- `card_places::find`: the position of the first place that bears the AID, as a byte.
+use mathlib.Core.Path.{◌∙◌}
+use Rattle.std.proofs.Common.{rules, tests}
+use Rattle.std.proofs.lemmas.Iterator.{YieldsList-from_slice}
+use Rattle.std.proofs.lemmas.Iterator.Search.{position_from_yields_List}
 use Rattle.card_isdp.specs.Place.{is_for}
-use Rattle.card_places.specs.Places.{seek}
-use Rattle.card_places.proofs.Turns.{seek_hit, seek-miss, seek-end, found_at, found_none}
-use Rattle.card_places.proofs.Records.{unread}
+use Rattle.card_places.proofs.Library.{found_position}
 use Rattle.card_places.proofs.find.Goals as goal
 
-pub loop-i-preserved : goal.loop-i-preserved
-loop-i-preserved c = let o = c.loop-i in
-    let n : length c.args.places ≡ most_places = search rules in
-    let m = seek-miss (is_for c.args.aid.now) c.args.places unread o.i (omega arith) (sym c.is_for.ensures ∙ c.if-is_for.false) in
-    (search rules, omega (arith, o.invariant))
-
-pub returns-then-i-eq-PLACES : goal.returns-then-i-eq-PLACES
-returns-then-i-eq-PLACES c = let o = c.loop-i in
-    let n : length c.args.places ≡ most_places = search rules in
-    let m = seek-end (is_for c.args.aid.now) c.args.places o.i (omega arith) in
-    found_none (seek (is_for c.args.aid.now) c.args.places) (omega (arith, o.invariant))
-
-pub returns-then-is_for : goal.returns-then-is_for
-returns-then-is_for c = let o = c.loop-i in
-    let n : length c.args.places ≡ most_places = search rules in
-    let m = seek_hit (is_for c.args.aid.now) c.args.places unread o.i (omega arith) (sym c.is_for.ensures ∙ c.if-is_for.true) in
-    found_at (seek (is_for c.args.aid.now) c.args.places) o.i (omega (arith, o.invariant)) (omega arith)
+pub returns : goal.returns
+returns c = let l = c.args.places.now in
+    c.number.ensures
+    ∙ position_from_yields_List (is_for c.args.aid.now) _ _ _ c.position.ensures.ran (YieldsList-from_slice l cc) (λ x b q k. search (rules, tests))
+    ∙ found_position (is_for c.args.aid.now) l (search rules)

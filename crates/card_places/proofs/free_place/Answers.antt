@@ -12,18 +12,18 @@ use Rattle.card_places.proofs.free_place.Goals as goal
 
 pub loop-i-preserved : goal.loop-i-preserved
 loop-i-preserved c = let o = c.loop-i in
-    let n : length c.args.places ≡ most_places = search rules in
-    let m = seek-miss is_free c.args.places unread o.i (omega arith) (rw (ne_eqb (get_or c.args.places o.i unread).aid.len 0 c.if-places-i-eq0.false)) in
+    let n : length c.args.places.now ≡ most_places = search rules in
+    let m = seek-miss is_free c.args.places.now unread o.i (omega arith) (rw (ne_eqb (get_or c.args.places.now o.i unread).aid.len 0 c.if-places-i-eq0.false)) in
     (search rules, omega (arith, o.invariant))
 
 pub returns-then-i-eq-PLACES : goal.returns-then-i-eq-PLACES
 returns-then-i-eq-PLACES c = let o = c.loop-i in
-    let n : length c.args.places ≡ most_places = search rules in
-    let m = seek-end is_free c.args.places o.i (omega arith) in
-    found_none (seek is_free c.args.places) (omega (arith, o.invariant))
+    let n : length c.args.places.now ≡ most_places = search rules in
+    let m = seek-end is_free c.args.places.now o.i (omega arith) in
+    found_none (seek is_free c.args.places.now) (omega (arith, o.invariant))
 
 pub returns-then-places-i-eq0 : goal.returns-then-places-i-eq0
 returns-then-places-i-eq0 c = let o = c.loop-i in
-    let n : length c.args.places ≡ most_places = search rules in
-    let m = seek_hit is_free c.args.places unread o.i (omega arith) (rw (eq-eqb (get_or c.args.places o.i unread).aid.len 0 c.if-places-i-eq0.true)) in
-    found_at (seek is_free c.args.places) o.i (omega (arith, o.invariant)) (omega arith)
+    let n : length c.args.places.now ≡ most_places = search rules in
+    let m = seek_hit is_free c.args.places.now unread o.i (omega arith) (rw (eq-eqb (get_or c.args.places.now o.i unread).aid.len 0 c.if-places-i-eq0.true)) in
+    found_at (seek is_free c.args.places.now) o.i (omega (arith, o.invariant)) (omega arith)

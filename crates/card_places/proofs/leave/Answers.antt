@@ -12,20 +12,23 @@ use Rattle.card_places.proofs.Turns.{quotas-step, quotas-end}
 use Rattle.card_places.proofs.Records.{unread}
 use Rattle.card_places.proofs.leave.Goals as goal
 
-pub returns-then-left-q : goal.returns-then-left-q
-returns-then-left-q c = let o = c.loop-i in
-    let n : length c.args.places ≡ most_places = search rules in
-    let e = quotas-step c.args.places unread o.i (omega arith) in
-    sym (ne_eqb (c.args.free + quotas (drop o.i c.args.places)) o.left (λ h. omega arith)) ∙ o.invariant.1
+pub returns-then-left-p : goal.returns-then-left-p
+returns-then-left-p c = let o = c.loop-p in
+    let l = c.args.places.now in
+    let n : length l ≡ most_places = search rules in
+    let e = quotas-step l unread o.p-index (omega arith) in
+    sym (ne_eqb (c.args.free + quotas (drop o.p-index l)) o.left (λ h. omega arith)) ∙ o.invariant
 
-pub loop-i-preserved : goal.loop-i-preserved
-loop-i-preserved c = let o = c.loop-i in
-    let n : length c.args.places ≡ most_places = search rules in
-    let e = quotas-step c.args.places unread o.i (omega arith) in
-    (search rules, eqb_same (c.args.free + quotas (drop (o.i + 1) c.args.places)) (o.left - (get_or c.args.places o.i unread).quota) (c.args.free + quotas (drop o.i c.args.places)) o.left (λ h. omega arith) (λ h. omega arith) ∙ o.invariant.1)
+pub loop-p-preserved : goal.loop-p-preserved
+loop-p-preserved c = let o = c.loop-p in
+    let l = c.args.places.now in
+    let n : length l ≡ most_places = search rules in
+    let e = quotas-step l unread o.p-index (omega arith) in
+    eqb_same (c.args.free + quotas (drop (o.p-index + 1) l)) (o.left - (get_or l o.p-index unread).quota) (c.args.free + quotas (drop o.p-index l)) o.left (λ h. omega arith) (λ h. omega arith) ∙ o.invariant
 
 pub returns : goal.returns
-returns c = let o = c.loop-i in
-    let n : length c.args.places ≡ most_places = search rules in
-    let e = quotas-end c.args.places o.i (omega arith) in
-    eqb_same c.args.free o.left (c.args.free + quotas (drop o.i c.args.places)) o.left (λ h. omega arith) (λ h. omega arith) ∙ o.invariant.1
+returns c = let o = c.loop-p in
+    let l = c.args.places.now in
+    let n : length l ≡ most_places = search rules in
+    let e = quotas-end l o.p-index (omega arith) in
+    eqb_same c.args.free o.left (c.args.free + quotas (drop o.p-index l)) o.left (λ h. omega arith) (λ h. omega arith) ∙ o.invariant

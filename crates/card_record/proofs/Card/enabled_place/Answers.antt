@@ -16,5 +16,5 @@ returns-in_default c = let l = c.args.self.places in
 
 pub returns : goal.returns
 returns c = let l = c.args.self.places in
-    let h = found-hit (seek is_enabled l) _ (sym c.enabled.ensures ∙ c.in-At.is) in
+    let h = found-hit (seek is_enabled l) _ (sym c.enabled.ensures ∙ c.in-Some.is) in
     sym h.0

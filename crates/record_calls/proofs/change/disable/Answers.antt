@@ -21,23 +21,23 @@ returns-in_default c =
 pub returns-then-not-may : goal.returns-then-not-may
 returns-then-not-may c =
     let asked : let s = c.args in Sought s.card s.aid.now disable c.place_of.result = sought _ _ disable refl (asks c.is_quiet.ensures c.if-not-is_quiet.false) c.well_formed.0 c.place_of.ensures in
-    let aimed : let s = c.args in Aimed s.card s.aid.now disable c.in-At.t = asked.target c.in-At.is in
-    let state : let s = c.args in act_state_wrong s.card s.aid.now disable ≡ not ((is_enabled c.profile-p.result && not (eqb c.in-At.t c.args.card.fallback))) = let a = aimed in rw (profile a c.profile-p.ensures, a.place) in
+    let aimed : let s = c.args in Aimed s.card s.aid.now disable c.in-Some.t = asked.target c.in-Some.is in
+    let state : let s = c.args in act_state_wrong s.card s.aid.now disable ≡ not ((is_enabled c.profile-p.result && not (eqb c.in-Some.t c.args.card.fallback))) = let a = aimed in rw (profile a c.profile-p.ensures, a.place) in
     rw (at-state aimed (state ∙ ap not c.if-not-may.true)) c.refused-then-not-may.ensures
 
 pub returns-then-forbids_disabling : goal.returns-then-forbids_disabling
 returns-then-forbids_disabling c =
     let asked : let s = c.args in Sought s.card s.aid.now disable c.place_of.result = sought _ _ disable refl (asks c.is_quiet.ensures c.if-not-is_quiet.false) c.well_formed.0 c.place_of.ensures in
-    let aimed : let s = c.args in Aimed s.card s.aid.now disable c.in-At.t = asked.target c.in-At.is in
-    let state : let s = c.args in act_state_wrong s.card s.aid.now disable ≡ not ((is_enabled c.profile-p.result && not (eqb c.in-At.t c.args.card.fallback))) = let a = aimed in rw (profile a c.profile-p.ensures, a.place) in
+    let aimed : let s = c.args in Aimed s.card s.aid.now disable c.in-Some.t = asked.target c.in-Some.is in
+    let state : let s = c.args in act_state_wrong s.card s.aid.now disable ≡ not ((is_enabled c.profile-p.result && not (eqb c.in-Some.t c.args.card.fallback))) = let a = aimed in rw (profile a c.profile-p.ensures, a.place) in
     let policy : let s = c.args in act_forbidden s.card s.aid.now disable ≡ c.forbids_disabling.result = rw (profile aimed c.profile-p.ensures) (sym c.forbids_disabling.ensures) in
     rw (at-policy aimed (state ∙ ap not c.if-not-may.false) (policy ∙ c.if-forbids_disabling.true)) c.refused-then-forbids_disabling.ensures
 
 pub returns : goal.returns
 returns c =
     let asked : let s = c.args in Sought s.card s.aid.now disable c.place_of.result = sought _ _ disable refl (asks c.is_quiet.ensures c.if-not-is_quiet.false) c.well_formed.0 c.place_of.ensures in
-    let aimed : let s = c.args in Aimed s.card s.aid.now disable c.in-At.t = asked.target c.in-At.is in
-    let state : let s = c.args in act_state_wrong s.card s.aid.now disable ≡ not ((is_enabled c.profile-p.result && not (eqb c.in-At.t c.args.card.fallback))) = let a = aimed in rw (profile a c.profile-p.ensures, a.place) in
+    let aimed : let s = c.args in Aimed s.card s.aid.now disable c.in-Some.t = asked.target c.in-Some.is in
+    let state : let s = c.args in act_state_wrong s.card s.aid.now disable ≡ not ((is_enabled c.profile-p.result && not (eqb c.in-Some.t c.args.card.fallback))) = let a = aimed in rw (profile a c.profile-p.ensures, a.place) in
     let policy : let s = c.args in act_forbidden s.card s.aid.now disable ≡ c.forbids_disabling.result = rw (profile aimed c.profile-p.ensures) (sym c.forbids_disabling.ensures) in
     steps aimed (state ∙ ap not c.if-not-may.false) (policy ∙ c.if-forbids_disabling.false) refl refl
     (rw c.opened-after.ensures) c.none.ensures c.step_since.ensures c.answer.ensures

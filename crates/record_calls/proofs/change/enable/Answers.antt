@@ -21,14 +21,14 @@ returns-in_default c =
 pub returns-then-p-ne-DISABLED : goal.returns-then-p-ne-DISABLED
 returns-then-p-ne-DISABLED c =
     let asked : let s = c.args in Sought s.card s.aid.now enable c.place_of.result = sought _ _ enable refl (asks c.is_quiet.ensures c.if-not-is_quiet.false) c.well_formed.0 c.place_of.ensures in
-    let aimed : let s = c.args in Aimed s.card s.aid.now enable c.in-At.t = asked.target c.in-At.is in
+    let aimed : let s = c.args in Aimed s.card s.aid.now enable c.in-Some.t = asked.target c.in-Some.is in
     let a = aimed in
     rw (at-state a (rw (profile a c.profile-p.ensures) (ap not (ne_eqb _ disabled c.if-p-ne-DISABLED.true)))) c.refused-then-p-ne-DISABLED.ensures
 
 pub returns-then-forbids_disabling : goal.returns-then-forbids_disabling
 returns-then-forbids_disabling c =
     let asked : let s = c.args in Sought s.card s.aid.now enable c.place_of.result = sought _ _ enable refl (asks c.is_quiet.ensures c.if-not-is_quiet.false) c.well_formed.0 c.place_of.ensures in
-    let aimed : let s = c.args in Aimed s.card s.aid.now enable c.in-At.t = asked.target c.in-At.is in
+    let aimed : let s = c.args in Aimed s.card s.aid.now enable c.in-Some.t = asked.target c.in-Some.is in
     let state : let s = c.args in act_state_wrong s.card s.aid.now enable ≡ false = rw (profile aimed c.profile-p.ensures) (ap not (eq-eqb _ disabled c.if-p-ne-DISABLED.false)) in
     let policy : let s = c.args in act_forbidden s.card s.aid.now enable ≡ c.forbids_disabling.result = rw (← c.enabled_place.ensures, ← c.profile-e.ensures) (sym c.forbids_disabling.ensures) in
     rw (at-policy aimed state (policy ∙ c.if-forbids_disabling.true)) c.refused-then-forbids_disabling.ensures
@@ -36,7 +36,7 @@ returns-then-forbids_disabling c =
 pub returns : goal.returns
 returns c =
     let asked : let s = c.args in Sought s.card s.aid.now enable c.place_of.result = sought _ _ enable refl (asks c.is_quiet.ensures c.if-not-is_quiet.false) c.well_formed.0 c.place_of.ensures in
-    let aimed : let s = c.args in Aimed s.card s.aid.now enable c.in-At.t = asked.target c.in-At.is in
+    let aimed : let s = c.args in Aimed s.card s.aid.now enable c.in-Some.t = asked.target c.in-Some.is in
     let state : let s = c.args in act_state_wrong s.card s.aid.now enable ≡ false = rw (profile aimed c.profile-p.ensures) (ap not (eq-eqb _ disabled c.if-p-ne-DISABLED.false)) in
     let policy : let s = c.args in act_forbidden s.card s.aid.now enable ≡ c.forbids_disabling.result = rw (← c.enabled_place.ensures, ← c.profile-e.ensures) (sym c.forbids_disabling.ensures) in
     let a = aimed in

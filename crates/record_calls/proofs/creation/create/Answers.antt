@@ -30,23 +30,23 @@ pub returns-in_default-free_place : goal.returns-in_default-free_place
 unfolding word_of
 returns-in_default-free_place c =
     let quiet : not (is_quiet c.args.card.phase) ≡ false = asks c.is_quiet.ensures c.if-not-is_quiet.false in
-    let new : let s = c.args in held (profile_of s.card s.aid.now) ≡ false = absent c.args.card c.args.aid.now c.well_formed.0 c.place_of.ensures c.in-Nothing.is in
+    let new : let s = c.args in held (profile_of s.card s.aid.now) ≡ false = absent c.args.card c.args.aid.now c.well_formed.0 c.place_of.ensures c.in-None.is in
     rw (quiet, new, le-ltb _ most_places (found-miss _ (sym c.free_place.ensures ∙ c.in_default-free_place.is))) (kept c.refused-in_default-free_place.ensures)
 
 pub returns-then-quota-card : goal.returns-then-quota-card
 unfolding word_of
 returns-then-quota-card c =
     let quiet : not (is_quiet c.args.card.phase) ≡ false = asks c.is_quiet.ensures c.if-not-is_quiet.false in
-    let new : let s = c.args in held (profile_of s.card s.aid.now) ≡ false = absent c.args.card c.args.aid.now c.well_formed.0 c.place_of.ensures c.in-Nothing.is in
-    let vacancy : let n = free_place c.args.card in (n ≡ c.in-At.t) × (n < most_places) = found-hit _ _ (sym c.free_place.ensures ∙ c.in-At.is) in
+    let new : let s = c.args in held (profile_of s.card s.aid.now) ≡ false = absent c.args.card c.args.aid.now c.well_formed.0 c.place_of.ensures c.in-None.is in
+    let vacancy : let n = free_place c.args.card in (n ≡ c.in-Some.t) × (n < most_places) = found-hit _ _ (sym c.free_place.ensures ∙ c.in-Some.is) in
     rw (quiet, new, lt-ltb _ most_places vacancy.1, lt-leb _ _ c.if-quota-card.true) (kept c.refused-then-quota-card.ensures)
 
 pub returns : goal.returns
 unfolding word_of
 returns c =
     let quiet : not (is_quiet c.args.card.phase) ≡ false = asks c.is_quiet.ensures c.if-not-is_quiet.false in
-    let new : let s = c.args in held (profile_of s.card s.aid.now) ≡ false = absent c.args.card c.args.aid.now c.well_formed.0 c.place_of.ensures c.in-Nothing.is in
-    let vacancy : let n = free_place c.args.card in (n ≡ c.in-At.t) × (n < most_places) = found-hit _ _ (sym c.free_place.ensures ∙ c.in-At.is) in
+    let new : let s = c.args in held (profile_of s.card s.aid.now) ≡ false = absent c.args.card c.args.aid.now c.well_formed.0 c.place_of.ensures c.in-None.is in
+    let vacancy : let n = free_place c.args.card in (n ≡ c.in-Some.t) × (n < most_places) = found-hit _ _ (sym c.free_place.ensures ∙ c.in-Some.is) in
     let s = c.args in
     silent-into s.card (asked_work s.card (create s.aid.now s.quota))
     (rw (quiet, new, lt-ltb _ most_places vacancy.1, le-leb _ _ c.if-quota-card.false))

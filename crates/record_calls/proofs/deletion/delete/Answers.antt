@@ -21,14 +21,14 @@ returns-in_default c =
 pub returns-then-not-may_be_deleted : goal.returns-then-not-may_be_deleted
 returns-then-not-may_be_deleted c =
     let asked : let s = c.args in Sought s.card s.aid.now delete c.place_of.result = sought _ _ delete refl (asks c.is_quiet.ensures c.if-not-is_quiet.false) c.well_formed.0 c.place_of.ensures in
-    let aimed : let s = c.args in Aimed s.card s.aid.now delete c.in-At.t = asked.target c.in-At.is in
+    let aimed : let s = c.args in Aimed s.card s.aid.now delete c.in-Some.t = asked.target c.in-Some.is in
     let a = aimed in
     rw (at-state a (rw a.place (asks c.may_be_deleted.ensures c.if-not-may_be_deleted.true))) (kept c.refused-then-not-may_be_deleted.ensures)
 
 pub returns-then-forbids_deletion : goal.returns-then-forbids_deletion
 returns-then-forbids_deletion c =
     let asked : let s = c.args in Sought s.card s.aid.now delete c.place_of.result = sought _ _ delete refl (asks c.is_quiet.ensures c.if-not-is_quiet.false) c.well_formed.0 c.place_of.ensures in
-    let aimed : let s = c.args in Aimed s.card s.aid.now delete c.in-At.t = asked.target c.in-At.is in
+    let aimed : let s = c.args in Aimed s.card s.aid.now delete c.in-Some.t = asked.target c.in-Some.is in
     let state : let s = c.args in act_state_wrong s.card s.aid.now delete ≡ false = rw aimed.place (asks c.may_be_deleted.ensures c.if-not-may_be_deleted.false) in
     let a = aimed in
     rw (at-policy a state (rw (profile a c.profile-p.ensures) (sym c.forbids_deletion.ensures ∙ c.if-forbids_deletion.true))) (kept c.refused-then-forbids_deletion.ensures)
@@ -36,7 +36,7 @@ returns-then-forbids_deletion c =
 pub returns : goal.returns
 returns c =
     let asked : let s = c.args in Sought s.card s.aid.now delete c.place_of.result = sought _ _ delete refl (asks c.is_quiet.ensures c.if-not-is_quiet.false) c.well_formed.0 c.place_of.ensures in
-    let aimed : let s = c.args in Aimed s.card s.aid.now delete c.in-At.t = asked.target c.in-At.is in
+    let aimed : let s = c.args in Aimed s.card s.aid.now delete c.in-Some.t = asked.target c.in-Some.is in
     let state : let s = c.args in act_state_wrong s.card s.aid.now delete ≡ false = rw aimed.place (asks c.may_be_deleted.ensures c.if-not-may_be_deleted.false) in
     let a = aimed in
     steps-into a state (rw (profile a c.profile-p.ensures) (sym c.forbids_deletion.ensures ∙ c.if-forbids_deletion.false)) refl refl

@@ -22,21 +22,21 @@ returns-in_default c =
 pub returns-then-not-may_be_master_deleted : goal.returns-then-not-may_be_master_deleted
 returns-then-not-may_be_master_deleted c =
     let asked : let s = c.args in Sought s.card s.aid.now (master_delete s.verdict) c.place_of.result = sought _ _ (master_delete c.args.verdict) refl (asks c.is_quiet.ensures c.if-not-is_quiet.false) c.well_formed.0 c.place_of.ensures in
-    let aimed : let s = c.args in Aimed s.card s.aid.now (master_delete s.verdict) c.in-At.t = asked.target c.in-At.is in
+    let aimed : let s = c.args in Aimed s.card s.aid.now (master_delete s.verdict) c.in-Some.t = asked.target c.in-Some.is in
     let a = aimed in
     rw (at-state a (rw a.place (asks c.may_be_master_deleted.ensures c.if-not-may_be_master_deleted.true))) (kept c.refused-then-not-may_be_master_deleted.ensures)
 
 pub returns-then-verdict-ne1 : goal.returns-then-verdict-ne1
 returns-then-verdict-ne1 c =
     let asked : let s = c.args in Sought s.card s.aid.now (master_delete s.verdict) c.place_of.result = sought _ _ (master_delete c.args.verdict) refl (asks c.is_quiet.ensures c.if-not-is_quiet.false) c.well_formed.0 c.place_of.ensures in
-    let aimed : let s = c.args in Aimed s.card s.aid.now (master_delete s.verdict) c.in-At.t = asked.target c.in-At.is in
+    let aimed : let s = c.args in Aimed s.card s.aid.now (master_delete s.verdict) c.in-Some.t = asked.target c.in-Some.is in
     let state : let s = c.args in act_state_wrong s.card s.aid.now (master_delete s.verdict) ≡ false = rw aimed.place (asks c.may_be_master_deleted.ensures c.if-not-may_be_master_deleted.false) in
     rw (at-verdict aimed state refl (ap not (ne_eqb _ 1 c.if-verdict-ne1.true))) (kept c.refused-then-verdict-ne1.ensures)
 
 pub returns : goal.returns
 returns c =
     let asked : let s = c.args in Sought s.card s.aid.now (master_delete s.verdict) c.place_of.result = sought _ _ (master_delete c.args.verdict) refl (asks c.is_quiet.ensures c.if-not-is_quiet.false) c.well_formed.0 c.place_of.ensures in
-    let aimed : let s = c.args in Aimed s.card s.aid.now (master_delete s.verdict) c.in-At.t = asked.target c.in-At.is in
+    let aimed : let s = c.args in Aimed s.card s.aid.now (master_delete s.verdict) c.in-Some.t = asked.target c.in-Some.is in
     let state : let s = c.args in act_state_wrong s.card s.aid.now (master_delete s.verdict) ≡ false = rw aimed.place (asks c.may_be_master_deleted.ensures c.if-not-may_be_master_deleted.false) in
     let a = aimed in
     steps-into a state refl (ap not (eq-eqb _ 1 c.if-verdict-ne1.false)) refl

@@ -17,14 +17,14 @@ returns-in_default c =
 pub returns-then-not-may_be_fall_back : goal.returns-then-not-may_be_fall_back
 returns-then-not-may_be_fall_back c =
     let asked : let s = c.args in Sought s.card s.aid.now set_fall_back c.place_of.result = sought _ _ set_fall_back refl (asks c.is_quiet.ensures c.if-not-is_quiet.false) c.well_formed.0 c.place_of.ensures in
-    let aimed : let s = c.args in Aimed s.card s.aid.now set_fall_back c.in-At.t = asked.target c.in-At.is in
+    let aimed : let s = c.args in Aimed s.card s.aid.now set_fall_back c.in-Some.t = asked.target c.in-Some.is in
     let a = aimed in
     rw (at-state a (rw (profile a c.profile-p.ensures) (asks c.may_be_fall_back.ensures c.if-not-may_be_fall_back.true))) c.refused-then-not-may_be_fall_back.ensures
 
 pub returns : goal.returns
 returns c =
     let asked : let s = c.args in Sought s.card s.aid.now set_fall_back c.place_of.result = sought _ _ set_fall_back refl (asks c.is_quiet.ensures c.if-not-is_quiet.false) c.well_formed.0 c.place_of.ensures in
-    let aimed : let s = c.args in Aimed s.card s.aid.now set_fall_back c.in-At.t = asked.target c.in-At.is in
+    let aimed : let s = c.args in Aimed s.card s.aid.now set_fall_back c.in-Some.t = asked.target c.in-Some.is in
     let a = aimed in
     steps-silently a (rw (profile a c.profile-p.ensures) (asks c.may_be_fall_back.ensures c.if-not-may_be_fall_back.false)) refl refl refl
     c.with_fallback.ensures (rw a.place) refl c.silently.ensures

@@ -32,7 +32,7 @@ pub returns-then-not-done : goal.returns-then-not-done
 returns-then-not-done c =
     let values : let s = c.args in (c.aid_ok.result && (c.policy_ok.result && c.mark_ok.result)) ≡ (aid_ok s.aid.now && (policy_ok s.policy && mark_ok s.mark)) = rw (c.mark_ok.ensures, c.policy_ok.ensures, c.aid_ok.ensures) in
     let asked : let s = c.args in Sought s.card s.aid.now (finished s.policy s.mark) c.place_of.result = sought _ _ (finished c.args.policy c.args.mark) (asks values c.if-not-aid_ok-policy_ok.false) refl c.well_formed.0 c.place_of.ensures in
-    let aimed : let s = c.args in Aimed s.card s.aid.now (finished s.policy s.mark) c.in-At.t = asked.target c.in-At.is in
+    let aimed : let s = c.args in Aimed s.card s.aid.now (finished s.policy s.mark) c.in-Some.t = asked.target c.in-Some.is in
     let a = aimed in
     let n : not (finishable c.profile-p.result) ≡ true = ap not c.if-not-done.true in
     rw (inner asked, at-state a (rw (profile a c.profile-p.ensures) n)) c.refused-then-not-done.ensures
@@ -41,7 +41,7 @@ pub returns : goal.returns
 returns c =
     let values : let s = c.args in (c.aid_ok.result && (c.policy_ok.result && c.mark_ok.result)) ≡ (aid_ok s.aid.now && (policy_ok s.policy && mark_ok s.mark)) = rw (c.mark_ok.ensures, c.policy_ok.ensures, c.aid_ok.ensures) in
     let asked : let s = c.args in Sought s.card s.aid.now (finished s.policy s.mark) c.place_of.result = sought _ _ (finished c.args.policy c.args.mark) (asks values c.if-not-aid_ok-policy_ok.false) refl c.well_formed.0 c.place_of.ensures in
-    let aimed : let s = c.args in Aimed s.card s.aid.now (finished s.policy s.mark) c.in-At.t = asked.target c.in-At.is in
+    let aimed : let s = c.args in Aimed s.card s.aid.now (finished s.policy s.mark) c.in-Some.t = asked.target c.in-Some.is in
     let a = aimed in
     let t = profile a c.profile-p.ensures in
     let y : not (finishable c.profile-p.result) ≡ false = ap not c.if-not-done.false in

@@ -20,14 +20,14 @@ returns-in_default c =
 pub returns-then-p-ne-SELECTABLE : goal.returns-then-p-ne-SELECTABLE
 returns-then-p-ne-SELECTABLE c =
     let asked : let s = c.args in Sought s.card s.aid.now keyed c.place_of.result = sought _ _ keyed (asks c.aid_ok.ensures c.if-not-aid_ok.false) refl c.well_formed.0 c.place_of.ensures in
-    let aimed : let s = c.args in Aimed s.card s.aid.now keyed c.in-At.t = asked.target c.in-At.is in
+    let aimed : let s = c.args in Aimed s.card s.aid.now keyed c.in-Some.t = asked.target c.in-Some.is in
     let a = aimed in
     rw (inner asked, at-state a (rw (profile a c.profile-p.ensures) (ap not (ne_eqb _ selectable c.if-p-ne-SELECTABLE.true)))) c.refused-then-p-ne-SELECTABLE.ensures
 
 pub returns : goal.returns
 returns c =
     let asked : let s = c.args in Sought s.card s.aid.now keyed c.place_of.result = sought _ _ keyed (asks c.aid_ok.ensures c.if-not-aid_ok.false) refl c.well_formed.0 c.place_of.ensures in
-    let aimed : let s = c.args in Aimed s.card s.aid.now keyed c.in-At.t = asked.target c.in-At.is in
+    let aimed : let s = c.args in Aimed s.card s.aid.now keyed c.in-Some.t = asked.target c.in-Some.is in
     let a = aimed in
     let t = profile a c.profile-p.ensures in
     rw (inner asked)

@@ -25,14 +25,14 @@ returns-in_default c =
 pub returns-then-p-ne-PERSONALIZED : goal.returns-then-p-ne-PERSONALIZED
 returns-then-p-ne-PERSONALIZED c =
     let asked : let s = c.args in Sought s.card s.aid.now (stored s.n) c.place_of.result = sought _ _ (stored c.args.n) (asks c.aid_ok.ensures c.if-not-aid_ok.false) refl c.well_formed.0 c.place_of.ensures in
-    let aimed : let s = c.args in Aimed s.card s.aid.now (stored s.n) c.in-At.t = asked.target c.in-At.is in
+    let aimed : let s = c.args in Aimed s.card s.aid.now (stored s.n) c.in-Some.t = asked.target c.in-Some.is in
     let a = aimed in
     rw (inner asked, at-state a (rw (profile a c.profile-p.ensures) (ap not (ne_eqb _ personalized c.if-p-ne-PERSONALIZED.true)))) c.refused-then-p-ne-PERSONALIZED.ensures
 
 pub returns-then-not-has_room : goal.returns-then-not-has_room
 returns-then-not-has_room c =
     let asked : let s = c.args in Sought s.card s.aid.now (stored s.n) c.place_of.result = sought _ _ (stored c.args.n) (asks c.aid_ok.ensures c.if-not-aid_ok.false) refl c.well_formed.0 c.place_of.ensures in
-    let aimed : let s = c.args in Aimed s.card s.aid.now (stored s.n) c.in-At.t = asked.target c.in-At.is in
+    let aimed : let s = c.args in Aimed s.card s.aid.now (stored s.n) c.in-Some.t = asked.target c.in-Some.is in
     let t = profile aimed c.profile-p.ensures in
     rw (inner asked, at_room aimed (rw t (ap not (eq-eqb _ personalized c.if-p-ne-PERSONALIZED.false))) refl refl (rw t (asks c.has_room.ensures c.if-not-has_room.true))) c.refused-then-not-has_room.ensures
 
@@ -46,7 +46,7 @@ overflow_add-used c = let p = c.profile-p.result in
 pub returns : goal.returns
 returns c =
     let asked : let s = c.args in Sought s.card s.aid.now (stored s.n) c.place_of.result = sought _ _ (stored c.args.n) (asks c.aid_ok.ensures c.if-not-aid_ok.false) refl c.well_formed.0 c.place_of.ensures in
-    let aimed : let s = c.args in Aimed s.card s.aid.now (stored s.n) c.in-At.t = asked.target c.in-At.is in
+    let aimed : let s = c.args in Aimed s.card s.aid.now (stored s.n) c.in-Some.t = asked.target c.in-Some.is in
     let t = profile aimed c.profile-p.ensures in
     rw (inner asked)
     (steps-silently aimed (rw t (ap not (eq-eqb _ personalized c.if-p-ne-PERSONALIZED.false))) refl refl (rw t (asks c.has_room.ensures c.if-not-has_room.false))

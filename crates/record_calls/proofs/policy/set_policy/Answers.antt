@@ -32,7 +32,7 @@ pub returns-then-p-ne-ENABLED : goal.returns-then-p-ne-ENABLED
 returns-then-p-ne-ENABLED c =
     let values : let s = c.args in (c.aid_ok.result && c.policy_ok.result) ≡ (aid_ok s.speaker.now && policy_ok s.policy) = rw (c.policy_ok.ensures, c.aid_ok.ensures) in
     let asked : let s = c.args in Sought s.card s.speaker.now (set_policy s.policy) c.place_of.result = sought _ _ (set_policy c.args.policy) (asks values c.if-not-aid_ok-policy_ok.false) (asks c.is_quiet.ensures c.if-not-is_quiet.false) c.well_formed.0 c.place_of.ensures in
-    let aimed : let s = c.args in Aimed s.card s.speaker.now (set_policy s.policy) c.in-At.t = asked.target c.in-At.is in
+    let aimed : let s = c.args in Aimed s.card s.speaker.now (set_policy s.policy) c.in-Some.t = asked.target c.in-Some.is in
     let a = aimed in
     rw (inner asked, at-state a (rw (profile a c.profile-p.ensures) (ap not (ne_eqb _ enabled c.if-p-ne-ENABLED.true)))) c.refused-then-p-ne-ENABLED.ensures
 
@@ -40,7 +40,7 @@ pub returns : goal.returns
 returns c =
     let values : let s = c.args in (c.aid_ok.result && c.policy_ok.result) ≡ (aid_ok s.speaker.now && policy_ok s.policy) = rw (c.policy_ok.ensures, c.aid_ok.ensures) in
     let asked : let s = c.args in Sought s.card s.speaker.now (set_policy s.policy) c.place_of.result = sought _ _ (set_policy c.args.policy) (asks values c.if-not-aid_ok-policy_ok.false) (asks c.is_quiet.ensures c.if-not-is_quiet.false) c.well_formed.0 c.place_of.ensures in
-    let aimed : let s = c.args in Aimed s.card s.speaker.now (set_policy s.policy) c.in-At.t = asked.target c.in-At.is in
+    let aimed : let s = c.args in Aimed s.card s.speaker.now (set_policy s.policy) c.in-Some.t = asked.target c.in-Some.is in
     let a = aimed in
     let t = profile a c.profile-p.ensures in
     rw (inner asked)

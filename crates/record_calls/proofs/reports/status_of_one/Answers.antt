@@ -14,7 +14,7 @@ returns-in_default c =
 pub returns : goal.returns
 returns c =
     let asked : let s = c.args in Sought s.card s.aid.now (status s.life s.fallback) c.place_of.result = sought _ _ (status c.args.life c.args.fallback) refl refl c.well_formed.0 c.place_of.ensures in
-    let aimed : let s = c.args in Aimed s.card s.aid.now (status s.life s.fallback) c.in-At.t = asked.target c.in-At.is in
+    let aimed : let s = c.args in Aimed s.card s.aid.now (status s.life s.fallback) c.in-Some.t = asked.target c.in-Some.is in
     let a = aimed in
     let k = c.write_information-n.ensures.1 in
     steps-into a refl refl refl refl c.forgotten.ensures refl refl c.silently.ensures (rw a.place c.write_information-n.ensures.0) (rw a.place (omega arith))

@@ -1,34 +1,12 @@
--- `columns::lead` meets its contract: each exit names the tests that lead there.
-use mathlib.Core.Path.{refl}
-use native.Mathlib.Omega.{arith}
-use Rattle.base_choice.proofs.Branches.{lt!, nlt! }
-use Rattle.text_words.specs.Columns.{lead_of}
+-- `columns::lead` meets its contract: it counts the powers of ten above the number.
+use Rattle.std.proofs.Common.{rules, ◌∙◌, nat_lt}
+use borrow.Author.Tests.{tests}
+use Rattle.std.proofs.lemmas.Iterator.{YieldsList-from_slice}
+use Rattle.std.proofs.lemmas.Iterator.Consumers.{YieldsList-from_filter, count_from_yields_List}
+use Rattle.text_words.proofs.ColumnLaws.{powers, lead_counts}
 use Rattle.text_words.proofs.columns.lead.Goals as goal
 
-pub returns-then-n-lt10 : goal.returns-then-n-lt10
-unfolding lead_of
-returns-then-n-lt10 c = lt! _ (omega arith) refl
-
-pub returns-then-n-lt100 : goal.returns-then-n-lt100
-unfolding lead_of
-returns-then-n-lt100 c = nlt! _ (omega arith) (lt! _ (omega arith) refl)
-
-pub returns-then-n-lt1000 : goal.returns-then-n-lt1000
-unfolding lead_of
-returns-then-n-lt1000 c = nlt! _ (omega arith) (nlt! _ (omega arith) (lt! _ (omega arith) refl))
-
-pub returns-then-n-lt10000 : goal.returns-then-n-lt10000
-unfolding lead_of
-returns-then-n-lt10000 c = nlt! _ (omega arith) (nlt! _ (omega arith) (nlt! _ (omega arith) (lt! _ (omega arith) refl)))
-
-pub returns-then-n-lt100000 : goal.returns-then-n-lt100000
-unfolding lead_of
-returns-then-n-lt100000 c = nlt! _ (omega arith) (nlt! _ (omega arith) (nlt! _ (omega arith) (nlt! _ (omega arith) (lt! _ (omega arith) refl))))
-
-pub returns-then-n-lt1000000 : goal.returns-then-n-lt1000000
-unfolding lead_of
-returns-then-n-lt1000000 c = nlt! _ (omega arith) (nlt! _ (omega arith) (nlt! _ (omega arith) (nlt! _ (omega arith) (nlt! _ (omega arith) (lt! _ (omega arith) refl)))))
-
 pub returns : goal.returns
-unfolding lead_of
-returns c = nlt! _ (omega arith) (nlt! _ (omega arith) (nlt! _ (omega arith) (nlt! _ (omega arith) (nlt! _ (omega arith) (nlt! _ (omega arith) refl)))))
+returns c = count_from_yields_List _ _ c.count.ensures.ran
+    (YieldsList-from_filter _ (λ most. nat_lt c.args.n most) (YieldsList-from_slice powers (search rules)) c.filter.ensures.closure (λ x r q k. search (rules, tests)))
+    ∙ lead_counts c.args.n

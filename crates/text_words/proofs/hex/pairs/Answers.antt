@@ -1,7 +1,6 @@
 -- `hex::pairs` meets its contract. The loop keeps: what is left is pairs exactly where the whole is.
 use native.Mathlib.Omega.{arith}
 use mathlib.Core.Path.{ap}
-use Prim.Native.Nat.{◌-◌}
 use Rattle.text_words.specs.Hex.{pairs_of}
 use Rattle.text_words.proofs.HexLaws.{pairs_end, pairs-odd, pairs_first, pairs-second, pairs_next}
 use Rattle.base_bytes.proofs.Rest.{rest_all}

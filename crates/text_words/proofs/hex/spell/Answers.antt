@@ -1,7 +1,6 @@
 -- `hex::spell` meets its contract. The loop keeps: writing what is left, from here on, leaves what writing all leaves.
 use native.Mathlib.Omega.{arith}
 use mathlib.Core.Path.{refl}
-use Prim.Native.Nat.{◌-◌}
 use lib.ListN.{length-set}
 use Rattle.text_words.proofs.HexLaws.{spell_next, spell-end}
 use Rattle.base_bytes.proofs.Rest.{rest}

@@ -1,7 +1,6 @@
 -- `numbers::decimal` meets its contract. The loop keeps: the digits left, after the value so far, spell what the whole spells.
 use native.Mathlib.Omega.{arith}
 use mathlib.Core.Path.{sym, ap, ◌∙◌}
-use Prim.Native.Nat.{◌-◌}
 use Rattle.text_words.specs.Numbers.{digits_on}
 use Rattle.text_words.proofs.NumberLaws.{decimal-none, decimal-some, digits-end, digits_low, digits-high, digits-much, digits-next}
 use Rattle.base_bytes.proofs.Rest.{rest_all}

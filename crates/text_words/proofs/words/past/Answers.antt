@@ -1,6 +1,5 @@
 -- `words::past` meets its contract. The loop keeps: the place and the count still ahead of it make the answer.
 use native.Mathlib.Omega.{arith}
-use Prim.Native.Nat.{◌-◌}
 use Rattle.text_words.proofs.WordLaws.{leading-hit, leading-miss, leading_end}
 use Rattle.text_words.proofs.words.past.Goals as goal
 

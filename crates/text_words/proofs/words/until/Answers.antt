@@ -1,6 +1,5 @@
 -- `words::until` meets its contract. The loop keeps: the place and the count still ahead of it make the answer.
 use native.Mathlib.Omega.{arith}
-use Prim.Native.Nat.{◌-◌}
 use Rattle.text_words.proofs.WordLaws.{before-hit, before-miss, before-end}
 use Rattle.text_words.proofs.words.until.Goals as goal
 

@@ -1,38 +1,22 @@
--- `writing::fill_hex` meets its contract. The loop keeps: writing what is left, from here on, leaves what writing all leaves.
+-- `writing::fill_hex` meets its contract: the part begins with the digits of the bytes so far.
 use native.Mathlib.Omega.{arith}
-use native.Mathlib.Numerals.{unary_clauses}
-use mathlib.Core.Path.{refl}
-use Prim.Native.Nat.{◌-◌}
+use mathlib.Core.Path.{refl, sym, ap, ◌∙◌}
+use Prim.Native.Nat.{◌*◌}
 use lib.ListN.{length-set}
-use Rattle.text_words.proofs.HexLaws.{fill-next, fill_end}
-use Rattle.base_bytes.proofs.Rest.{rest}
+use lib.Seq.{take_all}
+use Rattle.text_words.specs.Hex.{hex_text}
+use Rattle.text_words.proofs.HexLaws.{fill_turn}
 use Rattle.text_words.proofs.writing.fill_hex.Goals as goal
 
 pub loop-i-init : goal.loop-i-init
-unfolding rest
-loop-i-init c = (omega arith, (refl, simp unary_clauses refl))
-
-pub overflow_mul-buf : goal.overflow_mul-buf
-overflow_mul-buf c = omega arith
-
-pub overflow_add-buf : goal.overflow_add-buf
-overflow_add-buf c = omega arith
-
-pub bounds-buf-at : goal.bounds-buf-at
-bounds-buf-at c = omega arith
-
-pub bounds-buf-at-in-loop-i : goal.bounds-buf-at-in-loop-i
-bounds-buf-at-in-loop-i c = simp length-set (omega arith)
-
-pub overflow_add-i : goal.overflow_add-i
-overflow_add-i c = omega arith
+unfolding hex_text
+loop-i-init c = (omega arith, refl)
 
 pub loop-i-preserved : goal.loop-i-preserved
 loop-i-preserved c = let l = c.loop-i in
-    (omega arith, (simp length-set l.invariant.1.0, fill-next _ _ _ _ _ l.invariant.1.1 _ _ c.glyph.ensures c.glyph-in-loop-i.ensures (omega arith)))
-
-pub shape_of-buf : goal.shape_of-buf
-shape_of-buf c = c.loop-i.invariant.1.0
+    (simp length-set l.invariant.0, fill_turn _ _ _ _ _ l.invariant.1 c.glyph.ensures c.glyph-in-loop-i.ensures (omega arith) (omega arith))
 
 pub returns : goal.returns
-returns c = fill_end _ _ _ _ _ c.loop-i.invariant.1.1 (omega arith)
+returns c = let l = c.loop-i in
+    let s = c.args.s.now in
+    sym (take_all (l.i * 2) l.room (omega arith)) ∙ l.invariant.1 ∙ ap hex_text (take_all l.i s (omega arith))

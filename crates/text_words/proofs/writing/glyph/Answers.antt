@@ -9,6 +9,6 @@ pub returns-then-d-lt10 : goal.returns-then-d-lt10
 unfolding glyph_of
 returns-then-d-lt10 c = lt! _ (omega arith) refl
 
-pub returns : goal.returns
+pub returns-else-d-lt10 : goal.returns-else-d-lt10
 unfolding glyph_of
-returns c = nlt! _ (omega arith) refl
+returns-else-d-lt10 c = nlt! _ (omega arith) refl
