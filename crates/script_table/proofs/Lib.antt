@@ -2,4 +2,3 @@
 pub mod Pieces
 pub mod Lengths
 pub mod Columns
-pub mod Writing

@@ -3,7 +3,6 @@
 #![tactic(auto)]
 
 mod cells;
-pub mod stub;
 
 ghost use Rattle.std.specs.Prelude.{◌≡◌, ◌≤◌, length};
 ghost use Rattle.base_bytes.specs.Put.{Written};
@@ -15,7 +14,8 @@ use card_isdp::Isdp;
 use card_places::PLACES;
 use card_record::Card;
 use cells::{aid_size, put_policy, put_provisioning, put_state, put_yes};
-use stub::{put_aid, put_column, put_spaces};
+use text_aid::out::put_aid;
+use text_words::out::{put_column, put_spaces};
 
 // The AID stands in a column as wide as the widest.
 fn put_name_cells(out: &mut Writer, p: &Isdp, place: usize, widest: u8)

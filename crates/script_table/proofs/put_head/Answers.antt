@@ -2,7 +2,7 @@
 use borrow.Author.Rules.{rules}
 use native.Mathlib.Omega.{arith}
 use Rattle.script_table.specs.Profiles.{table_head}
-use Rattle.script_table.proofs.Writing.{writing}
+use Rattle.text_words.proofs.TextLaws.{writing}
 use Rattle.script_table.proofs.put_head.Goals as goal
 
 pub returns-then-widest-eq0 : goal.returns-then-widest-eq0

@@ -2,7 +2,7 @@
 use borrow.Author.Rules.{rules}
 use native.Mathlib.Omega.{arith}
 use Rattle.script_table.specs.Profiles.{name_cells}
-use Rattle.script_table.proofs.Writing.{writing}
+use Rattle.text_words.proofs.TextLaws.{writing}
 use Rattle.script_table.proofs.put_name_cells.Goals as goal
 
 pub returns : goal.returns

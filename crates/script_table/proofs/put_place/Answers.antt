@@ -2,7 +2,7 @@
 use borrow.Author.Rules.{rules}
 use native.Mathlib.Omega.{arith}
 use Rattle.script_table.specs.Profiles.{place_text, row_text}
-use Rattle.script_table.proofs.Writing.{writing}
+use Rattle.text_words.proofs.TextLaws.{writing}
 use Rattle.script_table.proofs.put_place.Goals as goal
 
 pub returns-then-p-ne0 : goal.returns-then-p-ne0

@@ -1,5 +1,4 @@
 -- `script_table::put_rows`: one row more.
-use borrow.Author.Rules.{rules}
 use native.Mathlib.Omega.{arith}
 use mathlib.Core.Path.{ap, sym}
 use Rattle.std.proofs.lemmas.List.{take_all}

@@ -2,7 +2,7 @@
 use borrow.Author.Rules.{rules}
 use native.Mathlib.Omega.{arith}
 use Rattle.script_table.specs.Profiles.{provisioning_text}
-use Rattle.script_table.proofs.Writing.{writing}
+use Rattle.text_words.proofs.TextLaws.{writing}
 use Rattle.script_table.proofs.cells.put_provisioning.Goals as goal
 
 pub returns-then-mark-gt1 : goal.returns-then-mark-gt1

@@ -2,7 +2,7 @@
 use borrow.Author.Rules.{rules}
 use native.Mathlib.Omega.{arith}
 use Rattle.script_table.specs.Profiles.{state_text}
-use Rattle.script_table.proofs.Writing.{writing}
+use Rattle.text_words.proofs.TextLaws.{writing}
 use Rattle.script_table.proofs.cells.put_state.Goals as goal
 
 pub returns-in_default : goal.returns-in_default

@@ -1,5 +1,5 @@
 -- `cells::put_yes`: the test tells which word it is, and the spaces follow it.
-use Rattle.base_bytes.proofs.PutLaws.{written_as, written_then}
+use Rattle.base_bytes.proofs.PutLaws.{written_then}
 use Rattle.base_choice.specs.Choice.{pick}
 use Rattle.script_table.specs.Profiles.{yes_text}
 use Rattle.script_table.proofs.cells.put_yes.Goals as goal
