@@ -207,5 +207,9 @@ written_then p q = record { lent = q.lent ∙ p.lent; wrote = wrote_then p.wrote
 pub written_none : (w : Writer) → Written w [] w
 written_none w = record { lent = refl; wrote = wrote_none w.buf.now w.at }
 
+-- what a writer that was made for a buffer left there
+pub wrote_by : {l m xs : List ℕ} {at : ℕ} {w v : Writer} → (w.buf.now ≡ l) × (w.at ≡ at) → m ≡ v.buf.now → Written w xs v → Wrote l at xs v.at m
+wrote_by {xs} {v} e f p = rw (f, sym e.0, sym e.1) p.wrote
+
 pub written_as : {w v : Writer} {xs : List ℕ} (ys : List ℕ) → xs ≡ ys → Written w xs v → Written w ys v
 written_as ys e p = record { lent = p.lent; wrote = wrote_as ys e p.wrote }

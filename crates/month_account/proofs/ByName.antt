@@ -4,9 +4,8 @@ use mathlib.Core.Path.{◌≡◌, refl, ◌∙◌}
 use mathlib.Core.List.{List}
 use mathlib.Core.Bool.{true, false}
 use Rattle.base_choice.specs.Choice.{pick}
-use Rattle.month_file.specs.File.{verdict_of}
+use Rattle.month_file.specs.File.{Verdict.Refused, verdict_of}
 use Rattle.month_file.specs.declared.Refusal.{Refusal}
-use Rattle.month_file.specs.declared.Verdict.TheVariants.{Refused}
 use Rattle.month_account.specs.Refusals.{line_text, refusal_text}
 use Rattle.month_account.specs.Account.{account_text}
 use Rattle.month_account.specs.ByName.{RefusedByName}

@@ -1,8 +1,6 @@
 -- docs/EVENTS.md: what is written of a file: the refusal, or the report of what was counted.
 use Rattle.std.specs.Prelude.{ℕ, List, Bool}
-use Rattle.month_file.specs.File.{verdict_of}
-use Rattle.month_file.specs.declared.Verdict.{Verdict}
-use Rattle.month_file.specs.declared.Verdict.TheVariants.{Accepted, Refused}
+use Rattle.month_file.specs.File.{Verdict, Verdict.Accepted, Verdict.Refused, verdict_of}
 use Rattle.month_count.specs.Month.{Counted, file_counted}
 use Rattle.month_report.specs.Report.{report_text, most_report}
 use Rattle.month_account.specs.Refusals.{refusal_text}

@@ -2,10 +2,9 @@
 -- it. The names stand here a second time, so that the code and its definition cannot trade or spoil one together.
 use Rattle.std.specs.Prelude.{ℕ, ◌≡◌, List, ◌++◌, true, false}
 use Rattle.text_words.specs.Letters.{text}
-use Rattle.month_file.specs.File.{verdict_of}
+use Rattle.month_file.specs.File.{Verdict.Refused, verdict_of}
 use Rattle.month_file.specs.declared.Refusal.{Refusal}
 use Rattle.month_file.specs.declared.Refusal.TheVariants.{ContentsWrong, SectionMissing, FreshBad, CutShort, UnknownKind, WrongLength}
-use Rattle.month_file.specs.declared.Verdict.TheVariants.{Refused}
 use Rattle.month_account.specs.Account.{account_text}
 
 -- the one line of the plain form; and for a person that line, what it means, and that nothing was counted

@@ -9,7 +9,6 @@ ghost use Rattle.base_bytes.specs.Put.{Wrote};
 ghost use Rattle.month_account.specs.Account.{account_text, most_account};
 
 use month_count::count_month;
-use month_file::Verdict;
 use month_report::write_report;
 use month_tally::MINUTES;
 use refusals::write_refusal;
@@ -19,13 +18,8 @@ pub fn write_month(s: &[u8], explain: bool, out: &mut [u8], at: usize) -> usize
     ensures { Wrote out.old at (account_text explain s.now) result out.new × (length (account_text explain s.now) ≤ most_account) }
 {
     let mut minutes = [0u32; MINUTES];
-    let month = count_month(s, &mut minutes);
-    let verdict = month.verdict;
-    match verdict {
-        Verdict::Refused(refusal) => write_refusal(explain, refusal, out, at),
-        Verdict::Accepted => {
-            let tally = month.tally;
-            write_report(explain, tally, &minutes, out, at)
-        }
+    match count_month(s, &mut minutes) {
+        Ok(tally) => write_report(explain, tally, &minutes, out, at),
+        Err(refusal) => write_refusal(explain, refusal, out, at),
     }
 }

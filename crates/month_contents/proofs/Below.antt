@@ -1,12 +1,26 @@
 -- Laws of the numbers below a bound, for any test and any figure: one turn and the end of each loop over them, and what a sum or a
 -- count says of its parts. Each is an induction over the bound. Assumes nothing.
-use mathlib.Core.Path.{◌≡◌, refl, sym, ◌∙◌}
+use mathlib.Core.Path.{◌≡◌, refl, sym, ap, ◌∙◌}
 use Prim.Native.Nat.{ℕ, zero, suc, ◌+◌, ◌-◌, ◌≤◌, ◌<◌, min}
 use native.Mathlib.Numerals.{add-one}
 use native.Mathlib.Omega.{arith}
 use mathlib.Core.Bool.{Bool, true, false, cond, ◌&&◌, ◌||◌, or-true, true≢false}
 use lib.Dec.{leb, ltb}
 use borrow.Author.Tests.{le-leb, lt-leb, lt-ltb, le-ltb}
+use mathlib.Core.List.{[], ◌∷◌, ◌++◌}
+use Rattle.std.proofs.Math.Bool.{or-false}
+use Rattle.std.specs.declared.ops.Range.{Range}
+use denote.Param.Members.{Mut}
+use denote.Ref.{Bor}
+use Rattle.std.specs.Prelude.{Option, Some, None}
+use Rattle.std.specs.Fn.{Called, CalledAt}
+use Rattle.std.specs.Iterator.{ChecksAny, FindsItem}
+use Rattle.std.specs.Option.{MatchOption}
+use Rattle.std.specs.List.{list_any, range_with_len}
+use Rattle.std.proofs.iter.Yields.{nat_range_steps}
+use Rattle.std.proofs.lemmas.Iterator.{YieldsList-from_range, first_from_Range}
+use Rattle.std.proofs.lemmas.Iterator.Search.{any_from_yields_List}
+use Rattle.std.proofs.lemmas.List.Folds.{list_any-append}
 use Rattle.base_choice.proofs.Branches.{on_test, on-lt}
 use Rattle.month_contents.specs.Below.{some_below, first_below, sum_below, count_below}
 
@@ -28,9 +42,26 @@ pub some_next : (n : ℕ) (t : ℕ → Bool) → some_below n t ≡ false → t 
 unfolding some_below
 some_next n t e f = rw (add-one, e, f)
 
--- a search that has come to its end
-pub some_end : (i n : ℕ) (t : ℕ → Bool) → i ≤ n → n ≤ i → some_below i t ≡ false → false ≡ some_below n t
-some_end i n t h k e = let q : n ≡ i = omega arith in rw q (sym e)
+-- the numbers below a bound as the list that a range gives
+below-list : (a n : ℕ) → range_with_len a (suc n) ≡ range_with_len a n ++ (a + n) ∷ []
+below-list a zero = ap (λ (k : ℕ). k ∷ []) (omega arith)
+below-list a (suc n) = rw (below-list (a + 1) n) (ap (λ (k : ℕ). a ∷ range_with_len (a + 1) n ++ k ∷ []) (omega arith))
+
+any-some : (t : ℕ → Bool) (n : ℕ) → list_any t (range_with_len 0 n) ≡ some_below n t
+unfolding some_below
+any-some t zero = refl
+any-some t (suc n) =
+    ap (list_any t) (below-list 0 n)
+    ∙ list_any-append t (range_with_len 0 n) ((0 + n) ∷ [])
+    ∙ rw (any-some t n, or-false (t (0 + n))) (ap (λ (k : ℕ). some_below n t || t k) (omega arith))
+
+-- what `any` answers over a range whose items are asked a test
+pub some-any : {F : Type 0} {g : Mut F (ℕ × Unit {0}) Bool} {s : Range ℕ} (n : ℕ) (t : ℕ → Bool) (u : Range ℕ) (f : F) (r : Bool)
+    → ChecksAny nat_range_steps g s f r u
+    → s ≡ record { start = 0; end = n }
+    → ((x : ℕ) (b : Bool) (q : F) → Called g f (x, tt) b q → (q ≡ f) × (b ≡ t x))
+    → r ≡ some_below n t
+some-any n t u f r h e k = any_from_yields_List t u f r h (YieldsList-from_range 0 n n e (omega arith)) k ∙ any-some t n
 
 -- below n + 1 is below n, or n
 last-is : (i n : ℕ) → i < suc n → n ≤ i → n ≡ i
@@ -60,6 +91,33 @@ pub first-none : (n : ℕ) (t : ℕ → Bool) → some_below n t ≡ false → f
 unfolding some_below first_below
 first-none zero t f = refl
 first-none (suc n) t f = rw (neither-l (some_below n t) (t n) f, neither-r (some_below n t) (t n) f)
+
+none-below : (n : ℕ) (t : ℕ → Bool) → ((i : ℕ) → i < n → t i ≡ false) → some_below n t ≡ false
+unfolding some_below
+none-below zero t h = refl
+none-below (suc n) t h = rw (none-below n t (λ i k. h i (omega arith)), h n (omega arith))
+
+-- the first below a bound, if there is one
+abbrev pub found_below : ℕ → (ℕ → Bool) → Option ℕ
+found_below n t = cond (ltb (first_below n t) n) (Some (first_below n t)) None
+
+first-case : (a b n : ℕ) (t : ℕ → Bool) (r : Option ℕ) → a ≡ 0 → b ≡ n
+    → MatchOption r ((k : ℕ) → a ≤ k → k < b → t k ≡ false) (λ i. (a ≤ i) × (i < b) × (t i ≡ true) × ((k : ℕ) → a ≤ k → k < i → t k ≡ false))
+    → r ≡ found_below n t
+first-case a b n t None p q h = rw (first-none n t (none-below n t (λ k l. h k (omega arith) (omega arith))), le-ltb n n (omega arith))
+first-case a b n t (Some i) p q h =
+    let l : i < n = omega (arith, h.1) in
+    rw (first-hit t i h.2 n (none-below i t (λ k m. h.3 k (omega arith) m)) l, lt-ltb i n l)
+
+-- what `find` answers over a range whose items are asked a test
+pub first-find : {F : Type 0} {g : Mut F (Bor ℕ × Unit {0}) Bool} {s : Range ℕ} (n : ℕ) (t : ℕ → Bool) (u : Range ℕ) (f : F) (r : Option ℕ)
+    → FindsItem nat_range_steps g s f r u
+    → s ≡ record { start = 0; end = n }
+    → ((x : ℕ) (b : Bool) (q : F) → CalledAt g f x b q → (q ≡ f) × (b ≡ t x))
+    → r ≡ found_below n t
+first-find {s = s} n t u f r h e k =
+    first-case s.start s.end n t r (ap (λ (x : Range ℕ). x.start) e) (ap (λ (x : Range ℕ). x.end) e)
+    (first_from_Range s u f r (λ i. t i ≡ true) (λ i. t i ≡ false) h (λ x q z. sym (k x true q z).1) (λ x q z. ((k x false q z).0, sym (k x false q z).1)))
 
 -- where some passes, the first that does is below the bound, and passes
 pub first-is : (n : ℕ) (t : ℕ → Bool) → some_below n t ≡ true → (first_below n t < n) × (t (first_below n t) ≡ true)

@@ -2,6 +2,7 @@
 -- contents with these numbers are so read. The two known kinds leave room for two entries; the lengths fill the file, so one body
 -- begins at the end of the contents and the other where it ends. Assumes nothing.
 use mathlib.Core.Path.{◌≡◌, refl, sym, ap, subst, ◌∙◌}
+use Rattle.std.specs.Prelude.{Some, None}
 use Prim.Native.Nat.{ℕ, zero, suc, ◌+◌, ◌≤◌, ◌<◌}
 use native.Mathlib.Omega.{arith}
 use mathlib.Core.Logic.{◌⊎◌, inl, inr, ⊎_elim, ⊎_swap}
@@ -14,7 +15,6 @@ use Rattle.base_choice.proofs.Branches.{on-lt, on-eq}
 use Rattle.base_bytes.specs.declared.Part.{Part}
 use Rattle.month_contents.specs.Below.{sum_below}
 use Rattle.month_contents.specs.Contents.{most_file, is_known, sections, kind_at, start_at, body_length, kind_wrong, body_wrong, of_kind, section_place, contents_wrong, section_of}
-use Rattle.month_contents.specs.declared.Section.TheVariants.{Body, Missing}
 use Rattle.month_contents.proofs.Below.{some-none, some_next, first_passes}
 use Rattle.month_contents.proofs.Ends.{section-hit}
 use Rattle.month_contents.proofs.Refusals.{Passed, passed, not-wrong}
@@ -45,14 +45,14 @@ pub record TwoSections (s : List ℕ) (a b : Part) : Type 0 where
 
 -- the section that is found is the body of some entry of its kind
 found-case : (s : List ℕ) (kind : ℕ) (part : Part) (c : Bool) → ltb (section_place s kind) (sections s) ≡ c
-    → cond c (Body (record { start = start_at s (section_place s kind); len = body_length s (section_place s kind) })) Missing ≡ Body part
+    → cond c (Some (record { start = start_at s (section_place s kind); len = body_length s (section_place s kind) })) None ≡ Some part
     → (section_place s kind < sections s) × Entry s (section_place s kind) kind part
 found-case s kind part true e q =
     let h = ltb-true (section_place s kind) (sections s) e in
     (h, record { kind-is = eqb-true (kind_at s (section_place s kind)) kind (first_passes (sections s) (of_kind s kind) h); start_is = cc; length-is = cc })
 found-case s kind part false e q = let z : ◌≡◌ {A = ℕ} 0 1 = cc in absurd (omega arith)
 
-pub section-found : (s : List ℕ) (kind : ℕ) (part : Part) → section_of s kind ≡ Body part → (section_place s kind < sections s) × Entry s (section_place s kind) kind part
+pub section-found : (s : List ℕ) (kind : ℕ) (part : Part) → section_of s kind ≡ Some part → (section_place s kind < sections s) × Entry s (section_place s kind) kind part
 unfolding section_of
 section-found s kind part e = found-case s kind part (ltb (section_place s kind) (sections s)) refl e
 
@@ -103,7 +103,7 @@ module _ (s : List ℕ) (p : Passed s) (kind : ℕ) (part : Part) (kind' : ℕ) 
 entry-as : (s : List ℕ) (i j kind : ℕ) (part : Part) → i ≡ j → Entry s i kind part → Entry s j kind part
 entry-as s i j kind part e = subst (λ (k : ℕ). Entry s k kind part) e
 
-pub two-sections : (s : List ℕ) (a b : Part) → contents_wrong s ≡ false → section_of s 1 ≡ Body a → section_of s 2 ≡ Body b → TwoSections s a b
+pub two-sections : (s : List ℕ) (a b : Part) → contents_wrong s ≡ false → section_of s 1 ≡ Some a → section_of s 2 ≡ Some b → TwoSections s a b
 two-sections s a b e f g =
     let p = passed s e in
     let m = at_most_two s p in
@@ -125,14 +125,14 @@ two-sections s a b e f g =
 
 -- the other way round: contents with these numbers are not wrong, and both sections are found
 module _ (s : List ℕ) (kind : ℕ) (part : Part) (kind' : ℕ) (part' : Part) (l : Lists s kind part kind' part') where
-  pub first_found : section_of s kind ≡ Body part
+  pub first_found : section_of s kind ≡ Some part
   first_found =
       let t = l.two in
       sym (section-hit s kind 0 (some-none (of_kind s kind)) (eq-eqb (kind_at s 0) kind l.entry-0.kind-is) (omega arith))
       ∙ rw (l.entry-0.start_is, l.entry-0.length-is)
 
   module _ (d : kind ≡ kind' → ⊥) where
-    pub second-found : section_of s kind' ≡ Body part'
+    pub second-found : section_of s kind' ≡ Some part'
     second-found =
         let t = l.two in
         let none = some_next 0 (of_kind s kind') (some-none (of_kind s kind')) (ne_eqb (kind_at s 0) kind' (λ q. d (sym l.entry-0.kind-is ∙ q))) in
@@ -179,8 +179,8 @@ module _ (s : List ℕ) (kind : ℕ) (part : Part) (kind' : ℕ) (part' : Part) 
 -- contents that are so listed and laid are accepted, and both bodies found
 pub record Accepted (s : List ℕ) (a b : Part) : Type 0 where
   pub right : contents_wrong s ≡ false
-  pub fresh-found : section_of s 1 ≡ Body a
-  pub events-found : section_of s 2 ≡ Body b
+  pub fresh-found : section_of s 1 ≡ Some a
+  pub events-found : section_of s 2 ≡ Some b
 
 pub two-accepted : (s : List ℕ) (a b : Part) → TwoSections s a b → length s ≤ most_file → Accepted s a b
 two-accepted s a b t m =

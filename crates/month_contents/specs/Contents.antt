@@ -1,10 +1,9 @@
 -- docs/EVENTS.md, 'The file': "count (4 bytes), for each section: kind, start, length (4 bytes each), the bodies"; 'What is refused':
 -- `contents wrong`. Entries are told by their number, from 0. Starts and stops are numbers that do not wrap.
-use Rattle.std.specs.Prelude.{ℕ, ◌+◌, ◌*◌, List, Bool, not, cond, ◌||◌, length, leb, ltb, eqb}
+use Rattle.std.specs.Prelude.{ℕ, ◌+◌, ◌*◌, List, Bool, not, cond, ◌||◌, length, leb, ltb, eqb, Option, Some, None}
 use Rattle.base_bytes.specs.Bytes.{four_at}
+use Rattle.base_bytes.specs.declared.Part.{Part}
 use Rattle.month_contents.specs.Below.{some_below, first_below, sum_below}
-use Rattle.month_contents.specs.declared.Section.{Section}
-use Rattle.month_contents.specs.declared.Section.TheVariants.{Body, Missing}
 
 -- "A file has at most 65,536 bytes." (decision B44)
 abbrev pub most_file : ℕ
@@ -89,8 +88,8 @@ of_kind s kind i = eqb (kind_at s i) kind
 abbrev pub section_place : List ℕ → ℕ → ℕ
 section_place s kind = first_below (sections s) (of_kind s kind)
 
-unfoldable pub section_of : List ℕ → ℕ → Section
+unfoldable pub section_of : List ℕ → ℕ → Option Part
 section_of s kind =
     cond (ltb (section_place s kind) (sections s))
-    (Body (record { start = start_at s (section_place s kind); len = body_length s (section_place s kind) }))
-    Missing
+    (Some (record { start = start_at s (section_place s kind); len = body_length s (section_place s kind) }))
+    None

@@ -1,11 +1,10 @@
 -- Small files, and whether their contents are wrong: a file for each sentence of docs/EVENTS.md, 'The file' and `contents wrong`.
 -- Where the contents list two sections the bodies begin at 28. The proof is by computing: proofs/Examples.antt.
-use Rattle.std.specs.Prelude.{ℕ, ◌≡◌, List, [], ◌∷◌, ◌++◌, true, false}
+use Rattle.std.specs.Prelude.{ℕ, ◌≡◌, List, [], ◌∷◌, ◌++◌, true, false, Some, None}
 use Rattle.base_bytes.specs.Bytes.{four_bytes}
 use Rattle.month_contents.specs.Contents.{contents_wrong, section_of}
 use Rattle.month_contents.specs.Statements.{Laid}
 use Rattle.month_contents.specs.Written.{entry, two_sections}
-use Rattle.month_contents.specs.declared.Section.TheVariants.{Body, Missing}
 
 abbrev pub three : List ℕ
 three = 0xA1 ∷ 0xA2 ∷ 0xA3 ∷ []
@@ -46,9 +45,9 @@ pub record ContentsExamples : Type 0 where
   pub cut : contents_wrong (four_bytes 2 ++ entry 1 28 0) ≡ true
   pub most-sections : contents_wrong (four_bytes 4294967295) ≡ true
   -- where a section lies
-  pub found : section_of (two_sections (entry 2 30 1) (entry 1 28 2) three) 1 ≡ Body (record { start = 28; len = 2 })
-  pub found_first : section_of (two_sections (entry 2 30 1) (entry 1 28 2) three) 2 ≡ Body (record { start = 30; len = 1 })
-  pub missing : section_of (four_bytes 1 ++ entry 2 16 3 ++ three) 1 ≡ Missing
+  pub found : section_of (two_sections (entry 2 30 1) (entry 1 28 2) three) 1 ≡ Some (record { start = 28; len = 2 })
+  pub found_first : section_of (two_sections (entry 2 30 1) (entry 1 28 2) three) 2 ≡ Some (record { start = 30; len = 1 })
+  pub missing : section_of (four_bytes 1 ++ entry 2 16 3 ++ three) 1 ≡ None
 
 -- some file is laid as the statements have it
 abbrev pub LaidMet : Type 0

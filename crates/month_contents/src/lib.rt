@@ -16,13 +16,6 @@ pub const FRESH: u32 = 1;
 
 pub const EVENTS: u32 = 2;
 
-// A section of the file: where its body lies, or that the contents do not list it.
-#[derive(Clone, Copy)]
-pub enum Section {
-    Body(Part),
-    Missing,
-}
-
 fn is_known(kind: u32) -> bool
     ensures { result ≡ is_known kind }
 {
@@ -95,14 +88,7 @@ fn same_kind(s: &[u8], i: u32, j: u32) -> bool
 fn listed_before(s: &[u8], i: u32) -> bool
     ensures { result ≡ some_below i (same_kind s.now i) }
 {
-    let mut j = 0;
-    while j < i {
-        if same_kind(s, i, j) {
-            return true;
-        }
-        j += 1;
-    }
-    false
+    (0..i).any(|j| same_kind(s, i, j))
 }
 
 fn kind_wrong(s: &[u8], i: u32) -> bool
@@ -117,15 +103,7 @@ fn kind_wrong(s: &[u8], i: u32) -> bool
 fn some_kind_wrong(s: &[u8]) -> bool
     ensures { result ≡ some_below (sections s.now) (kind_wrong s.now) }
 {
-    let count = sections(s);
-    let mut i = 0;
-    while i < count {
-        if kind_wrong(s, i) {
-            return true;
-        }
-        i += 1;
-    }
-    false
+    (0..sections(s)).any(|i| kind_wrong(s, i))
 }
 
 // Does one of two bodies end where the other begins, or before? The other is from `begin` to `end`.
@@ -149,14 +127,7 @@ fn overlaps(s: &[u8], i: u32, j: u32) -> bool
 fn overlaps_before(s: &[u8], i: u32) -> bool
     ensures { result ≡ some_below i (overlap s.now i) }
 {
-    let mut j = 0;
-    while j < i {
-        if overlaps(s, i, j) {
-            return true;
-        }
-        j += 1;
-    }
-    false
+    (0..i).any(|j| overlaps(s, i, j))
 }
 
 fn body_wrong(s: &[u8], i: u32) -> bool
@@ -172,15 +143,7 @@ fn body_wrong(s: &[u8], i: u32) -> bool
 fn some_body_wrong(s: &[u8]) -> bool
     ensures { result ≡ some_below (sections s.now) (body_wrong s.now) }
 {
-    let count = sections(s);
-    let mut i = 0;
-    while i < count {
-        if body_wrong(s, i) {
-            return true;
-        }
-        i += 1;
-    }
-    false
+    (0..sections(s)).any(|i| body_wrong(s, i))
 }
 
 // Do the bodies' lengths miss the end of the file? Each is taken off what is left, since their sum could pass 64 bits.
@@ -191,16 +154,13 @@ fn not_filled(s: &[u8]) -> bool
     if s.len() < end {
         return true;
     }
-    let count = sections(s);
     let mut left = s.len() - end;
-    let mut i = 0;
-    while i < count {
+    for i in 0..sections(s) {
         let length = body_length(s, i);
         if left < length {
             return true;
         }
         left -= length;
-        i += 1;
     }
     left != 0
 }
@@ -227,19 +187,13 @@ pub fn contents_wrong(s: &[u8]) -> bool
     not_filled(s)
 }
 
-// The first section of a kind. It is asked of contents that are not wrong: there a search is as long as there are kinds.
-pub fn section_of(s: &[u8], kind: u32) -> Section
+// Where the body of the first section of a kind lies, if one is listed. It is asked of contents that are not wrong: there a search is as long as there are kinds.
+pub fn section_of(s: &[u8], kind: u32) -> Option<Part>
     ensures { result ≡ section_of s.now kind }
 {
-    let count = sections(s);
-    let mut i = 0;
-    while i < count {
-        if kind_at(s, i) == kind {
-            let start = start_at(s, i);
-            let len = body_length(s, i);
-            return Section::Body(Part { start, len });
-        }
-        i += 1;
-    }
-    Section::Missing
+    let i = (0..sections(s)).find(|i| kind_at(s, *i) == kind)?;
+    Some(Part {
+        start: start_at(s, i),
+        len: body_length(s, i),
+    })
 }

@@ -1,6 +1,6 @@
 -- docs/EVENTS.md, 'The report': "Each event is answered by the manager, in order, on the card then reached .. A refused event counts as an
 -- event. A tick counts for the profile that is enabled before it".
-use Rattle.std.specs.Prelude.{ℕ, ◌+◌, List, [], ◌∷◌, cond}
+use Rattle.std.specs.Prelude.{ℕ, ◌+◌, List, [], ◌∷◌, cond, Result, Ok, Err}
 use Rattle.base_status.specs.StatusWords.{is_done}
 use Rattle.card_record.specs.Cards.{enabled_aid}
 use Rattle.card_record.specs.Answers.{Outcome}
@@ -11,11 +11,9 @@ use Rattle.rule_run.specs.Runs.{is_tick}
 use Rattle.month_tally.specs.Lines.{line_of, no_names, noted, no_minutes, minute_on}
 use Rattle.month_tally.specs.declared.Tally.{Tally}
 use Rattle.month_file.specs.Inputs.{fresh_answer}
-use Rattle.month_file.specs.File.{body_of, file_calls, verdict_of}
-use Rattle.month_file.specs.declared.Verdict.{Verdict}
-use Rattle.month_file.specs.declared.Verdict.TheVariants.{Accepted, Refused}
+use Rattle.month_file.specs.File.{body_of, file_calls, Verdict, Verdict.Accepted, Verdict.Refused, verdict_of}
+use Rattle.month_file.specs.declared.Refusal.{Refusal}
 use Rattle.month_contents.specs.Contents.{fresh_kind}
-use Rattle.month_count.specs.declared.Month.{Month}
 
 -- what is counted: the tally, and the minutes of each line and of the rest
 pub record Counted : Type 0 where
@@ -70,6 +68,10 @@ counted_by (Refused r) s = nothing
 abbrev pub file_counted : List ℕ → Counted
 file_counted s = counted_by (verdict_of s) s
 
--- the verdict, and the tally; the minutes are told beside them
-abbrev pub file_month : List ℕ → Month
-file_month s = record { verdict = verdict_of s; tally = (file_counted s).tally }
+-- the tally, or by which name the file is refused; the minutes are told beside it
+abbrev pub month_by : Verdict → Counted → Result Tally Refusal
+month_by Accepted k = Ok k.tally
+month_by (Refused r) k = Err r
+
+abbrev pub file_month : List ℕ → Result Tally Refusal
+file_month s = month_by (verdict_of s) (file_counted s)

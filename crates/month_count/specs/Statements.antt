@@ -16,10 +16,9 @@ use Rattle.month_tally.specs.Statements.{firsts}
 use Rattle.month_contents.specs.Contents.{fresh_kind}
 use Rattle.month_events.specs.Events.{Event}
 use Rattle.month_file.specs.Inputs.{inputs_of}
-use Rattle.month_file.specs.File.{body_of, verdict_of, file_events, file_calls}
+use Rattle.month_file.specs.File.{body_of, Verdict.Accepted, Verdict.Refused, verdict_of, file_events, file_calls}
 use Rattle.month_file.specs.Grammar.{WrittenFrom}
 use Rattle.month_file.specs.declared.Refusal.{Refusal}
-use Rattle.month_file.specs.declared.Verdict.TheVariants.{Accepted, Refused}
 use Rattle.month_count.specs.Month.{Counted, at_first, counting, file_card, nothing, file_counted}
 
 -- how many of a list meet a test

@@ -8,36 +8,21 @@ ghost use Rattle.rule_run.specs.Runs.{is_tick};
 ghost use Rattle.record_door.specs.Door.{call_of};
 ghost use Rattle.month_events.specs.Events.{events_of, calls_of};
 ghost use Rattle.month_tally.specs.Lines.{minute_on};
-ghost use Rattle.month_count.specs.Month.{at_first, counting, nothing, file_month, file_counted};
+ghost use Rattle.month_count.specs.Month.{at_first, counting, file_month, file_counted};
 ghost use Rattle.month_count.specs.Loop.{Countable, MinutesLine};
 
 use base_bytes::part_of;
 use base_status::Status;
 use card_record::Card;
-use month_events::{Next, next_event};
-use month_file::{Verdict, open};
+use month_events::next_event;
+use month_file::{Refusal, open};
 use month_tally::{MINUTES, Names, Tally};
 use record_door::{Call, LEAST_BUFFER, answer_on_sound};
-
-// The verdict on a file and its tally; the minutes stand in lent memory.
-#[derive(Clone, Copy)]
-pub struct Month {
-    pub verdict: Verdict,
-    pub tally: Tally,
-}
 
 fn is_tick(call: Call) -> bool
     ensures { result ≡ is_tick (call_of [] 0 call) }
 {
-    match call {
-        Call::Command { .. } => false,
-        Call::Keyed(_) => false,
-        Call::Stored { .. } => false,
-        Call::Finished { .. } => false,
-        Call::Tick => true,
-        Call::Lost => false,
-        Call::PolicyUpdate { .. } => false,
-    }
+    matches!(call, Call::Tick)
 }
 
 // The minute of a tick, on the line of the profile that is enabled before it; how many ticks the call is.
@@ -56,10 +41,7 @@ fn time(call: Call, line: usize, minutes: &mut [u32; MINUTES]) -> u32
 fn refusals(status: Status) -> u32
     ensures { result ≡ cond (is_done status) 0 1 }
 {
-    if status.is_done() {
-        return 0;
-    }
-    1
+    u32::from(!status.is_done())
 }
 
 // The events of a body on a card, counted. The enabled profile changes only where an answer has a notification, which names it. Every
@@ -78,17 +60,9 @@ fn count(card: Card, body: &[u8], minutes: &mut [u32; MINUTES]) -> Tally
     let mut events: u32 = 0;
     let mut refused: u32 = 0;
     let mut at: usize = 0;
-    loop {
-        let Next::Event { call, stop } = next_event(body, at) else {
-            break Tally {
-                names,
-                ticks,
-                events,
-                refused,
-            };
-        };
-        ticks += time(call, own, minutes);
-        let answer = answer_on_sound(card, call, body, &mut buf);
+    while let Some(event) = next_event(body, at) {
+        ticks += time(event.call, own, minutes);
+        let answer = answer_on_sound(card, event.call, body, &mut buf);
         let status = answer.status;
         let notification = answer.notification;
         let kind = notification.kind;
@@ -101,39 +75,22 @@ fn count(card: Card, body: &[u8], minutes: &mut [u32; MINUTES]) -> Tally
         }
         let after = answer.card;
         card = after;
-        at = stop;
+        at = event.stop;
     }
-}
-
-// Nothing counted.
-fn nothing() -> Tally
-    ensures { result ≡ nothing.tally }
-{
-    let names = Names::none();
     Tally {
         names,
-        ticks: 0,
-        events: 0,
-        refused: 0,
+        ticks,
+        events,
+        refused,
     }
 }
 
 // A file counted: the minutes of each line and of the rest are left in the memory lent, whatever was there. Of a refused file nothing is
 // counted, and no event is run.
-pub fn count_month(s: &[u8], minutes: &mut [u32; MINUTES]) -> Month
+pub fn count_month(s: &[u8], minutes: &mut [u32; MINUTES]) -> Result<Tally, Refusal>
     ensures { (result ≡ file_month s.now) × (minutes.new ≡ (file_counted s.now).minutes) }
 {
     *minutes = [0u32; MINUTES];
-    let opened = open(s);
-    let verdict = opened.verdict;
-    let Verdict::Accepted = verdict else {
-        return Month {
-            verdict,
-            tally: nothing(),
-        };
-    };
-    let card = opened.card;
-    let events = opened.events;
-    let tally = count(card, part_of(s, events), minutes);
-    Month { verdict, tally }
+    let opened = open(s)?;
+    Ok(count(opened.card, part_of(s, opened.events), minutes))
 }

@@ -4,6 +4,7 @@ use Prim.Native.Nat.{ℕ, ◌+◌, ◌*◌, ◌/◌, ◌%◌, ◌≤◌, ◌<◌
 use mathlib.Core.Path.{◌≡◌, refl, sym, ap, subst, ◌∙◌}
 use mathlib.Core.List.{List, [], ◌∷◌, ◌++◌}
 use mathlib.Core.Bool.{false}
+use Rattle.std.specs.Prelude.{Result, Ok, Err}
 use native.Mathlib.Nat.{div-div-eq-div-mul}
 use native.Mathlib.Omega.{arith}
 use lib.ListN.{length, take, drop, length-append, take-append-drop, replicate, get_or-replicate, length-replicate, get_or-eq_default}
@@ -21,6 +22,7 @@ use Rattle.month_events.specs.Written.{Writable, AllWritable}
 use Rattle.month_events.specs.Logged.{event, LoggedAs, LoggedAs.command, LoggedAs.keyed, LoggedAs.stored, LoggedAs.old-finished, LoggedAs.tick, LoggedAs.lost, LoggedAs.finished, LoggedAs.policy-update, Logged, AllLogged, CallsBack, CallsWritten, CallsMet, OneTable}
 use Rattle.month_events.specs.declared.Kind.{Kind}
 use Rattle.month_events.specs.declared.Kind.TheVariants as kind
+use Rattle.month_events.specs.declared.NoKind.{NoKind}
 use Rattle.month_events.proofs.Turns.{call-in}
 use Rattle.month_events.proofs.Numbers.{Numbered, numbered, kinds-in-numbers}
 use Rattle.month_events.proofs.Written.{events-back, events-written}
@@ -96,15 +98,15 @@ logged-writable call e l =
     record { least = known.0; most = known.1; right = kinds-in-numbers.only-right e p.1; short = l.short; octets = l.octets }
 
 -- the other way round: the event of each kind is the row of its call
-command-row : (bytes : List ℕ) → 1 ≤ length bytes → LoggedAs (call_for kind.Command bytes) (event 1 bytes)
+command-row : (bytes : List ℕ) → 1 ≤ length bytes → LoggedAs (call_for (Ok kind.Command) bytes) (event 1 bytes)
 command-row [] h = absurd (omega arith)
 command-row (x ∷ r) h = command
 
-stored_row : (bytes : List ℕ) → Bytes bytes → 4 ≤ length bytes → LoggedAs (call_for kind.Stored bytes) (event 3 bytes)
+stored_row : (bytes : List ℕ) → Bytes bytes → 4 ≤ length bytes → LoggedAs (call_for (Ok kind.Stored) bytes) (event 3 bytes)
 stored_row bytes w h =
-    subst (λ (l : List ℕ). LoggedAs (call_for kind.Stored bytes) (event 3 l)) (sym (four_is bytes w h)) (stored (four-small bytes w))
+    subst (λ (l : List ℕ). LoggedAs (call_for (Ok kind.Stored) bytes) (event 3 l)) (sym (four_is bytes w h)) (stored (four-small bytes w))
 
-old_row : (bytes : List ℕ) → 1 ≤ length bytes → LoggedAs (call_for kind.Finished bytes) (event 4 bytes)
+old_row : (bytes : List ℕ) → 1 ≤ length bytes → LoggedAs (call_for (Ok kind.Finished) bytes) (event 4 bytes)
 old_row [] h = absurd (omega arith)
 old_row (x ∷ r) h = old-finished
 
@@ -113,28 +115,28 @@ none_row : (call : manager.Call) (n : ℕ) (bytes : List ℕ) → length bytes �
 none_row call n [] h row = row
 none_row call n (x ∷ r) h row = absurd (omega arith)
 
-finished-row : (bytes : List ℕ) → 2 ≤ length bytes → LoggedAs (call_for kind.FinishedWithMark bytes) (event 7 bytes)
+finished-row : (bytes : List ℕ) → 2 ≤ length bytes → LoggedAs (call_for (Ok kind.FinishedWithMark) bytes) (event 7 bytes)
 finished-row [] h = absurd (omega arith)
 finished-row (x ∷ []) h = absurd (omega arith)
 finished-row (x ∷ y ∷ r) h = finished
 
-update-row : (bytes : List ℕ) → 1 + byte bytes 0 ≤ length bytes → LoggedAs (call_for kind.Policy bytes) (event 8 bytes)
+update-row : (bytes : List ℕ) → 1 + byte bytes 0 ≤ length bytes → LoggedAs (call_for (Ok kind.Policy) bytes) (event 8 bytes)
 update-row [] h = absurd (omega arith)
 update-row (m ∷ r) h =
     let row : LoggedAs (manager.Call.PolicyUpdate (take m r) (drop m r) 256) (event 8 (length (take m r) ∷ (take m r ++ drop m r))) = policy-update in
     rw (← drop-drop m 1 (m ∷ r)) (rw (length-take-le m r (omega arith), take-append-drop m r) at row)
 
 module _ (n : ℕ) (bytes : List ℕ) (right : RightLength n bytes) (octets : Bytes bytes) where
-  row_at : (k : Kind) → Numbered n k → 1 ≤ n → n ≤ 8 → LoggedAs (call_for k bytes) (event n bytes)
-  row_at kind.Command h l m = rw h (command-row bytes (right.command h))
-  row_at kind.Keyed h l m = rw h keyed
-  row_at kind.Stored h l m = rw h (stored_row bytes octets (right.stored h))
-  row_at kind.Finished h l m = rw h (old_row bytes (right.finished h))
-  row_at kind.Tick h l m = rw h (none_row manager.Call.Tick 5 bytes (right.tick h) tick)
-  row_at kind.Lost h l m = rw h (none_row manager.Call.Lost 6 bytes (right.lost h) lost)
-  row_at kind.FinishedWithMark h l m = rw h (finished-row bytes (right.finished-with-mark h))
-  row_at kind.Policy h l m = rw h (update-row bytes (right.policy-update h))
-  row_at kind.Unknown h l m = let g = h l in absurd (omega arith)
+  row_at : (k : Result Kind NoKind) → Numbered n k → 1 ≤ n → n ≤ 8 → LoggedAs (call_for k bytes) (event n bytes)
+  row_at (Ok kind.Command) h l m = rw h (command-row bytes (right.command h))
+  row_at (Ok kind.Keyed) h l m = rw h keyed
+  row_at (Ok kind.Stored) h l m = rw h (stored_row bytes octets (right.stored h))
+  row_at (Ok kind.Finished) h l m = rw h (old_row bytes (right.finished h))
+  row_at (Ok kind.Tick) h l m = rw h (none_row manager.Call.Tick 5 bytes (right.tick h) tick)
+  row_at (Ok kind.Lost) h l m = rw h (none_row manager.Call.Lost 6 bytes (right.lost h) lost)
+  row_at (Ok kind.FinishedWithMark) h l m = rw h (finished-row bytes (right.finished-with-mark h))
+  row_at (Ok kind.Policy) h l m = rw h (update-row bytes (right.policy-update h))
+  row_at (Err e) h l m = let g = h l in absurd (omega arith)
 
 pub writable-logged : (e : Event) → Writable e → Logged (call_of_event e) e
 writable-logged e w =

@@ -1,6 +1,7 @@
 -- The table of kinds in numbers. A kind that a number has says which number it is (`numbered`); from there each law goes by the kind.
 -- Assumes nothing.
 use Prim.Native.Nat.{ℕ, ◌+◌, ◌≤◌}
+use Rattle.std.specs.Prelude.{Result, Ok, Err}
 use mathlib.Core.Path.{◌≡◌, refl, sym, subst}
 use mathlib.Core.List.{List}
 use mathlib.Core.Bool.{false, false≢true}
@@ -15,18 +16,19 @@ use Rattle.month_events.specs.Kinds.{kind_of, is_unknown, speaker_size, event_le
 use Rattle.month_events.specs.Events.{Event, call_of_event}
 use Rattle.month_events.specs.Numbers.{RightLength, KindsInNumbers}
 use Rattle.month_events.specs.declared.Kind.{Kind}
-use Rattle.month_events.specs.declared.Kind.TheVariants.{Command, Keyed, Stored, Finished, Tick, Lost, FinishedWithMark, Policy, Unknown}
+use Rattle.month_events.specs.declared.Kind.TheVariants.{Command, Keyed, Stored, Finished, Tick, Lost, FinishedWithMark, Policy}
+use Rattle.month_events.specs.declared.NoKind.{NoKind}
 
-abbrev pub Numbered : ℕ → Kind → Type 0
-Numbered n Command = n ≡ 1
-Numbered n Keyed = n ≡ 2
-Numbered n Stored = n ≡ 3
-Numbered n Finished = n ≡ 4
-Numbered n Tick = n ≡ 5
-Numbered n Lost = n ≡ 6
-Numbered n FinishedWithMark = n ≡ 7
-Numbered n Policy = n ≡ 8
-Numbered n Unknown = 1 ≤ n → 9 ≤ n
+abbrev pub Numbered : ℕ → Result Kind NoKind → Type 0
+Numbered n (Ok Command) = n ≡ 1
+Numbered n (Ok Keyed) = n ≡ 2
+Numbered n (Ok Stored) = n ≡ 3
+Numbered n (Ok Finished) = n ≡ 4
+Numbered n (Ok Tick) = n ≡ 5
+Numbered n (Ok Lost) = n ≡ 6
+Numbered n (Ok FinishedWithMark) = n ≡ 7
+Numbered n (Ok Policy) = n ≡ 8
+Numbered n (Err e) = 1 ≤ n → 9 ≤ n
 
 past : (n m : ℕ) → (1 ≤ n → m ≤ n) → (n ≡ m → ⊥) → 1 ≤ n → m + 1 ≤ n
 past n m f x h = let l = f h in omega arith
@@ -46,39 +48,39 @@ numbered n =
     past n 8 (past n 7 (past n 6 (past n 5 (past n 4 (past n 3 (past n 2 (past n 1 (λ h. h) x₁) x₂) x₃) x₄) x₅) x₆) x₇) x₈))))))))
 
 module _ (n : ℕ) where
-  known_at : (k : Kind) → Numbered n k → 1 ≤ n → n ≤ 8 → is_unknown k ≡ false
-  known_at Command h l m = refl
-  known_at Keyed h l m = refl
-  known_at Stored h l m = refl
-  known_at Finished h l m = refl
-  known_at Tick h l m = refl
-  known_at Lost h l m = refl
-  known_at FinishedWithMark h l m = refl
-  known_at Policy h l m = refl
-  known_at Unknown h l m = let g = h l in absurd (omega arith)
+  known_at : (k : Result Kind NoKind) → Numbered n k → 1 ≤ n → n ≤ 8 → is_unknown k ≡ false
+  known_at (Ok Command) h l m = refl
+  known_at (Ok Keyed) h l m = refl
+  known_at (Ok Stored) h l m = refl
+  known_at (Ok Finished) h l m = refl
+  known_at (Ok Tick) h l m = refl
+  known_at (Ok Lost) h l m = refl
+  known_at (Ok FinishedWithMark) h l m = refl
+  known_at (Ok Policy) h l m = refl
+  known_at (Err e) h l m = let g = h l in absurd (omega arith)
 
-  only-known-at : (k : Kind) → Numbered n k → is_unknown k ≡ false → (1 ≤ n) × (n ≤ 8)
-  only-known-at Command h p = (omega arith, omega arith)
-  only-known-at Keyed h p = (omega arith, omega arith)
-  only-known-at Stored h p = (omega arith, omega arith)
-  only-known-at Finished h p = (omega arith, omega arith)
-  only-known-at Tick h p = (omega arith, omega arith)
-  only-known-at Lost h p = (omega arith, omega arith)
-  only-known-at FinishedWithMark h p = (omega arith, omega arith)
-  only-known-at Policy h p = (omega arith, omega arith)
-  only-known-at Unknown h p = absurd (false≢true (sym p))
+  only-known-at : (k : Result Kind NoKind) → Numbered n k → is_unknown k ≡ false → (1 ≤ n) × (n ≤ 8)
+  only-known-at (Ok Command) h p = (omega arith, omega arith)
+  only-known-at (Ok Keyed) h p = (omega arith, omega arith)
+  only-known-at (Ok Stored) h p = (omega arith, omega arith)
+  only-known-at (Ok Finished) h p = (omega arith, omega arith)
+  only-known-at (Ok Tick) h p = (omega arith, omega arith)
+  only-known-at (Ok Lost) h p = (omega arith, omega arith)
+  only-known-at (Ok FinishedWithMark) h p = (omega arith, omega arith)
+  only-known-at (Ok Policy) h p = (omega arith, omega arith)
+  only-known-at (Err e) h p = absurd (false≢true (sym p))
 
   module _ (bytes : List ℕ) where
-    right-at : (k : Kind) → Numbered n k → RightLength n bytes → event_length_wrong k bytes ≡ false
-    right-at Command h r = le-ltb (length bytes) 1 (r.command h)
-    right-at Keyed h r = refl
-    right-at Stored h r = le-ltb (length bytes) 4 (r.stored h)
-    right-at Finished h r = le-ltb (length bytes) 1 (r.finished h)
-    right-at Tick h r = rw (eq-eqb (length bytes) 0 (r.tick h))
-    right-at Lost h r = rw (eq-eqb (length bytes) 0 (r.lost h))
-    right-at FinishedWithMark h r = le-ltb (length bytes) 2 (r.finished-with-mark h)
-    right-at Policy h r = le-ltb (length bytes) (speaker_size bytes 0) (r.policy-update h)
-    right-at Unknown h r = refl
+    right-at : (k : Result Kind NoKind) → Numbered n k → RightLength n bytes → event_length_wrong k bytes ≡ false
+    right-at (Ok Command) h r = le-ltb (length bytes) 1 (r.command h)
+    right-at (Ok Keyed) h r = refl
+    right-at (Ok Stored) h r = le-ltb (length bytes) 4 (r.stored h)
+    right-at (Ok Finished) h r = le-ltb (length bytes) 1 (r.finished h)
+    right-at (Ok Tick) h r = rw (eq-eqb (length bytes) 0 (r.tick h))
+    right-at (Ok Lost) h r = rw (eq-eqb (length bytes) 0 (r.lost h))
+    right-at (Ok FinishedWithMark) h r = le-ltb (length bytes) 2 (r.finished-with-mark h)
+    right-at (Ok Policy) h r = le-ltb (length bytes) (speaker_size bytes 0) (r.policy-update h)
+    right-at (Err e) h r = refl
 
     -- a length that is right for the kind of a number is right for the number's row
     only-right-at : event_length_wrong (kind_of n) bytes ≡ false → RightLength n bytes
@@ -95,16 +97,16 @@ module _ (n : ℕ) where
           policy-update = λ e. ltb-false (length bytes) (speaker_size bytes 0) (at 8 e);
         }
 
-    tick-at : (k : Kind) → Numbered n k → is_tick (call_for k bytes) ≡ eqb n 5
-    tick-at Command h = sym (ne_eqb n 5 (omega arith))
-    tick-at Keyed h = sym (ne_eqb n 5 (omega arith))
-    tick-at Stored h = sym (ne_eqb n 5 (omega arith))
-    tick-at Finished h = sym (ne_eqb n 5 (omega arith))
-    tick-at Tick h = sym (eq-eqb n 5 h)
-    tick-at Lost h = sym (ne_eqb n 5 (omega arith))
-    tick-at FinishedWithMark h = sym (ne_eqb n 5 (omega arith))
-    tick-at Policy h = sym (ne_eqb n 5 (omega arith))
-    tick-at Unknown h = sym (ne_eqb n 5 (λ e. let g = h (omega arith) in omega arith))
+    tick-at : (k : Result Kind NoKind) → Numbered n k → is_tick (call_for k bytes) ≡ eqb n 5
+    tick-at (Ok Command) h = sym (ne_eqb n 5 (omega arith))
+    tick-at (Ok Keyed) h = sym (ne_eqb n 5 (omega arith))
+    tick-at (Ok Stored) h = sym (ne_eqb n 5 (omega arith))
+    tick-at (Ok Finished) h = sym (ne_eqb n 5 (omega arith))
+    tick-at (Ok Tick) h = sym (eq-eqb n 5 h)
+    tick-at (Ok Lost) h = sym (ne_eqb n 5 (omega arith))
+    tick-at (Ok FinishedWithMark) h = sym (ne_eqb n 5 (omega arith))
+    tick-at (Ok Policy) h = sym (ne_eqb n 5 (omega arith))
+    tick-at (Err e) h = sym (ne_eqb n 5 (λ f. let g = h (omega arith) in omega arith))
 
 pub kinds-in-numbers : KindsInNumbers
 kinds-in-numbers =

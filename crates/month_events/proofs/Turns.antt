@@ -3,7 +3,8 @@
 use Prim.Native.Nat.{ℕ, zero, suc, ◌+◌, ◌-◌, ◌≤◌, ◌<◌}
 use mathlib.Core.Path.{◌≡◌, refl, sym, ap, subst, ◌∙◌}
 use mathlib.Core.List.{List, [], ◌∷◌}
-use mathlib.Core.Bool.{Bool, true, false, ◌||◌, false≢true, or-false, or_assoc}
+use Rattle.std.specs.Prelude.{Some, None, Result, Ok, Err}
+use mathlib.Core.Bool.{Bool, true, false, ◌||◌, false≢true, or-true, or-false, or_assoc}
 use native.Mathlib.Nat.{add-zero}
 use native.Mathlib.Omega.{arith}
 use lib.ListN.{length, take, drop, length-take, length-drop, drop_of_length-le}
@@ -21,9 +22,10 @@ use Rattle.month_events.specs.Kinds.{kind_of, is_unknown, speaker_size, event_le
 use Rattle.month_events.specs.Events.{Event, head_size, first_stop, first_event, events_within, events_of, cut_within, cut_short, some_event, of_unknown_kind, of_wrong_length, kind_unknown, wrong_length, checked_of, call_of_event, call_over, stop_of, next_event}
 use Rattle.month_events.specs.declared.Kind.{Kind}
 use Rattle.month_events.specs.declared.Kind.TheVariants as kind
-use Rattle.month_events.specs.declared.Checked.{Checked}
-use Rattle.month_events.specs.declared.Checked.TheVariants.{CutShort, UnknownKind, WrongLength, Right}
-use Rattle.month_events.specs.declared.Next.TheVariants as next
+use Rattle.month_events.specs.declared.NoKind.{NoKind}
+use Rattle.month_events.specs.declared.EventsWrong.{EventsWrong}
+use Rattle.month_events.specs.declared.EventsWrong.TheVariants.{CutShort, UnknownKind, WrongLength}
+use Rattle.month_events.specs.declared.Next.{Next}
 
 abbrev Same : ℕ → ℕ → List ℕ → Type 0
 Same m n b = (events_within m b ≡ events_within n b) × (cut_within m b ≡ cut_within n b)
@@ -168,29 +170,29 @@ module _ (b : List ℕ) (from n : ℕ) where
       omega (arith, length-take n (drop from b))
 
   -- the call over the body is the call of the event's bytes, where these are neither too few nor too many
-  pub call-in : (k : Kind) → event_length_wrong k (take n (drop from b)) ≡ false → door.call_of b least_buffer (call_over b k from (from + n)) ≡ call_for k (take n (drop from b))
-  call-in kind.Command e =
+  pub call-in : (k : Result Kind NoKind) → event_length_wrong k (take n (drop from b)) ≡ false → door.call_of b least_buffer (call_over b k from (from + n)) ≡ call_for k (take n (drop from b))
+  call-in (Ok kind.Command) e =
       let h = least 1 e in
       rw (byte-first (omega arith), part_in 1 (omega arith))
-  call-in kind.Keyed e =
+  call-in (Ok kind.Keyed) e =
       let f : from + n - from ≡ n = omega arith in
       rw f
-  call-in kind.Stored e =
+  call-in (Ok kind.Stored) e =
       let h = least 4 e in
       rw (four-in (omega arith), part_in 4 (omega arith))
-  call-in kind.Finished e =
+  call-in (Ok kind.Finished) e =
       let h = least 1 e in
       rw (byte-first (omega arith), part_in 1 (omega arith))
-  call-in kind.Tick e = refl
-  call-in kind.Lost e = refl
-  call-in kind.FinishedWithMark e =
+  call-in (Ok kind.Tick) e = refl
+  call-in (Ok kind.Lost) e = refl
+  call-in (Ok kind.FinishedWithMark) e =
       let h = least 2 e in
       rw (byte-first (omega arith), byte-in 1 (omega arith), part_in 2 (omega arith))
-  call-in kind.Policy e =
+  call-in (Ok kind.Policy) e =
       let m = byte (take n (drop from b)) 0 in
       let h = least (speaker_size (take n (drop from b)) 0) e in
       rw (byte-first (omega arith), part-within 1 m (omega arith), part_in (1 + m) (omega arith))
-  call-in kind.Unknown e = refl
+  call-in (Err x) e = refl
 
 -- from this place on no event is cut, and none has a wrong length
 pub record RightFrom (b : List ℕ) (at : ℕ) : Type 0 where
@@ -225,11 +227,11 @@ module _ (b : List ℕ) (at : ℕ) where
   abbrev call_at : Call
   call_at = call_over b (kind_of (byte b at)) (at + head_size) (stop_of b at)
 
-  pub next-is : stop_of b at ≤ length b → next_event b at ≡ next.Event call_at (stop_of b at)
+  pub next-is : stop_of b at ≤ length b → next_event b at ≡ Some (record { call = call_at; stop = stop_of b at })
   unfolding next_event
   next-is h = rw (le-ltb (length b) (stop_of b at) h)
 
-  pub next-ends : length b < stop_of b at → next_event b at ≡ next.End
+  pub next-ends : length b < stop_of b at → next_event b at ≡ None
   unfolding next_event
   next-ends h = rw (lt-ltb (length b) (stop_of b at) h)
 
@@ -252,16 +254,15 @@ module _ (b : List ℕ) (at : ℕ) where
         rest = record { whole = sym (turn-whole b at l h) ∙ f.whole; lengths = g.1 };
       }
 
-pub next-event : (b : List ℕ) (at : ℕ) (call : Call) (stop : ℕ) → RightFrom b at → next_event b at ≡ next.Event call stop → Turn b at call stop
+pub next-event : (b : List ℕ) (at : ℕ) (call : Call) (stop : ℕ) → RightFrom b at → next_event b at ≡ Some (record { call = call; stop = stop }) → Turn b at call stop
 next-event b at call stop f p = on-lt (length b) (stop_of b at)
     (λ h. let q = next-ends b at h in let z : ◌≡◌ {A = ℕ} 0 1 = cc in absurd (omega arith))
     (λ h.
     let q = next-is b at h in
-    let s : stop_of b at ≡ stop = cc in
-    let k : call_at b at ≡ call = cc in
-    subst (Turn b at call) s (subst (λ (o : Call). Turn b at o (stop_of b at)) k (turn_at b at h f)))
+    let e : ◌≡◌ {A = Next} (record { call = call_at b at; stop = stop_of b at }) (record { call = call; stop = stop }) = cc in
+    subst (Turn b at call) (ap (λ (x : Next). x.stop) e) (subst (λ (o : Call). Turn b at o (stop_of b at)) (ap (λ (x : Next). x.call) e) (turn_at b at h f)))
 
-pub none_left : (b : List ℕ) (at : ℕ) → RightFrom b at → next_event b at ≡ next.End → events_of (drop at b) ≡ []
+pub none_left : (b : List ℕ) (at : ℕ) → RightFrom b at → next_event b at ≡ None → events_of (drop at b) ≡ []
 none_left b at f p = on-lt at (length b)
     (λ l. on-lt (length b) (stop_of b at)
     (λ h. absurd (false≢true (sym f.whole ∙ turn-cut b at l h)))
@@ -269,24 +270,24 @@ none_left b at f p = on-lt at (length b)
     (λ l. events-end b at l)
 
 -- the three tests in their order, once they are made
-abbrev pub verdict : Bool → Bool → Bool → Checked
-verdict cut unknown wrong = pick cut CutShort (pick unknown UnknownKind (pick wrong WrongLength Right))
+abbrev pub verdict : Bool → Bool → Bool → Result (Unit {0}) EventsWrong
+verdict cut unknown wrong = pick cut (Err CutShort) (pick unknown (Err UnknownKind) (pick wrong (Err WrongLength) (Ok tt)))
 
-pub right-tests : (cut unknown wrong : Bool) → verdict cut unknown wrong ≡ Right → (cut ≡ false) × ((unknown ≡ false) × (wrong ≡ false))
+pub right-tests : (cut unknown wrong : Bool) → verdict cut unknown wrong ≡ Ok tt → (cut ≡ false) × ((unknown ≡ false) × (wrong ≡ false))
 unfolding pick
 right-tests true unknown wrong p = let z : ◌≡◌ {A = ℕ} 0 1 = cc in absurd (omega arith)
 right-tests false true wrong p = let z : ◌≡◌ {A = ℕ} 0 1 = cc in absurd (omega arith)
 right-tests false false true p = let z : ◌≡◌ {A = ℕ} 0 1 = cc in absurd (omega arith)
 right-tests false false false p = (refl, (refl, refl))
 
-pub right-first : (b : List ℕ) → checked_of b ≡ Right → RightFrom b 0
+pub right-first : (b : List ℕ) → checked_of b ≡ Ok tt → RightFrom b 0
 unfolding checked_of
 right-first b p =
     let t = right-tests (cut_short b) (kind_unknown b) (wrong_length b) p in
     record { whole = t.0; lengths = t.1.1 }
 
 -- the verdict of a walk that stands at a place: what it met before, and what comes from there on
-unfoldable pub checked_from : List ℕ → ℕ → Bool → Bool → Checked
+unfoldable pub checked_from : List ℕ → ℕ → Bool → Bool → Result (Unit {0}) EventsWrong
 checked_from b at unknown wrong = verdict (cut_short (drop at b)) (unknown || kind_unknown (drop at b)) (wrong || wrong_length (drop at b))
 
 pub checked-first : (b : List ℕ) → checked_from b 0 false false ≡ checked_of b
@@ -294,7 +295,7 @@ unfolding checked_from checked_of
 checked-first b = refl
 
 module _ (b : List ℕ) (at : ℕ) (unknown wrong : Bool) where
-  pub checked-cut : at < length b → length b < stop_of b at → checked_from b at unknown wrong ≡ CutShort
+  pub checked-cut : at < length b → length b < stop_of b at → checked_from b at unknown wrong ≡ Err CutShort
   unfolding checked_from pick
   checked-cut h k = rw (turn-cut b at h k)
 
@@ -306,10 +307,20 @@ module _ (b : List ℕ) (at : ℕ) (unknown wrong : Bool) where
       → some_event t (events_of (drop at b)) ≡ (t (event_at b at) || some_event t (events_of (drop (stop_of b at) b)))
   some_turn h k t = some_first t (drop at b) (event_at b at) (drop (stop_of b at) b) (turn-events b at h k)
 
-  pub checked-on : at < length b → stop_of b at ≤ length b
+  checked-on : at < length b → stop_of b at ≤ length b
       → checked_from b at unknown wrong
       ≡ checked_from b (stop_of b at) (unknown || is_unknown (kind_of (byte b at))) (wrong || event_length_wrong (kind_of (byte b at)) (take (stop_of b at - (at + head_size)) (drop (at + head_size) b)))
   unfolding checked_from kind_unknown wrong_length
   checked-on h k =
       let some = some_turn h k in
       rw (turn-whole b at h k, some of_unknown_kind, some of_wrong_length, bytes-from b at, or_assoc unknown, or_assoc wrong)
+
+  module _ (h : at < length b) (l : stop_of b at ≤ length b) where
+    -- an event of a kind in the table, and one of no kind
+    pub checked-known : (k : Kind) → kind_of (byte b at) ≡ Ok k
+        → checked_from b at unknown wrong
+        ≡ checked_from b (stop_of b at) unknown (wrong || event_length_wrong (Ok k) (take (stop_of b at - (at + head_size)) (drop (at + head_size) b)))
+    checked-known k e = checked-on h l ∙ rw (e, or-false unknown)
+
+    pub checked-unknown : (x : NoKind) → kind_of (byte b at) ≡ Err x → checked_from b at unknown wrong ≡ checked_from b (stop_of b at) true wrong
+    checked-unknown x e = checked-on h l ∙ rw (e, or-true unknown, or-false wrong)

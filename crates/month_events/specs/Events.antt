@@ -1,6 +1,6 @@
 -- docs/EVENTS.md, 'The file': "events one after the other, to its end. An event is its kind (1 byte), the length of its bytes (2 bytes),
 -- its bytes". The walks count their steps: no body has more events than bytes.
-use Rattle.std.specs.Prelude.{ℕ, zero, suc, ◌+◌, List, [], ◌∷◌, Bool, true, false, cond, ◌||◌, length, take, drop, ltb}
+use Rattle.std.specs.Prelude.{ℕ, zero, suc, ◌+◌, List, [], ◌∷◌, Bool, true, false, cond, ◌||◌, length, take, drop, ltb, Option, Some, None, Result, Ok, Err}
 use Rattle.base_bytes.specs.Bytes.{byte, pair_at, four_at, between}
 use Rattle.base_choice.specs.Choice.{pick}
 use Rattle.rule_run.specs.Calls as manager
@@ -9,10 +9,10 @@ use Rattle.record_door.specs.declared.Call.TheVariants as call
 use Rattle.month_events.specs.Kinds.{kind_of, is_unknown, speaker_size, event_length_wrong, call_for}
 use Rattle.month_events.specs.declared.Kind.{Kind}
 use Rattle.month_events.specs.declared.Kind.TheVariants as kind
-use Rattle.month_events.specs.declared.Checked.{Checked}
-use Rattle.month_events.specs.declared.Checked.TheVariants.{CutShort, UnknownKind, WrongLength, Right}
+use Rattle.month_events.specs.declared.NoKind.{NoKind}
+use Rattle.month_events.specs.declared.EventsWrong.{EventsWrong}
+use Rattle.month_events.specs.declared.EventsWrong.TheVariants.{CutShort, UnknownKind, WrongLength}
 use Rattle.month_events.specs.declared.Next.{Next}
-use Rattle.month_events.specs.declared.Next.TheVariants as next
 
 pub record Event : Type 0 where
   pub kind : ℕ
@@ -69,8 +69,8 @@ unfoldable pub wrong_length : List ℕ → Bool
 wrong_length b = some_event of_wrong_length (events_of b)
 
 -- the three tests of a body, in their order (decision B44)
-unfoldable pub checked_of : List ℕ → Checked
-checked_of b = pick (cut_short b) CutShort (pick (kind_unknown b) UnknownKind (pick (wrong_length b) WrongLength Right))
+unfoldable pub checked_of : List ℕ → Result (Unit {0}) EventsWrong
+checked_of b = pick (cut_short b) (Err CutShort) (pick (kind_unknown b) (Err UnknownKind) (pick (wrong_length b) (Err WrongLength) (Ok tt)))
 
 -- an event as the manager's call
 abbrev pub call_of_event : Event → manager.Call
@@ -81,22 +81,22 @@ calls_of [] = []
 calls_of (e ∷ es) = call_of_event e ∷ calls_of es
 
 -- the call of an event whose bytes stand from `from` up to `to`, as the code has it: over the body that the event stands in
-abbrev pub call_over : List ℕ → Kind → ℕ → ℕ → declared.Call
-call_over b kind.Command from to = call.Command (byte b from) (between (from + 1) to)
-call_over b kind.Keyed from to = call.Keyed (between from to)
-call_over b kind.Stored from to = call.Stored (between (from + 4) to) (four_at b from)
-call_over b kind.Finished from to = call.Finished (between (from + 1) to) (byte b from) 1
-call_over b kind.Tick from to = call.Tick
-call_over b kind.Lost from to = call.Lost
-call_over b kind.FinishedWithMark from to = call.Finished (between (from + 2) to) (byte b from) (byte b (from + 1))
-call_over b kind.Policy from to = call.PolicyUpdate (between (from + 1) (from + speaker_size b from)) (between (from + speaker_size b from) to)
-call_over b kind.Unknown from to = call.Lost
+abbrev pub call_over : List ℕ → Result Kind NoKind → ℕ → ℕ → declared.Call
+call_over b (Ok kind.Command) from to = call.Command (byte b from) (between (from + 1) to)
+call_over b (Ok kind.Keyed) from to = call.Keyed (between from to)
+call_over b (Ok kind.Stored) from to = call.Stored (between (from + 4) to) (four_at b from)
+call_over b (Ok kind.Finished) from to = call.Finished (between (from + 1) to) (byte b from) 1
+call_over b (Ok kind.Tick) from to = call.Tick
+call_over b (Ok kind.Lost) from to = call.Lost
+call_over b (Ok kind.FinishedWithMark) from to = call.Finished (between (from + 2) to) (byte b from) (byte b (from + 1))
+call_over b (Ok kind.Policy) from to = call.PolicyUpdate (between (from + 1) (from + speaker_size b from)) (between (from + speaker_size b from) to)
+call_over b (Err e) from to = call.Lost
 
 -- the event at a place; none where the body ends there or within it
 abbrev pub stop_of : List ℕ → ℕ → ℕ
 stop_of b at = at + (head_size + pair_at b (at + 1))
 
-unfoldable pub next_event : List ℕ → ℕ → Next
+unfoldable pub next_event : List ℕ → ℕ → Option Next
 next_event b at =
-    cond (ltb (length b) (stop_of b at)) next.End
-    (next.Event (call_over b (kind_of (byte b at)) (at + head_size) (stop_of b at)) (stop_of b at))
+    cond (ltb (length b) (stop_of b at)) None
+    (Some (record { call = call_over b (kind_of (byte b at)) (at + head_size) (stop_of b at); stop = stop_of b at }))

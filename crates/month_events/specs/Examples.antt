@@ -1,75 +1,78 @@
 -- docs/EVENTS.md, 'The file' and 'What is refused', computed: small bodies and what is wrong with them, each boundary with its neighbour, and
 -- those that meet two tests, which pin the order; and the call that an event of each kind is.
-use Rattle.std.specs.Prelude.{ℕ, ◌≡◌, List, [], ◌∷◌, replicate}
+use Rattle.std.specs.Prelude.{ℕ, ◌≡◌, List, [], ◌∷◌, replicate, Result, Ok, Err}
 use Rattle.rule_run.specs.Calls.{Call.Command, Call.Keyed, Call.Stored, Call.Finished, Call.Tick, Call.Lost, Call.PolicyUpdate}
 use Rattle.month_events.specs.Events.{events_of, calls_of, checked_of}
-use Rattle.month_events.specs.declared.Checked.{Checked}
-use Rattle.month_events.specs.declared.Checked.TheVariants.{CutShort, UnknownKind, WrongLength, Right}
+use Rattle.month_events.specs.declared.EventsWrong.{EventsWrong}
+use Rattle.month_events.specs.declared.EventsWrong.TheVariants.{CutShort, UnknownKind, WrongLength}
 
 pub record EventCase : Type 0 where
-  pub says : Checked
+  pub says : Result (Unit {0}) EventsWrong
   pub body : List ℕ
 
-abbrev pub event_case : Checked → List ℕ → EventCase
-event_case says body = record { says = says; body = body }
+abbrev pub right_case : List ℕ → EventCase
+right_case body = record { says = Ok tt; body = body }
+
+abbrev pub wrong_case : EventsWrong → List ℕ → EventCase
+wrong_case wrong body = record { says = Err wrong; body = body }
 
 abbrev pub event_cases : List EventCase
 event_cases =
     -- "events one after the other, to its end"
-    event_case Right []
-    ∷ event_case Right (5 ∷ 0 ∷ 0 ∷ 6 ∷ 0 ∷ 0 ∷ [])
+    right_case []
+    ∷ right_case (5 ∷ 0 ∷ 0 ∷ 6 ∷ 0 ∷ 0 ∷ [])
     -- "under three bytes are left for its kind and length, or fewer than its length says"
-    ∷ event_case CutShort (5 ∷ [])
-    ∷ event_case CutShort (5 ∷ 0 ∷ [])
-    ∷ event_case CutShort (5 ∷ 0 ∷ 0 ∷ 5 ∷ 0 ∷ [])
-    ∷ event_case CutShort (2 ∷ 0 ∷ 2 ∷ 0xA0 ∷ [])
-    ∷ event_case Right (2 ∷ 0 ∷ 2 ∷ 0xA0 ∷ 0xA0 ∷ [])
+    ∷ wrong_case CutShort (5 ∷ [])
+    ∷ wrong_case CutShort (5 ∷ 0 ∷ [])
+    ∷ wrong_case CutShort (5 ∷ 0 ∷ 0 ∷ 5 ∷ 0 ∷ [])
+    ∷ wrong_case CutShort (2 ∷ 0 ∷ 2 ∷ 0xA0 ∷ [])
+    ∷ right_case (2 ∷ 0 ∷ 2 ∷ 0xA0 ∷ 0xA0 ∷ [])
     -- the length has two bytes, high byte first
-    ∷ event_case CutShort (2 ∷ 1 ∷ 0 ∷ replicate 255 0xA0)
-    ∷ event_case Right (2 ∷ 1 ∷ 0 ∷ replicate 256 0xA0)
+    ∷ wrong_case CutShort (2 ∷ 1 ∷ 0 ∷ replicate 255 0xA0)
+    ∷ right_case (2 ∷ 1 ∷ 0 ∷ replicate 256 0xA0)
     -- a cut event is told before a kind that is not known and a wrong length, though these come earlier
-    ∷ event_case CutShort (9 ∷ 0 ∷ 0 ∷ 5 ∷ 0 ∷ [])
-    ∷ event_case CutShort (5 ∷ 0 ∷ 1 ∷ 0 ∷ 5 ∷ 0 ∷ [])
+    ∷ wrong_case CutShort (9 ∷ 0 ∷ 0 ∷ 5 ∷ 0 ∷ [])
+    ∷ wrong_case CutShort (5 ∷ 0 ∷ 1 ∷ 0 ∷ 5 ∷ 0 ∷ [])
     -- "some event has a kind that is not in the table": before and after the kinds there are, and before a wrong length
-    ∷ event_case UnknownKind (0 ∷ 0 ∷ 0 ∷ [])
-    ∷ event_case UnknownKind (9 ∷ 0 ∷ 0 ∷ [])
-    ∷ event_case UnknownKind (255 ∷ 0 ∷ 1 ∷ 0 ∷ 5 ∷ 0 ∷ 0 ∷ [])
-    ∷ event_case UnknownKind (9 ∷ 0 ∷ 0 ∷ 5 ∷ 0 ∷ 1 ∷ 0 ∷ [])
-    ∷ event_case UnknownKind (5 ∷ 0 ∷ 1 ∷ 0 ∷ 9 ∷ 0 ∷ 0 ∷ [])
+    ∷ wrong_case UnknownKind (0 ∷ 0 ∷ 0 ∷ [])
+    ∷ wrong_case UnknownKind (9 ∷ 0 ∷ 0 ∷ [])
+    ∷ wrong_case UnknownKind (255 ∷ 0 ∷ 1 ∷ 0 ∷ 5 ∷ 0 ∷ 0 ∷ [])
+    ∷ wrong_case UnknownKind (9 ∷ 0 ∷ 0 ∷ 5 ∷ 0 ∷ 1 ∷ 0 ∷ [])
+    ∷ wrong_case UnknownKind (5 ∷ 0 ∷ 1 ∷ 0 ∷ 9 ∷ 0 ∷ 0 ∷ [])
     -- a wrong length of each kind
-    ∷ event_case WrongLength (1 ∷ 0 ∷ 0 ∷ [])
-    ∷ event_case Right (1 ∷ 0 ∷ 1 ∷ 0 ∷ [])
-    ∷ event_case Right (2 ∷ 0 ∷ 0 ∷ [])
-    ∷ event_case WrongLength (3 ∷ 0 ∷ 3 ∷ 0 ∷ 0 ∷ 0 ∷ [])
-    ∷ event_case Right (3 ∷ 0 ∷ 4 ∷ 0 ∷ 0 ∷ 0 ∷ 0 ∷ [])
-    ∷ event_case WrongLength (4 ∷ 0 ∷ 0 ∷ [])
-    ∷ event_case Right (4 ∷ 0 ∷ 1 ∷ 0 ∷ [])
-    ∷ event_case WrongLength (5 ∷ 0 ∷ 1 ∷ 0 ∷ [])
-    ∷ event_case WrongLength (6 ∷ 0 ∷ 1 ∷ 0 ∷ [])
-    ∷ event_case WrongLength (7 ∷ 0 ∷ 0 ∷ [])
-    ∷ event_case WrongLength (7 ∷ 0 ∷ 1 ∷ 0 ∷ [])
-    ∷ event_case Right (7 ∷ 0 ∷ 2 ∷ 0 ∷ 0 ∷ [])
-    ∷ event_case WrongLength (5 ∷ 0 ∷ 0 ∷ 6 ∷ 0 ∷ 1 ∷ 0 ∷ 5 ∷ 0 ∷ 0 ∷ [])
+    ∷ wrong_case WrongLength (1 ∷ 0 ∷ 0 ∷ [])
+    ∷ right_case (1 ∷ 0 ∷ 1 ∷ 0 ∷ [])
+    ∷ right_case (2 ∷ 0 ∷ 0 ∷ [])
+    ∷ wrong_case WrongLength (3 ∷ 0 ∷ 3 ∷ 0 ∷ 0 ∷ 0 ∷ [])
+    ∷ right_case (3 ∷ 0 ∷ 4 ∷ 0 ∷ 0 ∷ 0 ∷ 0 ∷ [])
+    ∷ wrong_case WrongLength (4 ∷ 0 ∷ 0 ∷ [])
+    ∷ right_case (4 ∷ 0 ∷ 1 ∷ 0 ∷ [])
+    ∷ wrong_case WrongLength (5 ∷ 0 ∷ 1 ∷ 0 ∷ [])
+    ∷ wrong_case WrongLength (6 ∷ 0 ∷ 1 ∷ 0 ∷ [])
+    ∷ wrong_case WrongLength (7 ∷ 0 ∷ 0 ∷ [])
+    ∷ wrong_case WrongLength (7 ∷ 0 ∷ 1 ∷ 0 ∷ [])
+    ∷ right_case (7 ∷ 0 ∷ 2 ∷ 0 ∷ 0 ∷ [])
+    ∷ wrong_case WrongLength (5 ∷ 0 ∷ 0 ∷ 6 ∷ 0 ∷ 1 ∷ 0 ∷ 5 ∷ 0 ∷ 0 ∷ [])
     -- "0 bytes, or fewer than the speaker's length says after its byte": a speaker of none and one of one byte, with and without a command
-    ∷ event_case WrongLength (8 ∷ 0 ∷ 0 ∷ [])
-    ∷ event_case Right (8 ∷ 0 ∷ 1 ∷ 0 ∷ [])
-    ∷ event_case Right (8 ∷ 0 ∷ 2 ∷ 0 ∷ 0x80 ∷ [])
-    ∷ event_case WrongLength (8 ∷ 0 ∷ 1 ∷ 1 ∷ [])
-    ∷ event_case Right (8 ∷ 0 ∷ 2 ∷ 1 ∷ 0xA0 ∷ [])
-    ∷ event_case Right (8 ∷ 0 ∷ 3 ∷ 1 ∷ 0xA0 ∷ 0x80 ∷ [])
-    ∷ event_case WrongLength (8 ∷ 0 ∷ 3 ∷ 3 ∷ 0xA0 ∷ 0xA0 ∷ [])
-    ∷ event_case Right (8 ∷ 0 ∷ 3 ∷ 2 ∷ 0xA0 ∷ 0xA0 ∷ [])
+    ∷ wrong_case WrongLength (8 ∷ 0 ∷ 0 ∷ [])
+    ∷ right_case (8 ∷ 0 ∷ 1 ∷ 0 ∷ [])
+    ∷ right_case (8 ∷ 0 ∷ 2 ∷ 0 ∷ 0x80 ∷ [])
+    ∷ wrong_case WrongLength (8 ∷ 0 ∷ 1 ∷ 1 ∷ [])
+    ∷ right_case (8 ∷ 0 ∷ 2 ∷ 1 ∷ 0xA0 ∷ [])
+    ∷ right_case (8 ∷ 0 ∷ 3 ∷ 1 ∷ 0xA0 ∷ 0x80 ∷ [])
+    ∷ wrong_case WrongLength (8 ∷ 0 ∷ 3 ∷ 3 ∷ 0xA0 ∷ 0xA0 ∷ [])
+    ∷ right_case (8 ∷ 0 ∷ 3 ∷ 2 ∷ 0xA0 ∷ 0xA0 ∷ [])
     -- a speaker does not reach into the next event; the longest has 255 bytes
-    ∷ event_case WrongLength (8 ∷ 0 ∷ 1 ∷ 3 ∷ 5 ∷ 0 ∷ 0 ∷ [])
-    ∷ event_case WrongLength (8 ∷ 0 ∷ 255 ∷ 255 ∷ replicate 254 0xA0)
-    ∷ event_case Right (8 ∷ 1 ∷ 0 ∷ 255 ∷ replicate 255 0xA0)
+    ∷ wrong_case WrongLength (8 ∷ 0 ∷ 1 ∷ 3 ∷ 5 ∷ 0 ∷ 0 ∷ [])
+    ∷ wrong_case WrongLength (8 ∷ 0 ∷ 255 ∷ 255 ∷ replicate 254 0xA0)
+    ∷ right_case (8 ∷ 1 ∷ 0 ∷ 255 ∷ replicate 255 0xA0)
     ∷ []
 
-unfoldable pub checks_found : List EventCase → List Checked
+unfoldable pub checks_found : List EventCase → List (Result (Unit {0}) EventsWrong)
 checks_found [] = []
 checks_found (k ∷ ks) = checked_of k.body ∷ checks_found ks
 
-unfoldable pub checks_meant : List EventCase → List Checked
+unfoldable pub checks_meant : List EventCase → List (Result (Unit {0}) EventsWrong)
 checks_meant [] = []
 checks_meant (k ∷ ks) = k.says ∷ checks_meant ks
 

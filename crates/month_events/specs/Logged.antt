@@ -1,6 +1,6 @@
 -- docs/EVENTS.md, 'The file', from the logger's hand: the event that is written of each call, row for row of the table of kinds. What is
 -- written of calls is read as those calls, every byte of an AID or a command with it, and every right body was so written.
-use Rattle.std.specs.Prelude.{ℕ, ◌+◌, ◌<◌, ◌≡◌, List, [], ◌∷◌, ◌++◌, false, length, take, drop, replicate}
+use Rattle.std.specs.Prelude.{ℕ, ◌+◌, ◌<◌, ◌≡◌, List, [], ◌∷◌, ◌++◌, false, length, take, drop, replicate, Result, Ok}
 use Rattle.base_bytes.specs.Bytes.{four_bytes}
 use Rattle.read_tlv.specs.Encoding.{Bytes}
 use Rattle.rule_run.specs.Calls.{Call, Call.Command, Call.Keyed, Call.Stored, Call.Finished, Call.Tick, Call.Lost, Call.PolicyUpdate}
@@ -10,7 +10,7 @@ use Rattle.month_events.specs.Kinds.{event_length_wrong, call_for}
 use Rattle.month_events.specs.Events.{Event, events_of, checked_of, calls_of, call_over}
 use Rattle.month_events.specs.Written.{encode_events}
 use Rattle.month_events.specs.declared.Kind.{Kind}
-use Rattle.month_events.specs.declared.Checked.TheVariants.{Right}
+use Rattle.month_events.specs.declared.NoKind.{NoKind}
 
 abbrev pub event : ℕ → List ℕ → Event
 event kind bytes = record { kind = kind; bytes = bytes }
@@ -43,12 +43,12 @@ AllLogged (call ∷ calls) (e ∷ es) = Logged call e × AllLogged calls es
 abbrev pub CallsBack : Type 0
 CallsBack =
     (calls : List Call) (es : List Event) → AllLogged calls es
-    → (checked_of (encode_events es) ≡ Right) × (calls_of (events_of (encode_events es)) ≡ calls)
+    → (checked_of (encode_events es) ≡ Ok tt) × (calls_of (events_of (encode_events es)) ≡ calls)
 
 -- what is right was written of the calls that it is read as
 abbrev pub CallsWritten : Type 0
 CallsWritten =
-    (b : List ℕ) → Bytes b → checked_of b ≡ Right
+    (b : List ℕ) → Bytes b → checked_of b ≡ Ok tt
     → (encode_events (events_of b) ≡ b) × AllLogged (calls_of (events_of b)) (events_of b)
 
 -- calls that can be written: an AID of 17 bytes, and one that fills an event
@@ -61,5 +61,5 @@ CallsMet =
 -- the code's table, over the body that an event stands in, is the table of an event's own bytes
 abbrev pub OneTable : Type 0
 OneTable =
-    (b : List ℕ) (from n : ℕ) (k : Kind) → event_length_wrong k (take n (drop from b)) ≡ false
+    (b : List ℕ) (from n : ℕ) (k : Result Kind NoKind) → event_length_wrong k (take n (drop from b)) ≡ false
     → door.call_of b least_buffer (call_over b k from (from + n)) ≡ call_for k (take n (drop from b))

@@ -4,7 +4,7 @@
 
 ghost use Rattle.std.specs.Prelude.{◌≡◌, ◌+◌, ◌≤◌, ◌<◌, length};
 ghost use Rattle.base_bytes.specs.Bytes.{between};
-ghost use Rattle.month_events.specs.Kinds.{kind_of, is_unknown, speaker_size, event_length_wrong};
+ghost use Rattle.month_events.specs.Kinds.{kind_of, speaker_size, event_length_wrong};
 ghost use Rattle.month_events.specs.Events.{call_over, checked_of, head_size, next_event, stop_of};
 
 use base_bytes::{Part, byte_at, read_four, read_pair};
@@ -21,64 +21,54 @@ pub enum Kind {
     Lost,
     FinishedWithMark,
     Policy,
-    Unknown,
 }
 
-// What a walk over all events finds; of several faults the first of this list.
+// A number that is no event's kind.
 #[derive(Clone, Copy)]
-pub enum Checked {
+pub struct NoKind;
+
+// What is wrong with the events of a body; of several faults the first of this list.
+#[derive(Clone, Copy)]
+pub enum EventsWrong {
     CutShort,
     UnknownKind,
     WrongLength,
-    Right,
 }
 
 // The event at a place, as the manager's call over the same bytes, and the place after it.
 #[derive(Clone, Copy)]
-pub enum Next {
-    Event { call: Call, stop: usize },
-    End,
+pub struct Next {
+    pub call: Call,
+    pub stop: usize,
 }
 
 // The bytes of an event's kind and length.
 const HEAD: usize = 3;
 
-impl Kind {
-    fn of(byte: u8) -> Self
-        ensures { result ≡ kind_of byte }
-    {
+impl TryFrom<u8> for Kind {
+    type Error = NoKind;
+
+    ghost try_from_gives = { λ byte r. r ≡ kind_of byte };
+
+    fn try_from(byte: u8) -> Result<Self, NoKind> {
         match byte {
-            1 => Kind::Command,
-            2 => Kind::Keyed,
-            3 => Kind::Stored,
-            4 => Kind::Finished,
-            5 => Kind::Tick,
-            6 => Kind::Lost,
-            7 => Kind::FinishedWithMark,
-            8 => Kind::Policy,
-            _ => Kind::Unknown,
+            1 => Ok(Kind::Command),
+            2 => Ok(Kind::Keyed),
+            3 => Ok(Kind::Stored),
+            4 => Ok(Kind::Finished),
+            5 => Ok(Kind::Tick),
+            6 => Ok(Kind::Lost),
+            7 => Ok(Kind::FinishedWithMark),
+            8 => Ok(Kind::Policy),
+            _ => Err(NoKind),
         }
     }
+}
 
-    fn is_unknown(self) -> bool
-        ensures { result ≡ is_unknown self }
-    {
-        match self {
-            Kind::Command => false,
-            Kind::Keyed => false,
-            Kind::Stored => false,
-            Kind::Finished => false,
-            Kind::Tick => false,
-            Kind::Lost => false,
-            Kind::FinishedWithMark => false,
-            Kind::Policy => false,
-            Kind::Unknown => true,
-        }
-    }
-
+impl Kind {
     // Are these too few or too many bytes for an event of this kind?
     fn length_wrong(self, bytes: &[u8]) -> bool
-        ensures { result ≡ event_length_wrong self bytes.now }
+        ensures { result ≡ event_length_wrong (Ok self) bytes.now }
     {
         let length = bytes.len();
         match self {
@@ -90,7 +80,6 @@ impl Kind {
             Kind::Lost => length != 0,
             Kind::FinishedWithMark => length < 2,
             Kind::Policy => length < speaker_size(bytes, 0),
-            Kind::Unknown => false,
         }
     }
 }
@@ -128,7 +117,7 @@ fn stop_of(b: &[u8], at: usize) -> usize
 // The call of an event whose bytes stand from `from` up to `to`.
 fn call_over(b: &[u8], kind: Kind, from: usize, to: usize) -> Call
     requires { from ≤ length b.now }
-    ensures { result ≡ call_over b.now kind from to }
+    ensures { result ≡ call_over b.now (Ok kind) from to }
 {
     match kind {
         Kind::Command => Call::Command {
@@ -159,12 +148,11 @@ fn call_over(b: &[u8], kind: Kind, from: usize, to: usize) -> Call
                 bytes: part(stop, to),
             }
         }
-        Kind::Unknown => Call::Lost,
     }
 }
 
-// What is wrong with the events of a body, in one walk.
-pub fn check_events(b: &[u8]) -> Checked
+// What is wrong with the events of a body, if anything is, in one walk.
+pub fn check_events(b: &[u8]) -> Result<(), EventsWrong>
     ensures { result ≡ checked_of b.now }
 {
     let mut at = 0;
@@ -173,37 +161,37 @@ pub fn check_events(b: &[u8]) -> Checked
     while at < b.len() {
         let stop = stop_of(b, at);
         if b.len() < stop {
-            return Checked::CutShort;
+            return Err(EventsWrong::CutShort);
         }
-        let kind = Kind::of(b[at]);
-        unknown = unknown | kind.is_unknown();
-        let from = at + HEAD;
-        wrong = wrong | kind.length_wrong(&b[from..stop]);
+        match Kind::try_from(b[at]) {
+            Ok(kind) => wrong |= kind.length_wrong(&b[at + HEAD..stop]),
+            Err(NoKind) => unknown = true,
+        }
         at = stop;
     }
     if unknown {
-        return Checked::UnknownKind;
+        return Err(EventsWrong::UnknownKind);
     }
     if wrong {
-        return Checked::WrongLength;
+        return Err(EventsWrong::WrongLength);
     }
-    Checked::Right
+    Ok(())
 }
 
-// The event at a place; none where the body ends there or within it.
-pub fn next_event(b: &[u8], at: usize) -> Next
+// The event at a place; none where the body ends there or within it. One of no kind is never run (decision B59).
+pub fn next_event(b: &[u8], at: usize) -> Option<Next>
     ensures { result ≡ next_event b.now at }
 {
     if b.len() <= at {
-        return Next::End;
+        return None;
     }
     let stop = stop_of(b, at);
     if b.len() < stop {
-        return Next::End;
+        return None;
     }
-    let kind = Kind::of(b[at]);
-    Next::Event {
-        call: call_over(b, kind, at + HEAD, stop),
-        stop,
-    }
+    let call = match Kind::try_from(b[at]) {
+        Ok(kind) => call_over(b, kind, at + HEAD, stop),
+        Err(NoKind) => Call::Lost,
+    };
+    Some(Next { call, stop })
 }

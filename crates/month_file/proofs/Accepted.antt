@@ -3,6 +3,7 @@ use Prim.Native.Nat.{ℕ, ◌≤◌}
 use mathlib.Core.Path.{◌≡◌, refl, sym}
 use mathlib.Core.List.{List, [], ◌∷◌}
 use mathlib.Core.Bool.{Bool, true, false, not, cond, ◌||◌, false≢true}
+use Rattle.std.specs.Prelude.{Option, Some, None, Ok}
 use native.Mathlib.Omega.{arith}
 use lib.ListN.{length}
 use lib.Dec.{ltb}
@@ -12,14 +13,11 @@ use Rattle.base_status.specs.StatusWords.{is_done}
 use Rattle.card_record.specs.Sound.{sound}
 use Rattle.card_record.proofs.Freshness.{fresh-sound}
 use Rattle.month_contents.specs.Contents.{most_file, fresh_kind, events_kind, contents_wrong, section_of}
-use Rattle.month_contents.specs.declared.Section.{Section}
-use Rattle.month_contents.specs.declared.Section.TheVariants.{Body, Missing}
+use Rattle.base_bytes.specs.declared.Part.{Part}
 use Rattle.month_events.specs.Events.{cut_short, kind_unknown, wrong_length, checked_of}
-use Rattle.month_events.specs.declared.Checked.TheVariants as checked
 use Rattle.month_file.specs.Inputs.{inputs_of, fresh_answer, fresh_bad}
-use Rattle.month_file.specs.File.{is_missing, part_in, body_of, RefusalRow, refusal_rows, first_of, verdict_of}
+use Rattle.month_file.specs.File.{is_missing, part_in, body_of, Verdict.Accepted, Verdict.Refused, RefusalRow, refusal_rows, first_of, verdict_of}
 use Rattle.month_file.specs.Refusals.{NoneRefuses}
-use Rattle.month_file.specs.declared.Verdict.TheVariants.{Accepted, Refused}
 
 passed-case : (r : RefusalRow) (rs : List RefusalRow) (b : Bool) → r.when ≡ b → cond b (Refused r.refusal) (first_of rs) ≡ Accepted → (first_of rs ≡ Accepted → NoneRefuses rs) → NoneRefuses (r ∷ rs)
 passed-case r rs true q e f = let z : ◌≡◌ {A = ℕ} 0 1 = cc in absurd (omega arith)
@@ -41,20 +39,20 @@ or-none true b e = absurd (false≢true (sym e))
 or-none false b e = (refl, e)
 
 -- a section that is not missing has a body
-pub listed : (x : Section) → is_missing x ≡ false → x ≡ Body (part_in x)
-listed (Body p) e = refl
-listed Missing e = absurd (false≢true (sym e))
+pub listed : (x : Option Part) → is_missing x ≡ false → x ≡ Some (part_in x)
+listed (Some p) e = refl
+listed None e = absurd (false≢true (sym e))
 
 -- the whole of an accepted file, by name
 pub record Accepting (s : List ℕ) : Type 0 where
   pub size : length s ≤ most_file
   pub contents : contents_wrong s ≡ false
-  pub fresh-listed : section_of s fresh_kind ≡ Body (part_in (section_of s fresh_kind))
-  pub events-listed : section_of s events_kind ≡ Body (part_in (section_of s events_kind))
+  pub fresh-listed : section_of s fresh_kind ≡ Some (part_in (section_of s fresh_kind))
+  pub events-listed : section_of s events_kind ≡ Some (part_in (section_of s events_kind))
   pub enough : 32 ≤ length (body_of s fresh_kind)
   pub made : is_done (fresh_answer (body_of s fresh_kind)).status ≡ true
   pub sound-card : sound (fresh_answer (body_of s fresh_kind)).card ≡ true
-  pub right : checked_of (body_of s events_kind) ≡ checked.Right
+  pub right : checked_of (body_of s events_kind) ≡ Ok tt
 
 size_of : (s : List ℕ) → contents_wrong s ≡ false → length s ≤ most_file
 unfolding contents_wrong
@@ -70,7 +68,7 @@ sound-of : (f : List ℕ) → is_done (fresh_answer f).status ≡ true → sound
 unfolding fresh_answer
 sound-of f e = let x = inputs_of f in fresh-sound x.eid x.aid x.capacity x.quota x.used x.volatile e
 
-right_of : (b : List ℕ) → cut_short b ≡ false → kind_unknown b ≡ false → wrong_length b ≡ false → checked_of b ≡ checked.Right
+right_of : (b : List ℕ) → cut_short b ≡ false → kind_unknown b ≡ false → wrong_length b ≡ false → checked_of b ≡ Ok tt
 unfolding checked_of pick
 right_of b e f g = rw (e, f, g)
 

@@ -4,6 +4,7 @@ use Prim.Native.Nat.{ℕ, ◌+◌, ◌≤◌, ◌<◌}
 use mathlib.Core.Path.{◌≡◌, refl, sym, ap, ◌∙◌}
 use mathlib.Core.List.{List, [], ◌++◌}
 use mathlib.Core.Bool.{false}
+use Rattle.std.specs.Prelude.{Option, Ok}
 use native.Mathlib.Omega.{arith}
 use lib.ListN.{length, take, drop, length-append, take-append-drop}
 use lib.Seq.{take_at, drop_at, drop-drop, length-take-le}
@@ -14,12 +15,11 @@ use Rattle.card_record.specs.Answers.{accepted}
 use Rattle.card_record.specs.Fresh.{fresh_outcome}
 use Rattle.read_tlv.specs.Encoding.{Bytes}
 use Rattle.month_contents.specs.Contents.{fresh_kind, events_kind, section_of}
-use Rattle.month_contents.specs.declared.Section.{Section}
+use Rattle.base_bytes.specs.declared.Part.{Part}
 use Rattle.month_contents.proofs.TwoSections.{two-sections}
 use Rattle.month_events.specs.Events.{events_of, checked_of}
 use Rattle.month_events.specs.Written.{encode_events}
 use Rattle.month_events.specs.Logged.{event, LoggedAs.tick}
-use Rattle.month_events.specs.declared.Checked.TheVariants as checked
 use Rattle.month_events.proofs.Written.{bytes_drop, bytes_take, events-back, events-written}
 use Rattle.month_events.proofs.Logged.{four-back, bytes_same, logged-writable}
 use Rattle.rule_run.specs.Calls as manager
@@ -69,12 +69,12 @@ read_back listed_first laid_first x es can size =
     let h = file-holds listed_first laid_first (encode_inputs x) (encode_events es) size in
     let a = h.accepted in
     let back = events-back es can.events in
-    let fresh : body_of s fresh_kind ≡ encode_inputs x = ap (λ (k : Section). part_of s (part_in k)) a.fresh-found ∙ h.fresh-is in
-    let events : body_of s events_kind ≡ encode_events es = ap (λ (k : Section). part_of s (part_in k)) a.events-found ∙ h.events-is in
+    let fresh : body_of s fresh_kind ≡ encode_inputs x = ap (λ (k : Option Part). part_of s (part_in k)) a.fresh-found ∙ h.fresh-is in
+    let events : body_of s events_kind ≡ encode_events es = ap (λ (k : Option Part). part_of s (part_in k)) a.events-found ∙ h.events-is in
     record {
       accepted =
           sym (checked-stop s a.right h.fresh a.fresh-found h.events a.events-found
-          (ap fresh_bad h.fresh-is ∙ inputs-taken x can.inputs) checked.Right (ap checked_of h.events-is ∙ back.0));
+          (ap fresh_bad h.fresh-is ∙ inputs-taken x can.inputs) (Ok tt) (ap checked_of h.events-is ∙ back.0));
       inputs = ap inputs_of fresh ∙ inputs-back x can.inputs;
       events = ap events_of events ∙ back.1;
     }

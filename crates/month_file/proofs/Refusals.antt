@@ -4,6 +4,7 @@ use Prim.Native.Nat.{ℕ}
 use mathlib.Core.Path.{◌≡◌, refl, sym, ap, ◌∙◌}
 use mathlib.Core.List.{List, [], ◌∷◌, ◌++◌}
 use mathlib.Core.Bool.{Bool, true, false, cond}
+use Rattle.std.specs.Prelude.{Result, Err}
 use native.Mathlib.Omega.{arith}
 use Rattle.base_choice.specs.Choice.{pick, is_same}
 use Rattle.base_status.specs.Rows.{word_of}
@@ -16,11 +17,10 @@ use Rattle.month_events.specs.Events.{events_within, events_of, cut_within, cut_
 use Rattle.base_bytes.specs.Bytes.{part_of}
 use Rattle.month_events.proofs.Turns.{events-none}
 use Rattle.month_file.specs.Inputs.{fresh_answer, fresh_bad}
-use Rattle.month_file.specs.File.{RefusalRow, refusal_rows, first_of, verdict_of, refused_file, opened_of}
+use Rattle.month_file.specs.File.{Verdict.Refused, RefusalRow, refusal_rows, first_of, verdict_of, opened_of}
 use Rattle.month_file.specs.Refusals as table
-use Rattle.month_file.specs.Refusals.{NoneRefuses, FirstRefusal, Refusing, RefusalTable}
+use Rattle.month_file.specs.Refusals.{NoneRefuses, FirstRefusal, card_in, events_in, Refusing, RefusalTable}
 use Rattle.month_file.specs.declared.Refusal.{Refusal}
-use Rattle.month_file.specs.declared.Verdict.TheVariants.{Refused}
 use Rattle.month_file.specs.declared.Opened.{Opened}
 use Rattle.month_file.proofs.Opening.{opened-as, opened-verdict}
 use Rattle.month_file.proofs.Accepted.{passed, none-refuses}
@@ -49,7 +49,7 @@ unfolding first_of
 only-first [] r e = let z : ◌≡◌ {A = ℕ} 0 1 = cc in absurd (omega arith)
 only-first (x ∷ xs) r e = only-case x xs r x.when refl e (only-first xs r)
 
-opened-refused : (s : List ℕ) (r : Refusal) → verdict_of s ≡ Refused r → opened_of s ≡ refused_file r
+opened-refused : (s : List ℕ) (r : Refusal) → verdict_of s ≡ Refused r → opened_of s ≡ Err r
 opened-refused s r e = sym (opened-as s (Refused r) (sym e))
 
 pub refusing : Refusing
@@ -60,8 +60,9 @@ refusing =
       otherwise = λ s n. none-refuses (refusal_rows s) n;
       only-otherwise = λ s e. passed (refusal_rows s) e;
       told = opened-verdict;
-      no-card = λ s r e. ap (λ (o : Opened). o.card) (opened-refused s r e);
-      none-run = λ s r e. ap (λ (o : Opened). events_of (part_of s o.events)) (opened-refused s r e) ∙ events-none;
+      refusal-alone = opened-refused;
+      no-card = λ s r e. ap card_in (opened-refused s r e);
+      none-run = λ s r e. ap (λ (o : Result Opened Refusal). events_of (part_of s (events_in o))) (opened-refused s r e) ∙ events-none;
     }
 
 pub refusal-table : RefusalTable

@@ -1,28 +1,23 @@
 -- docs/EVENTS.md, 'What is refused': "A file is refused by the first of these that holds." The table stands row for row.
-use Rattle.std.specs.Prelude.{ℕ, List, [], ◌∷◌, Bool, true, false, cond, ◌||◌}
+use Rattle.std.specs.Prelude.{ℕ, List, [], ◌∷◌, Bool, true, false, cond, ◌||◌, Option, Some, None, Result, Ok, Err}
 use Rattle.base_bytes.specs.Bytes.{part_of}
 use Rattle.base_bytes.specs.declared.Part.{Part}
-use Rattle.card_record.specs.Fresh.{zero_card}
 use Rattle.month_contents.specs.Contents.{fresh_kind, events_kind, contents_wrong, section_of}
-use Rattle.month_contents.specs.declared.Section.{Section}
-use Rattle.month_contents.specs.declared.Section.TheVariants.{Body, Missing}
 use Rattle.month_events.specs.Events.{Event, events_of, cut_short, kind_unknown, wrong_length, calls_of}
 use Rattle.rule_run.specs.Calls.{Call}
 use Rattle.month_file.specs.Inputs.{fresh_answer, fresh_bad}
 use Rattle.month_file.specs.declared.Refusal.{Refusal}
 use Rattle.month_file.specs.declared.Refusal.TheVariants.{ContentsWrong, SectionMissing, FreshBad, CutShort, UnknownKind, WrongLength}
-use Rattle.month_file.specs.declared.Verdict.{Verdict}
-use Rattle.month_file.specs.declared.Verdict.TheVariants.{Accepted, Refused}
 use Rattle.month_file.specs.declared.Opened.{Opened}
 
 -- a section's body; none where it is not listed
-abbrev pub is_missing : Section → Bool
-is_missing (Body p) = false
-is_missing Missing = true
+abbrev pub is_missing : Option Part → Bool
+is_missing (Some p) = false
+is_missing None = true
 
-abbrev pub part_in : Section → Part
-part_in (Body p) = p
-part_in Missing = record { start = 0; len = 0 }
+abbrev pub part_in : Option Part → Part
+part_in (Some p) = p
+part_in None = record { start = 0; len = 0 }
 
 abbrev pub body_of : List ℕ → ℕ → List ℕ
 body_of s kind = part_of s (part_in (section_of s kind))
@@ -33,6 +28,11 @@ file_events s = events_of (body_of s events_kind)
 
 abbrev pub file_calls : List ℕ → List Call
 file_calls s = calls_of (file_events s)
+
+-- a file is accepted, or refused by name
+pub data Verdict : Type 0 where
+  Accepted : Verdict
+  Refused : Refusal → Verdict
 
 pub record RefusalRow : Type 0 where
   pub when : Bool
@@ -58,24 +58,17 @@ refusal_rows s =
     ∷ event_rows (body_of s events_kind)
 
 unfoldable pub first_of : List RefusalRow → Verdict
-first_of [] = Accepted
-first_of (r ∷ rs) = cond r.when (Refused r.refusal) (first_of rs)
+first_of [] = Verdict.Accepted
+first_of (r ∷ rs) = cond r.when (Verdict.Refused r.refusal) (first_of rs)
 
 abbrev pub verdict_of : List ℕ → Verdict
 verdict_of s = first_of (refusal_rows s)
 
--- the file opened; of a refused one the record of zeros, and no events
-abbrev pub refused_file : Refusal → Opened
-refused_file r = record { verdict = Refused r; card = zero_card; events = record { start = 0; len = 0 } }
+-- the file opened: the card that it makes and where its events lie; of a refused one there is the refusal alone
+abbrev pub opened_by : Verdict → List ℕ → Result Opened Refusal
+opened_by Verdict.Accepted s =
+    Ok (record { card = (fresh_answer (body_of s fresh_kind)).card; events = part_in (section_of s events_kind) })
+opened_by (Verdict.Refused r) s = Err r
 
-abbrev pub opened_by : Verdict → List ℕ → Opened
-opened_by Accepted s =
-    record {
-      verdict = Accepted;
-      card = (fresh_answer (body_of s fresh_kind)).card;
-      events = part_in (section_of s events_kind);
-    }
-opened_by (Refused r) s = refused_file r
-
-unfoldable pub opened_of : List ℕ → Opened
+unfoldable pub opened_of : List ℕ → Result Opened Refusal
 opened_of s = opened_by (verdict_of s) s

@@ -10,8 +10,7 @@ use Rattle.month_events.specs.Events.{Event}
 use Rattle.month_events.specs.Written.{encode_events, AllWritable}
 use Rattle.rule_run.specs.Inputs.{Inputs, fresh_of}
 use Rattle.month_file.specs.Inputs.{inputs_of}
-use Rattle.month_file.specs.File.{body_of, file_events, verdict_of}
-use Rattle.month_file.specs.declared.Verdict.TheVariants.{Accepted}
+use Rattle.month_file.specs.File.{body_of, file_events, Verdict.Accepted, verdict_of}
 
 -- "EID (16 bytes), capacity, quota, used, volatile (4 bytes each), and the AID, which is all the rest"
 abbrev pub encode_inputs : Inputs → List ℕ

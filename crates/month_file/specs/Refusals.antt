@@ -1,19 +1,19 @@
 -- docs/EVENTS.md, 'What is refused': "A file is refused by the first of these that holds .. and no event is run before all of them were asked."
 -- The first statements hold by definition, and say how the table is to be read; the files pin its rows and their order, by computing.
-use Rattle.std.specs.Prelude.{ℕ, ◌≡◌, List, [], ◌∷◌, ◌++◌, true, false, length, replicate}
+use Rattle.std.specs.Prelude.{ℕ, ◌≡◌, List, [], ◌∷◌, ◌++◌, true, false, length, replicate, Result, Ok, Err}
 use Rattle.base_bytes.specs.Bytes.{four_bytes, part_of}
+use Rattle.base_bytes.specs.declared.Part.{Part}
 use Rattle.card_record.specs.Fresh.{zero_card}
 use Rattle.card_record.specs.declared.Card.{Card}
 use Rattle.month_contents.specs.Written.{entry}
 use Rattle.month_events.specs.Events.{Event, events_of, checked_of}
-use Rattle.month_events.specs.declared.Checked.{Checked}
-use Rattle.month_events.specs.declared.Checked.TheVariants as checked
-use Rattle.month_file.specs.File.{RefusalRow, event_rows, refusal_rows, first_of, verdict_of, opened_of}
+use Rattle.month_events.specs.declared.EventsWrong.{EventsWrong}
+use Rattle.month_events.specs.declared.EventsWrong.TheVariants as events
+use Rattle.month_file.specs.File.{Verdict, Verdict.Accepted, Verdict.Refused, RefusalRow, event_rows, refusal_rows, first_of, verdict_of, opened_of}
+use Rattle.month_file.specs.declared.Opened.{Opened}
 use Rattle.month_file.specs.Grammar.{encode_inputs, file_of, sample}
 use Rattle.month_file.specs.declared.Refusal.{Refusal}
 use Rattle.month_file.specs.declared.Refusal.TheVariants.{ContentsWrong, SectionMissing, FreshBad, CutShort, UnknownKind, WrongLength}
-use Rattle.month_file.specs.declared.Verdict.{Verdict}
-use Rattle.month_file.specs.declared.Verdict.TheVariants.{Accepted, Refused}
 
 -- no row's condition holds
 abbrev pub NoneRefuses : List RefusalRow → Type 0
@@ -30,12 +30,25 @@ pub record FirstRefusal (rows : List RefusalRow) (r : Refusal) : Type 0 where
   pub holds : this.when ≡ true
   pub name : this.refusal ≡ r
 
+-- what an opened file says: its verdict, its card and where its events lie; a refused one has the record of zeros, and none
+abbrev pub verdict_in : Result Opened Refusal → Verdict
+verdict_in (Ok o) = Accepted
+verdict_in (Err r) = Refused r
+
+abbrev pub card_in : Result Opened Refusal → Card
+card_in (Ok o) = o.card
+card_in (Err r) = zero_card
+
+abbrev pub events_in : Result Opened Refusal → Part
+events_in (Ok o) = o.events
+events_in (Err r) = record { start = 0; len = 0 }
+
 -- what is run of a file: the card that is begun with, and the events
 abbrev pub card_run : List ℕ → Card
-card_run s = (opened_of s).card
+card_run s = card_in (opened_of s)
 
 abbrev pub events_run : List ℕ → List Event
-events_run s = events_of (part_of s (opened_of s).events)
+events_run s = events_of (part_of s (events_in (opened_of s)))
 
 pub record Refusing : Type 0 where
   pub first-row : (s : List ℕ) (r : Refusal) → FirstRefusal (refusal_rows s) r → verdict_of s ≡ Refused r
@@ -43,16 +56,20 @@ pub record Refusing : Type 0 where
   pub otherwise : (s : List ℕ) → NoneRefuses (refusal_rows s) → verdict_of s ≡ Accepted
   pub only-otherwise : (s : List ℕ) → verdict_of s ≡ Accepted → NoneRefuses (refusal_rows s)
   -- the verdict that is told is the table's, and of a refused file no card is made and no event is run
-  pub told : (s : List ℕ) → (opened_of s).verdict ≡ verdict_of s
+  pub told : (s : List ℕ) → verdict_in (opened_of s) ≡ verdict_of s
+  pub refusal-alone : (s : List ℕ) (r : Refusal) → verdict_of s ≡ Refused r → opened_of s ≡ Err r
   pub no-card : (s : List ℕ) (r : Refusal) → verdict_of s ≡ Refused r → card_run s ≡ zero_card
   pub none-run : (s : List ℕ) (r : Refusal) → verdict_of s ≡ Refused r → events_run s ≡ []
 
 -- the verdict on the events, from what the walk over them tells
-abbrev pub verdict_for : Checked → Verdict
-verdict_for checked.CutShort = Refused CutShort
-verdict_for checked.UnknownKind = Refused UnknownKind
-verdict_for checked.WrongLength = Refused WrongLength
-verdict_for checked.Right = Accepted
+abbrev pub refusal_for : EventsWrong → Refusal
+refusal_for events.CutShort = CutShort
+refusal_for events.UnknownKind = UnknownKind
+refusal_for events.WrongLength = WrongLength
+
+abbrev pub verdict_for : Result (Unit {0}) EventsWrong → Verdict
+verdict_for (Err wrong) = Refused (refusal_for wrong)
+verdict_for (Ok u) = Accepted
 
 -- one order: the walk asks in the order of the table's rows
 abbrev pub OneOrder : Type 0

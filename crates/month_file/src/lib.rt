@@ -5,12 +5,13 @@
 ghost use Rattle.std.specs.Prelude.{◌≡◌};
 ghost use Rattle.card_record.specs.Answers.{as_answer};
 ghost use Rattle.month_file.specs.Inputs.{fresh_answer};
-ghost use Rattle.month_file.specs.File.{refused_file, opened_of};
+ghost use Rattle.month_file.specs.File.{opened_of};
+ghost use Rattle.month_file.specs.Refusals.{refusal_for};
 
 use base_bytes::{Part, part_of, read_four};
 use card_record::{Answer, Card};
-use month_contents::{EVENTS, FRESH, Section, contents_wrong, section_of};
-use month_events::{Checked, check_events};
+use month_contents::{EVENTS, FRESH, contents_wrong, section_of};
+use month_events::{EventsWrong, check_events};
 
 #[derive(Clone, Copy)]
 pub enum Refusal {
@@ -22,35 +23,27 @@ pub enum Refusal {
     WrongLength,
 }
 
-#[derive(Clone, Copy)]
-pub enum Verdict {
-    Accepted,
-    Refused(Refusal),
+impl From<EventsWrong> for Refusal {
+    ghost from_gives = { λ wrong r. r ≡ refusal_for wrong };
+
+    fn from(wrong: EventsWrong) -> Refusal {
+        match wrong {
+            EventsWrong::CutShort => Refusal::CutShort,
+            EventsWrong::UnknownKind => Refusal::UnknownKind,
+            EventsWrong::WrongLength => Refusal::WrongLength,
+        }
+    }
 }
 
-// The fresh card and the events' body; of a refused file the record of zeros and no bytes.
+// The fresh card and the events' body.
 #[derive(Clone, Copy)]
 pub struct Opened {
-    pub verdict: Verdict,
     pub card: Card,
     pub events: Part,
 }
 
 // The fresh card's inputs without their AID.
 const INPUTS: usize = 32;
-
-impl Opened {
-    fn refused(refusal: Refusal) -> Opened
-        ensures { result ≡ refused_file refusal }
-    {
-        let card = Card::zero();
-        Opened {
-            verdict: Verdict::Refused(refusal),
-            card,
-            events: Part { start: 0, len: 0 },
-        }
-    }
-}
 
 // What the fresh call answers to inputs as they stand in a file; a byte that they lack is 00.
 fn fresh_answer(f: &[u8]) -> Answer
@@ -76,38 +69,25 @@ fn fresh_answer(f: &[u8]) -> Answer
 }
 
 // A file opened: each refusal is asked of the whole file before the next.
-pub fn open(s: &[u8]) -> Opened
+pub fn open(s: &[u8]) -> Result<Opened, Refusal>
     ensures { result ≡ opened_of s.now }
 {
     if contents_wrong(s) {
-        return Opened::refused(Refusal::ContentsWrong);
+        return Err(Refusal::ContentsWrong);
     }
-    let Section::Body(inputs) = section_of(s, FRESH) else {
-        return Opened::refused(Refusal::SectionMissing);
-    };
-    let Section::Body(events) = section_of(s, EVENTS) else {
-        return Opened::refused(Refusal::SectionMissing);
-    };
+    let inputs = section_of(s, FRESH).ok_or(Refusal::SectionMissing)?;
+    let events = section_of(s, EVENTS).ok_or(Refusal::SectionMissing)?;
     let fresh = part_of(s, inputs);
     if fresh.len() < INPUTS {
-        return Opened::refused(Refusal::FreshBad);
+        return Err(Refusal::FreshBad);
     }
     let answer = fresh_answer(fresh);
-    let status = answer.status;
-    if !status.is_done() {
-        return Opened::refused(Refusal::FreshBad);
+    if !answer.status.is_done() {
+        return Err(Refusal::FreshBad);
     }
-    match check_events(part_of(s, events)) {
-        Checked::CutShort => Opened::refused(Refusal::CutShort),
-        Checked::UnknownKind => Opened::refused(Refusal::UnknownKind),
-        Checked::WrongLength => Opened::refused(Refusal::WrongLength),
-        Checked::Right => {
-            let card = answer.card;
-            Opened {
-                verdict: Verdict::Accepted,
-                card,
-                events,
-            }
-        }
-    }
+    check_events(part_of(s, events))?;
+    Ok(Opened {
+        card: answer.card,
+        events,
+    })
 }

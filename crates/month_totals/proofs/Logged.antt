@@ -12,9 +12,8 @@ use Rattle.month_events.specs.Events.{calls_of}
 use Rattle.month_events.specs.Written.{encode_events}
 use Rattle.month_events.proofs.Logged.{all-writable, all_read, all-logged, calls-met}
 use Rattle.month_file.specs.Inputs.{inputs_of, fresh_answer}
-use Rattle.month_file.specs.File.{body_of, file_events, file_calls, verdict_of}
+use Rattle.month_file.specs.File.{Verdict.Accepted, body_of, file_events, file_calls, verdict_of}
 use Rattle.month_file.specs.Grammar.{written}
-use Rattle.month_file.specs.declared.Verdict.TheVariants.{Accepted}
 use Rattle.month_file.proofs.Grammar.{read_back, written_back, grammar-met}
 use Rattle.month_count.specs.Month.{file_card}
 use Rattle.month_totals.specs.Written.{report_said}

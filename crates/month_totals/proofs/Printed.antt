@@ -23,8 +23,7 @@ use Rattle.month_tally.specs.Lines.{same_aid}
 use Rattle.month_report.specs.Report.{report_text}
 use Rattle.month_report.specs.ReadOff.{PlainLine, most_figure, aid_off, FiguresFit, aid_lines, ReportRead}
 use Rattle.month_report.proofs.ReadOff.{reports-read}
-use Rattle.month_file.specs.File.{part_in, body_of, file_events, file_calls, verdict_of}
-use Rattle.month_file.specs.declared.Verdict.TheVariants.{Accepted}
+use Rattle.month_file.specs.File.{Verdict.Accepted, part_in, body_of, file_events, file_calls, verdict_of}
 use Rattle.month_file.proofs.Accepted.{accepted}
 use Rattle.month_count.specs.Month.{Counted, file_card, month_of}
 use Rattle.month_count.specs.Statements.{how_many, is_refusal, figure, splits, counts_for, lines_in, FileTold, is_among_aids}

@@ -6,7 +6,7 @@ use native.Mathlib.Omega.{arith}
 use lib.ListN.{length, get_or}
 use Rattle.base_bytes.specs.Bytes.{same_bytes}
 use Rattle.base_status.specs.Rows.{word_of}
-use Rattle.card_isdp.specs.Aids.{padded, named}
+use Rattle.card_isdp.specs.Aids.{padded}
 use Rattle.card_isdp.specs.Place.{is_for, clash, zeros, place_ok}
 use Rattle.card_places.specs.Places.{seek, quotas, all_of, any_of, count_of, distinct, all_off, enable_at}
 use Rattle.card_record.specs.Sound.{phase_ok, sound}
@@ -29,7 +29,7 @@ use Rattle.read_install.specs.Install.{prefixed_of, prefixed_at, names_at, right
 use Rattle.read_frame.specs.Framing.{length_wrong, class_right, class_wrong, instruction_wrong, parameters_right, parameters_wrong, shape_right, shape_wrong}
 use Rattle.read_command.specs.Requests.{field_of, data_wrong}
 use Rattle.rule_responses.specs.Responses.{status_body, status_row, row_of, part_from, next_row_from, part_given, next_row_after, one_status, data_response, deleted_response}
-use Rattle.rule_run.specs.Step.{step, step_by}
+use Rattle.rule_run.specs.Step.{step_by}
 use Rattle.month_tally.specs.Lines.{seek_aid}
 use Rattle.month_count.specs.Month.{Counted, counting}
 use Rattle.month_count.specs.Statements.{month_from, lines_in}

@@ -8,9 +8,8 @@ use Rattle.month_contents.specs.Contents.{fresh_kind}
 use Rattle.month_events.specs.Events.{Event}
 use Rattle.month_events.specs.Logged.{event, AllLogged}
 use Rattle.month_file.specs.Inputs.{inputs_of}
-use Rattle.month_file.specs.File.{body_of, file_events, file_calls, verdict_of}
+use Rattle.month_file.specs.File.{Verdict.Accepted, body_of, file_events, file_calls, verdict_of}
 use Rattle.month_file.specs.Grammar.{InputsWritable, WrittenFrom, written, sample}
-use Rattle.month_file.specs.declared.Verdict.TheVariants.{Accepted}
 use Rattle.month_count.specs.Month.{file_card}
 use Rattle.month_account.specs.Account.{account_text}
 use Rattle.month_totals.specs.Written.{report_said}

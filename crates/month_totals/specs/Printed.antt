@@ -13,8 +13,7 @@ use Rattle.text_words.specs.RoundTrips.{Octets}
 use Rattle.text_words.specs.declared.numbers.Number.TheVariants.{Value}
 use Rattle.month_tally.specs.Lines.{same_aid}
 use Rattle.month_report.specs.ReadOff.{PlainLine, plain_line, read_off, read_signed, aid_off, lines_above, number_on, numbers_added, rest_lines}
-use Rattle.month_file.specs.File.{verdict_of, file_events, file_calls}
-use Rattle.month_file.specs.declared.Verdict.TheVariants.{Accepted}
+use Rattle.month_file.specs.File.{Verdict.Accepted, verdict_of, file_events, file_calls}
 use Rattle.month_count.specs.Month.{file_card}
 use Rattle.month_count.specs.Statements.{how_many, is_refusal, figure, is_among_aids}
 use Rattle.month_account.specs.Account.{account_text}

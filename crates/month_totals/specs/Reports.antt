@@ -2,8 +2,7 @@
 use Rattle.std.specs.Prelude.{ℕ, ◌<◌, ◌≡◌, List, length, get_or}
 use Rattle.card_record.specs.declared.Card.{Card}
 use Rattle.rule_run.specs.Calls.{Call}
-use Rattle.month_file.specs.File.{verdict_of, file_calls}
-use Rattle.month_file.specs.declared.Verdict.TheVariants.{Accepted}
+use Rattle.month_file.specs.File.{Verdict.Accepted, verdict_of, file_calls}
 use Rattle.month_count.specs.Month.{Counted, file_card}
 use Rattle.month_count.specs.Statements.{month_from, lines_in, rest_minutes, LinesSay}
 

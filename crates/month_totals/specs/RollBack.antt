@@ -3,8 +3,7 @@
 use Rattle.std.specs.Prelude.{ℕ, ◌≡◌, List, [], ◌∷◌, ◌++◌}
 use Rattle.rule_run.specs.Calls.{Call}
 use Rattle.rule_run.specs.Samples.{load, enable, ticks}
-use Rattle.month_file.specs.File.{verdict_of, file_calls}
-use Rattle.month_file.specs.declared.Verdict.TheVariants.{Accepted}
+use Rattle.month_file.specs.File.{Verdict.Accepted, verdict_of, file_calls}
 use Rattle.month_count.specs.Month.{file_card}
 use Rattle.month_totals.specs.Examples.{start}
 

@@ -9,8 +9,7 @@ use Rattle.text_words.specs.Letters.{text}
 use Rattle.month_tally.specs.Lines.{same_aid}
 use Rattle.month_tally.specs.Statements.{firsts}
 use Rattle.month_report.specs.Report.{aid_line, rest_text, report_head, total_text, refused_text, report_text}
-use Rattle.month_file.specs.File.{verdict_of, file_calls}
-use Rattle.month_file.specs.declared.Verdict.TheVariants.{Accepted}
+use Rattle.month_file.specs.File.{Verdict.Accepted, verdict_of, file_calls}
 use Rattle.month_count.specs.Month.{Counted, file_card}
 use Rattle.month_count.specs.Statements.{how_many, is_refusal, figure, enabled_in, is_among_aids}
 use Rattle.month_account.specs.Account.{account_text}

@@ -11,8 +11,7 @@ use Rattle.rule_run.specs.Calls.{Call, asked}
 use Rattle.rule_run.specs.Step.{step}
 use Rattle.rule_run.specs.Runs.{taken, is_tick}
 use Rattle.month_tally.specs.Lines.{line_of, minute_on}
-use Rattle.month_file.specs.File.{verdict_of}
-use Rattle.month_file.specs.declared.Verdict.TheVariants.{Accepted}
+use Rattle.month_file.specs.File.{Verdict.Accepted, verdict_of}
 use Rattle.month_count.specs.Month.{Counted, at_first, tallied, file_counted}
 use Rattle.month_totals.specs.Reports.{Report, on_file, MeetsLines}
 use Rattle.month_totals.specs.Examples.{told}

@@ -5,6 +5,7 @@ ghost use Rattle.rule_steps.specs.Asked.{Asked.confirm};
 ghost use Rattle.rule_steps.specs.Steps.{asked_work};
 ghost use Rattle.record_calls.specs.Into.{AnsweredInto};
 
+use base_bytes::Writer;
 use base_status::Status;
 use card_record::{Answer, Card};
 use record_responses::write_deleted;
@@ -20,7 +21,7 @@ pub fn confirm(card: Card, number: u16, buf: &mut [u8]) -> Answer
         return card.refused(Status::NotHeld);
     }
     let step = card.confirmed();
-    let deleted = step.deleted;
-    let n = write_deleted(deleted, buf, 0);
-    step.answer(Status::Done, n)
+    let mut out = Writer::new(buf, 0);
+    write_deleted(&mut out, &step.deleted);
+    step.answer(Status::Done, out.at)
 }

@@ -5,7 +5,7 @@ ghost use Rattle.rule_steps.specs.Asked.{Asked.create};
 ghost use Rattle.rule_steps.specs.Steps.{asked_work};
 ghost use Rattle.record_calls.specs.Into.{AnsweredInto};
 
-use base_bytes::put_byte;
+use base_bytes::Writer;
 use base_status::Status;
 use card_isdp::Isdp;
 use card_record::{Answer, Card};
@@ -26,7 +26,8 @@ pub fn create(card: Card, aid: &[u8], quota: u32, buf: &mut [u8]) -> Answer
     if quota > card.free {
         return card.refused(Status::NoRoom);
     }
-    let n = put_byte(buf, 0, 0x00);
+    let mut out = Writer::new(buf, 0);
+    out.byte(0x00);
     card.filled(t, Isdp::made(aid, Isdp::SELECTABLE, quota, 0))
-        .silently(Status::Done, n)
+        .silently(Status::Done, out.at)
 }

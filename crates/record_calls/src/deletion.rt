@@ -5,7 +5,7 @@ ghost use Rattle.rule_steps.specs.Asked.{Act.delete, Act.master_delete, Asked.on
 ghost use Rattle.rule_steps.specs.Steps.{asked_work};
 ghost use Rattle.record_calls.specs.Into.{AnsweredInto};
 
-use base_bytes::put_byte;
+use base_bytes::Writer;
 use base_status::Status;
 use card_isdp::forbids_deletion;
 use card_record::{Answer, Card};
@@ -27,8 +27,9 @@ pub fn delete(card: Card, aid: &[u8], buf: &mut [u8]) -> Answer
     if forbids_deletion(p.policy) {
         return card.refused(Status::PolicyForbids);
     }
-    let n = put_byte(buf, 0, 0x00);
-    card.cleared(t).silently(Status::Done, n)
+    let mut out = Writer::new(buf, 0);
+    out.byte(0x00);
+    card.cleared(t).silently(Status::Done, out.at)
 }
 
 pub fn master_delete(card: Card, aid: &[u8], verdict: u8, buf: &mut [u8]) -> Answer
@@ -47,6 +48,7 @@ pub fn master_delete(card: Card, aid: &[u8], verdict: u8, buf: &mut [u8]) -> Ans
     if verdict != 1 {
         return card.refused(Status::VerdictWrong);
     }
-    let n = put_byte(buf, 0, 0x00);
-    card.cleared(t).silently(Status::Done, n)
+    let mut out = Writer::new(buf, 0);
+    out.byte(0x00);
+    card.cleared(t).silently(Status::Done, out.at)
 }

@@ -6,9 +6,10 @@ ghost use Rattle.rule_steps.specs.Asked.{Act.status, Asked.on, Asked.status_of_a
 ghost use Rattle.rule_steps.specs.Steps.{part_word, asked_work};
 ghost use Rattle.record_calls.specs.Into.{AnsweredInto};
 
+use base_bytes::Writer;
 use base_status::Status;
 use card_record::{Answer, Card};
-use record_responses::{Information, write_information, write_part};
+use record_responses::{Listed, write_data, write_one_status, write_part};
 
 // Where a listing begins: at the lowest place, or where it goes on.
 fn begins_at(kept: u8, next: bool) -> u8
@@ -36,9 +37,10 @@ pub fn status_of_all(card: Card, next: bool, life: bool, fallback: bool, buf: &m
     if next & (card.kept == Card::NO_PLACE) {
         return card.refused(Status::NotHeld);
     }
-    let part = write_part(card, begins_at(card.kept, next), life, fallback, buf, 0);
-    card.keeping(part.left)
-        .silently(part_word(part.left), part.end)
+    let listed = Listed { life, fallback };
+    let mut out = Writer::new(buf, 0);
+    let left = write_part(&mut out, &card, begins_at(card.kept, next), listed);
+    card.keeping(left).silently(part_word(left), out.at)
 }
 
 pub fn status_of_one(card: Card, aid: &[u8], life: bool, fallback: bool, buf: &mut [u8]) -> Answer
@@ -47,22 +49,16 @@ pub fn status_of_one(card: Card, aid: &[u8], life: bool, fallback: bool, buf: &m
     let Some(t) = card.place_of(aid) else {
         return card.refused(Status::NotHeld);
     };
-    let n = write_information(
-        card,
-        Information::One {
-            place: t,
-            life,
-            fallback,
-        },
-        buf,
-        0,
-    );
-    card.forgotten().silently(Status::Done, n)
+    let listed = Listed { life, fallback };
+    let mut out = Writer::new(buf, 0);
+    write_one_status(&mut out, &card, t, listed);
+    card.forgotten().silently(Status::Done, out.at)
 }
 
 pub fn get_data(card: Card, buf: &mut [u8]) -> Answer
     ensures { AnsweredInto buf.old (outcome_on_sound card (asked_work card get_data)) result buf.new }
 {
-    let n = write_information(card, Information::Data, buf, 0);
-    card.forgotten().silently(Status::Done, n)
+    let mut out = Writer::new(buf, 0);
+    write_data(&mut out, &card);
+    card.forgotten().silently(Status::Done, out.at)
 }

@@ -1,17 +1,15 @@
-// The responses of the commands, written into a lent buffer from a place on; each answers the place after what it wrote.
-// Every function answers for every record and every buffer: what does not fit is dropped, as the writers of `base_bytes` do.
+// The responses of the commands, written by a `Writer`.
+// Every function answers for every record and every buffer: what does not fit is dropped, as the writer does.
 #![tactic(auto)]
 
-ghost use Rattle.std.specs.Prelude.{◌≡◌, cond, ◌+◌, ◌≤◌, length};
-ghost use Rattle.base_bytes.specs.Bytes.{four_bytes};
-ghost use Rattle.base_bytes.specs.Put.{Wrote};
+ghost use Rattle.std.specs.Prelude.{◌≡◌, cond, ◌+◌, ◌≤◌, length, drop};
+ghost use Rattle.base_bytes.specs.Put.{Written};
 ghost use Rattle.card_isdp.specs.Aids.{bytes_of};
 ghost use Rattle.card_isdp.specs.Place.{held};
 ghost use Rattle.card_places.specs.Places.{count_of};
-ghost use Rattle.rule_responses.specs.Responses.{most_row, aid_element, life_element, attribute_element, attribute_of, listed, status_row, row_of, row_size, part_given, next_row_after, one_status, data_response, deleted_response};
-ghost use Rattle.record_responses.specs.Information.{information_of};
+ghost use Rattle.rule_responses.specs.Responses.{most_row, aid_element, attribute_of, listed, status_row, row_of, row_size, most_response, part_from, next_row_from, part_given, next_row_after, one_status, data_response, deleted_response};
 
-use base_bytes::put_bytes;
+use base_bytes::Writer;
 use card_isdp::{Aid, Isdp};
 use card_places::PLACES;
 use card_record::Card;
@@ -20,239 +18,132 @@ use card_record::Card;
 const RESPONSE: usize = 255;
 
 // The number of ISD-Ps, in the one byte that GET DATA has for it.
-pub fn count_held(places: [Isdp; PLACES]) -> u8
-    ensures { result ≡ count_of held places }
+pub fn count_held(places: &[Isdp; PLACES]) -> u8
+    ensures { result ≡ count_of held places.now }
 {
-    let mut n = 0;
-    let mut i = 0;
-    while i < PLACES {
-        if places[i].aid.len != 0 {
-            n += 1;
-        }
-        i += 1;
+    places.iter().filter(|p| p.aid.len != 0).count() as u8
+}
+
+fn write_aid(out: &mut Writer, aid: &Aid)
+    ensures { Written out.old (aid_element (bytes_of aid.now)) out.new }
+{
+    out.bytes(&[0x4F, aid.size() as u8]);
+    out.bytes(aid.as_bytes());
+}
+
+// The elements that a row has beside the AID, where they are asked for: the life cycle and the Fall-back Attribute.
+#[derive(Clone, Copy)]
+pub struct Listed {
+    pub life: bool,
+    pub fallback: bool,
+}
+
+impl Listed {
+    // The bytes that they take.
+    fn size(self) -> u8
+        ensures { result ≡ cond self.life 4 0 + cond self.fallback 3 0 }
+    {
+        let life = if self.life { 4 } else { 0 };
+        let fallback = if self.fallback { 3 } else { 0 };
+        life + fallback
     }
-    n
 }
 
-fn write_aid(aid: Aid, buf: &mut [u8], at: usize) -> usize
-    ensures { Wrote buf.old at (aid_element (bytes_of aid)) result buf.new }
-{
-    let n = aid.size();
-    let bytes = aid.bytes;
-    let size = n as u8;
-    let head = [0x4F, size];
-    let k = put_bytes(buf, at, &head);
-    put_bytes(buf, k, &bytes[..n])
-}
-
-fn write_life(life: u8, asked: bool, buf: &mut [u8], at: usize) -> usize
-    ensures { Wrote buf.old at (listed asked (life_element life)) result buf.new }
+// An element that is written only where it is asked for.
+fn write_listed(out: &mut Writer, asked: bool, element: &[u8])
+    ensures { Written out.old (listed asked element.now) out.new }
 {
     if asked {
-        let element = [0x9F, 0x70, 1, life];
-        return put_bytes(buf, at, &element);
+        out.bytes(element);
     }
-    at
-}
-
-fn write_attribute(attribute: u8, asked: bool, buf: &mut [u8], at: usize) -> usize
-    ensures { Wrote buf.old at (listed asked (attribute_element attribute)) result buf.new }
-{
-    if asked {
-        let element = [0x53, 1, attribute];
-        return put_bytes(buf, at, &element);
-    }
-    at
 }
 
 fn attribute_of(holder: u8, place: u8) -> u8
     ensures { result ≡ attribute_of holder place }
 {
-    if place == holder {
-        return 1;
-    }
-    0
+    u8::from(place == holder)
 }
 
-// The bytes that the elements asked for take.
-fn listed_size(life: bool, fallback: bool) -> u8
-    ensures { result ≡ cond life 4 0 + cond fallback 3 0 }
+fn write_row(out: &mut Writer, p: Isdp, attribute: u8, listed: Listed)
+    ensures { Written out.old (status_row p attribute listed.life listed.fallback) out.new }
 {
-    if life {
-        if fallback {
-            return 7;
-        }
-        return 4;
-    }
-    if fallback {
-        return 3;
-    }
-    0
-}
-
-fn write_row(p: Isdp, attribute: u8, life: bool, fallback: bool, buf: &mut [u8], at: usize) -> usize
-    ensures { Wrote buf.old at (status_row p attribute life fallback) result buf.new }
-{
-    let aid = p.aid;
-    let n = aid.size();
-    let listed = listed_size(life, fallback);
-    let size = n as u8 + 2 + listed;
-    let head = [0xE3, size];
-    let body = put_bytes(buf, at, &head);
-    let state = write_aid(aid, buf, body);
-    let last = write_life(p.life, life, buf, state);
-    write_attribute(attribute, fallback, buf, last)
+    out.bytes(&[0xE3, p.aid.size() as u8 + 2 + listed.size()]);
+    write_aid(out, &p.aid);
+    write_listed(out, listed.life, &[0x9F, 0x70, 1, p.life]);
+    write_listed(out, listed.fallback, &[0x53, 1, attribute]);
 }
 
 // A place that is not held has no row.
-fn write_place(
-    p: Isdp,
-    attribute: u8,
-    life: bool,
-    fallback: bool,
-    buf: &mut [u8],
-    at: usize,
-) -> usize
-    ensures { Wrote buf.old at (row_of p attribute life fallback) result buf.new × (length (row_of p attribute life fallback) ≤ most_row) }
+fn write_place(out: &mut Writer, p: Isdp, attribute: u8, listed: Listed)
+    ensures { Written out.old (row_of p attribute listed.life listed.fallback) out.new × (length (row_of p attribute listed.life listed.fallback) ≤ most_row) }
 {
     if p.aid.len == 0 {
-        return at;
+        return;
     }
-    write_row(p, attribute, life, fallback, buf, at)
+    write_row(out, p, attribute, listed);
 }
 
 // The bytes that a place's row takes.
-fn row_size(p: Isdp, life: bool, fallback: bool) -> usize
-    ensures { result ≡ row_size p life fallback }
+fn row_size(p: Isdp, listed: Listed) -> usize
+    ensures { result ≡ row_size p listed.life listed.fallback }
 {
-    let n = p.aid.size();
-    let listed = listed_size(life, fallback);
     if p.aid.len != 0 {
-        return n + 4 + listed as usize;
+        p.aid.size() + 4 + listed.size() as usize
+    } else {
+        0
     }
-    0
 }
 
-// A part of a listing as it was written: where it ends, and the place from which the next one goes on.
-#[derive(Clone, Copy)]
-pub struct Given {
-    pub end: usize,
-    pub left: u8,
-}
-
-// GET STATUS of all, from a place on: as many whole rows as a response holds.
-pub fn write_part(
-    card: Card,
-    from: u8,
-    life: bool,
-    fallback: bool,
-    buf: &mut [u8],
-    at: usize,
-) -> Given
-    ensures { Wrote buf.old at (part_given card from life fallback) result.end buf.new × (result.left ≡ next_row_after card from life fallback) }
+// The rows of the places from one on, as many whole rows as a response holds, and the first place whose row is left.
+fn write_rows(out: &mut Writer, places: &[Isdp; PLACES], holder: u8, from: u8, listed: Listed) -> u8
+    ensures { Written out.old (part_from most_response holder from listed.life listed.fallback (drop from places.now)) out.new × (result ≡ next_row_from most_response holder from listed.life listed.fallback (drop from places.now)) }
 {
-    let places = card.places;
-    let holder = card.fallback;
     let mut room = RESPONSE;
-    let mut i = from as usize;
-    let mut k = at;
-    while i < PLACES {
+    for i in from as usize..PLACES {
         let p = places[i];
-        let size = row_size(p, life, fallback);
+        let size = row_size(p, listed);
         if room < size {
-            return Given {
-                end: k,
-                left: i as u8,
-            };
+            return i as u8;
         }
         room -= size;
-        let attribute = attribute_of(holder, i as u8);
-        k = write_place(p, attribute, life, fallback, buf, k);
-        i += 1;
+        write_place(out, p, attribute_of(holder, i as u8), listed);
     }
-    Given {
-        end: k,
-        left: Card::NO_PLACE,
-    }
+    Card::NO_PLACE
+}
+
+// GET STATUS of all, from a place on; the answer is the place from which the next part goes on.
+#[tactic(auto, unfolding(rule_responses::specs::Responses::part_given, rule_responses::specs::Responses::next_row_after))]
+pub fn write_part(out: &mut Writer, card: &Card, from: u8, listed: Listed) -> u8
+    ensures { Written out.old (part_given card.now from listed.life listed.fallback) out.new × (result ≡ next_row_after card.now from listed.life listed.fallback) }
+{
+    write_rows(out, &card.places, card.fallback, from, listed)
 }
 
 // GET STATUS of the profile at a place.
-fn write_one_status(
-    card: Card,
-    place: u8,
-    life: bool,
-    fallback: bool,
-    buf: &mut [u8],
-    at: usize,
-) -> usize
-    ensures { Wrote buf.old at (one_status card place life fallback) result buf.new × (length (one_status card place life fallback) ≤ most_row) }
+pub fn write_one_status(out: &mut Writer, card: &Card, place: u8, listed: Listed)
+    ensures { Written out.old (one_status card.now place listed.life listed.fallback) out.new × (length (one_status card.now place listed.life listed.fallback) ≤ most_row) }
 {
-    let p = card.profile(place);
-    let attribute = attribute_of(card.fallback, place);
-    write_place(p, attribute, life, fallback, buf, at)
+    let p = card_places::at(&card.places, place);
+    write_place(out, p, attribute_of(card.fallback, place), listed);
 }
 
-// Four bytes, high byte first.
-fn write_four(n: u32, buf: &mut [u8], at: usize) -> usize
-    ensures { Wrote buf.old at (four_bytes n) result buf.new }
+// GET DATA: each figure as four bytes, high byte first.
+pub fn write_data(out: &mut Writer, card: &Card)
+    ensures { Written out.old (data_response card.now) out.new × (length (data_response card.now) ≤ most_row) }
 {
-    let first = (n / 16777216 % 256) as u8;
-    let second = (n / 65536 % 256) as u8;
-    let third = (n / 256 % 256) as u8;
-    let fourth = (n % 256) as u8;
-    let bytes = [first, second, third, fourth];
-    put_bytes(buf, at, &bytes)
-}
-
-// GET DATA.
-fn write_data(card: Card, buf: &mut [u8], at: usize) -> usize
-    ensures { Wrote buf.old at (data_response card) result buf.new }
-{
-    let places = card.places;
-    let count = count_held(places);
-    let head = [0xFF, 0x21, 0x0F, 0x81, 1, count, 0x82, 4];
-    let k = put_bytes(buf, at, &head);
-    let m = write_four(card.free, buf, k);
-    let figure = [0x83, 4];
-    let j = put_bytes(buf, m, &figure);
-    write_four(card.volatile, buf, j)
-}
-
-// What a command asks that has one response, whatever was given before.
-#[derive(Clone, Copy)]
-pub enum Information {
-    One {
-        place: u8,
-        life: bool,
-        fallback: bool,
-    },
-    Data,
-}
-
-// The response of each, by one door, so that the card of the caller stays whole (decision B42).
-pub fn write_information(card: Card, asked: Information, buf: &mut [u8], at: usize) -> usize
-    ensures { Wrote buf.old at (information_of card asked) result buf.new × (length (information_of card asked) ≤ most_row) }
-{
-    match asked {
-        Information::One {
-            place,
-            life,
-            fallback,
-        } => write_one_status(card, place, life, fallback, buf, at),
-        Information::Data => write_data(card, buf, at),
-    }
+    out.bytes(&[0xFF, 0x21, 0x0F, 0x81, 1, count_held(&card.places), 0x82, 4]);
+    out.bytes(&card.free.to_be_bytes());
+    out.bytes(&[0x83, 4]);
+    out.bytes(&card.volatile.to_be_bytes());
 }
 
 // Confirmation: the AID deleted, where there is one.
-pub fn write_deleted(aid: Aid, buf: &mut [u8], at: usize) -> usize
-    ensures { Wrote buf.old at (deleted_response aid) result buf.new × (length (deleted_response aid) ≤ 20) }
+pub fn write_deleted(out: &mut Writer, aid: &Aid)
+    ensures { Written out.old (deleted_response aid.now) out.new × (length (deleted_response aid.now) ≤ 20) }
 {
     if aid.len == 0 {
-        return at;
+        return;
     }
-    let n = aid.size();
-    let size = n as u8 + 2;
-    let head = [0x80, size];
-    let k = put_bytes(buf, at, &head);
-    write_aid(aid, buf, k)
+    out.bytes(&[0x80, aid.size() as u8 + 2]);
+    write_aid(out, aid);
 }

@@ -1,13 +1,9 @@
--- `month_account::write_month`: what was counted is written by its verdict.
+-- `month_account::write_month`: what was counted is written, or by which name the file is refused.
 use Rattle.month_account.proofs.Told.{refused-written, accepted-written}
 use Rattle.month_account.proofs.write_month.Goals as goal
 
-pub returns-in-Refused : goal.returns-in-Refused
-returns-in-Refused c = let a = c.args in
-    refused-written a.explain a.s.now c.count_month-month.ensures c.in-Refused.is
-    c.write_refusal.ensures
+pub returns-in-Ok : goal.returns-in-Ok
+returns-in-Ok c = accepted-written c.args.explain c.args.s.now c.count_month.ensures c.in-Ok.is c.write_report.ensures
 
-pub returns-in-Accepted : goal.returns-in-Accepted
-returns-in-Accepted c = let a = c.args in
-    accepted-written a.explain a.s.now c.count_month-month.ensures c.in-Accepted.is
-    c.write_report.ensures
+pub returns-in-Err : goal.returns-in-Err
+returns-in-Err c = refused-written c.args.explain c.args.s.now c.count_month.ensures c.in-Err.is c.write_refusal.ensures

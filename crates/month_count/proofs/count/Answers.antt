@@ -16,34 +16,34 @@ use Rattle.month_count.proofs.Turns.{stands-last, stands-unnamed, stands-named}
 use Rattle.month_count.proofs.count.Goals as goal
 use Rattle.month_count.proofs.count.Goals.{then-code-ne0, else-code-ne0}
 
-pub loop-call-init : goal.loop-call-init
-loop-call-init c = let b = begins c.args.card c.args.body.now c.requires c.enabled_place.ensures c.profile-profile.ensures in
+pub loop-event-init : goal.loop-event-init
+loop-event-init c = let b = begins c.args.card c.args.body.now c.requires c.enabled_place.ensures c.profile-profile.ensures in
     (refl, b c.none.ensures c.noted-names.ensures c.line-own.ensures)
 
 pub time-ticks-requires : goal.time-ticks-requires
-time-ticks-requires c = line-room c.loop-call.invariant.1 c.requires.short
+time-ticks-requires c = line-room c.loop-event.invariant.1 c.requires.short
 
 pub overflow_add-ticks : goal.overflow_add-ticks
-overflow_add-ticks c = omega (arith, ticks-fit c.loop-call.invariant.1 (is_tick (call_of [] 0 c.in-Event.call)) c.requires.short c.time-ticks.ensures.0)
+overflow_add-ticks c = omega (arith, ticks-fit c.loop-event.invariant.1 (is_tick (call_of [] 0 c.in-Some.event.call)) c.requires.short c.time-ticks.ensures.0)
 
 pub slice_bounds-answer_on_sound-end : goal.slice_bounds-answer_on_sound-end
-slice_bounds-answer_on_sound-end c = c.loop-call.invariant.0
+slice_bounds-answer_on_sound-end c = c.loop-event.invariant.0
 
 pub overflow_add-events : goal.overflow_add-events
-overflow_add-events c = omega (arith, events-fit c.loop-call.invariant.1 c.requires.short)
+overflow_add-events c = omega (arith, events-fit c.loop-event.invariant.1 c.requires.short)
 
 pub overflow_add-refused : goal.overflow_add-refused
-overflow_add-refused c = omega (arith, refused-fit c.loop-call.invariant.1 (is_done c.answer_on_sound-answer.result.status) c.requires.short c.refusals-refused.ensures)
+overflow_add-refused c = omega (arith, refused-fit c.loop-event.invariant.1 (is_done c.answer_on_sound-answer.result.status) c.requires.short c.refusals-refused.ensures)
 
-pub loop-call-smaller : goal.loop-call-smaller
-loop-call-smaller c =
-    let t = next-event c.args.body.now c.loop-call.at _ _ c.loop-call.invariant.1.right (sym c.next_event.ensures ∙ c.in-Event.is) in
+pub loop-event-smaller : goal.loop-event-smaller
+loop-event-smaller c =
+    let t = next-event c.args.body.now c.loop-event.at _ _ c.loop-event.invariant.1.right (sym c.next_event.ensures ∙ c.in-Some.is) in
     omega (arith, t.goes, t.inside)
 
-pub loop-call-preserved : goal.loop-call-preserved
-loop-call-preserved c =
-    let l = c.loop-call in
-    let t = next-event c.args.body.now l.at _ _ l.invariant.1.right (sym c.next_event.ensures ∙ c.in-Event.is) in
+pub loop-event-preserved : goal.loop-event-preserved
+loop-event-preserved c =
+    let l = c.loop-event in
+    let t = next-event c.args.body.now l.at _ _ l.invariant.1.right (sym c.next_event.ensures ∙ c.in-Some.is) in
     let size = sym l.invariant.0 in
     let served = c.answer_on_sound-answer.ensures in
     let p = c.time-ticks.ensures in
@@ -58,7 +58,7 @@ loop-call-preserved c =
     )
 
 pub returns : goal.returns
-returns c = let l = c.loop-call in
+returns c = let l = c.loop-event in
     let last = none_left c.args.body.now l.at l.invariant.1.right (sym c.next_event.ensures ∙ c.in_default.is) in
     let e = stands-last l.invariant.1 last in
     (ap (λ (k : Counted). k.tally) e, ap (λ (k : Counted). k.minutes) e)

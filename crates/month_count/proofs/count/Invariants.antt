@@ -6,8 +6,8 @@ use Rattle.rule_run.specs.Table.{least_buffer}
 use Rattle.month_count.proofs.Turns.{Stands}
 use Rattle.month_count.proofs.count.Given as goal
 
-abbrev pub invariant-loop-call : goal.invariant-loop-call
-invariant-loop-call l = (least_buffer ≡ length l.buf) × Stands l.initial.card l.body l.minutes l.names l.own l.card l.ticks l.events l.refused l.at
+abbrev pub invariant-loop-event : goal.invariant-loop-event
+invariant-loop-event l = (least_buffer ≡ length l.buf) × Stands l.initial.card l.body l.minutes l.names l.own l.card l.ticks l.events l.refused l.at
 
-abbrev pub decreases-loop-call : goal.decreases-loop-call
-decreases-loop-call l = length l.body - l.at
+abbrev pub decreases-loop-event : goal.decreases-loop-event
+decreases-loop-event l = length l.body - l.at

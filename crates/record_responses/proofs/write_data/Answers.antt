@@ -1,7 +1,11 @@
--- `record_responses::write_data`: four texts one after the other are the response (`data-bytes`).
-use Rattle.base_bytes.proofs.PutLaws.{wrote_as, wrote_then}
+-- `record_responses::write_data`: four texts one after the other are the response (`data-bytes`), as short as a row.
+use native.Mathlib.Omega.{arith}
+use Rattle.base_bytes.proofs.PutLaws.{written_as, written_then}
 use Rattle.rule_responses.proofs.Rows.{data-bytes}
+use Rattle.rule_responses.proofs.Lengths.{data-length}
 use Rattle.record_responses.proofs.write_data.Goals as goal
 
 pub returns : goal.returns
-returns c = wrote_as _ (data-bytes _ _ c.count_held-count.ensures) (wrote_then (wrote_then (wrote_then c.put_bytes-k.ensures c.write_four-m.ensures) c.put_bytes-j.ensures) c.write_four.ensures)
+returns c =
+    let w = written_then (written_then (written_then c.bytes.ensures c.bytes-2.ensures) c.bytes-3.ensures) c.bytes-4.ensures in
+    (written_as _ (data-bytes _ _ c.count_held.ensures) (rw (c.to_be_bytes.ensures, c.to_be_bytes-2.ensures) at w), omega (arith, data-length c.args.card.now))

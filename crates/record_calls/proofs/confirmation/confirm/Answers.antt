@@ -1,6 +1,8 @@
 -- `confirmation::confirm`: the rows of the change and of the number, then the step, and the AID that it deleted is written.
 use mathlib.Core.Path.{sym, ◌∙◌}
 use native.Mathlib.Omega.{arith}
+use borrow.Author.Rules.{rules}
+use Rattle.base_bytes.proofs.PutLaws.{wrote_by}
 use Rattle.base_status.specs.Rows.{word_of}
 use Rattle.record_calls.proofs.Asking.{asks}
 use Rattle.record_calls.proofs.Accepted.{kept, written}
@@ -16,6 +18,6 @@ returns-then-not-is_outstanding c = rw (sym c.is_quiet.ensures ∙ c.if-is_quiet
 
 pub returns : goal.returns
 unfolding word_of
-returns c = let w = c.write_deleted-n.ensures in
+returns c = let w = c.write_deleted.ensures in
     let k = w.1 in
-    rw (sym c.is_quiet.ensures ∙ c.if-is_quiet.false, asks c.is_outstanding.ensures c.if-not-is_outstanding.false, ← c.confirmed-step.ensures) (written c.confirmed-step.result c.answer.ensures w.0 (omega arith))
+    rw (sym c.is_quiet.ensures ∙ c.if-is_quiet.false, asks c.is_outstanding.ensures c.if-not-is_outstanding.false, ← c.confirmed-step.ensures) (written c.confirmed-step.result c.answer.ensures (wrote_by c.new-out.ensures.as_lent (search rules) w.0) (omega arith))

@@ -4,6 +4,8 @@ use Prim.Native.Nat.{◌<◌}
 use mathlib.Core.Bool.{false, not}
 use native.Mathlib.Omega.{arith}
 use borrow.Author.Tests.{lt-ltb, le-ltb, le-leb, lt-leb}
+use borrow.Author.Rules.{rules}
+use Rattle.base_bytes.proofs.PutLaws.{wrote_by}
 use Rattle.base_status.specs.Rows.{word_of}
 use Rattle.card_isdp.specs.Sizes.{most_places}
 use Rattle.card_isdp.specs.Place.{held}
@@ -50,4 +52,4 @@ returns c =
     let s = c.args in
     silent-into s.card (asked_work s.card (create s.aid.now s.quota))
     (rw (quiet, new, lt-ltb _ most_places vacancy.1, le-leb _ _ c.if-quota-card.false))
-    c.filled.ensures (rw (c.made.ensures, vacancy.0)) refl c.silently.ensures c.put_byte-n.ensures (omega arith)
+    c.filled.ensures (rw (c.made.ensures, vacancy.0)) refl c.silently.ensures (wrote_by c.new-out.ensures.as_lent (search rules) c.byte.ensures) (omega arith)

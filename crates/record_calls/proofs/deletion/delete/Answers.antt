@@ -2,6 +2,8 @@
 use mathlib.Core.Path.{◌≡◌, refl, sym, ◌∙◌}
 use mathlib.Core.Bool.{false}
 use native.Mathlib.Omega.{arith}
+use borrow.Author.Rules.{rules}
+use Rattle.base_bytes.proofs.PutLaws.{wrote_by}
 use Rattle.base_status.specs.Rows.{word_of}
 use Rattle.rule_steps.specs.Asked.{Act.delete}
 use Rattle.rule_steps.specs.Conditions.{act_state_wrong}
@@ -40,4 +42,4 @@ returns c =
     let state : let s = c.args in act_state_wrong s.card s.aid.now delete ≡ false = rw aimed.place (asks c.may_be_deleted.ensures c.if-not-may_be_deleted.false) in
     let a = aimed in
     steps-into a state (rw (profile a c.profile-p.ensures) (sym c.forbids_deletion.ensures ∙ c.if-forbids_deletion.false)) refl refl
-    c.cleared.ensures (rw a.place) refl c.silently.ensures c.put_byte-n.ensures (omega arith)
+    c.cleared.ensures (rw a.place) refl c.silently.ensures (wrote_by c.new-out.ensures.as_lent (search rules) c.byte.ensures) (omega arith)

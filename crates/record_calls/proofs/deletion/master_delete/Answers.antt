@@ -3,6 +3,8 @@ use mathlib.Core.Path.{◌≡◌, refl, ap}
 use mathlib.Core.Bool.{false, not}
 use native.Mathlib.Omega.{arith}
 use borrow.Author.Tests.{eq-eqb, ne_eqb}
+use borrow.Author.Rules.{rules}
+use Rattle.base_bytes.proofs.PutLaws.{wrote_by}
 use Rattle.base_status.specs.Rows.{word_of}
 use Rattle.rule_steps.specs.Asked.{Act.master_delete}
 use Rattle.rule_steps.specs.Conditions.{act_state_wrong}
@@ -40,4 +42,4 @@ returns c =
     let state : let s = c.args in act_state_wrong s.card s.aid.now (master_delete s.verdict) ≡ false = rw aimed.place (asks c.may_be_master_deleted.ensures c.if-not-may_be_master_deleted.false) in
     let a = aimed in
     steps-into a state refl (ap not (eq-eqb _ 1 c.if-verdict-ne1.false)) refl
-    c.cleared.ensures (rw a.place) refl c.silently.ensures c.put_byte-n.ensures (omega arith)
+    c.cleared.ensures (rw a.place) refl c.silently.ensures (wrote_by c.new-out.ensures.as_lent (search rules) c.byte.ensures) (omega arith)

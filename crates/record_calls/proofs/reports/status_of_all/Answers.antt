@@ -1,5 +1,7 @@
 -- `reports::status_of_all`: the row of an open listing is passed or stopped at; then the part is written, and the card keeps where it goes on.
 use mathlib.Core.Path.{refl}
+use borrow.Author.Rules.{rules}
+use Rattle.base_bytes.proofs.PutLaws.{wrote_by}
 use Rattle.base_status.specs.Rows.{word_of}
 use Rattle.rule_responses.proofs.Parts.{part-short}
 use Rattle.rule_steps.proofs.Listed.{part-known}
@@ -12,6 +14,6 @@ returns-then-next-card c = rw c.if-next-card.true (kept c.refused.ensures)
 
 pub returns : goal.returns
 returns c = let a = c.args in
-    let p = c.write_part-part.ensures in
+    let p = c.write_part-left.ensures in
     rw (part-known a.card a.next a.life a.fallback c.if-next-card.false, ← c.begins_at.ensures, ← p.1, ← c.part_word.ensures)
-    (silent-written a.card c.keeping.ensures refl c.silently.ensures p.0 (part-short a.card a.life a.fallback c.begins_at.result))
+    (silent-written a.card c.keeping.ensures refl c.silently.ensures (wrote_by c.new-out.ensures.as_lent (search rules) p.0) (part-short a.card a.life a.fallback c.begins_at.result))

@@ -2,6 +2,8 @@
 use mathlib.Core.Path.{refl}
 use native.Mathlib.Omega.{arith}
 use Rattle.rule_steps.specs.Asked.{Act.status}
+use borrow.Author.Rules.{rules}
+use Rattle.base_bytes.proofs.PutLaws.{wrote_by}
 use Rattle.record_calls.proofs.Asking.{Aimed, Sought, sought, at_target, steps-into}
 use Rattle.record_calls.proofs.Accepted.{kept}
 use Rattle.record_calls.proofs.reports.status_of_one.Goals as goal
@@ -16,5 +18,5 @@ returns c =
     let asked : let s = c.args in Sought s.card s.aid.now (status s.life s.fallback) c.place_of.result = sought _ _ (status c.args.life c.args.fallback) refl refl c.well_formed.0 c.place_of.ensures in
     let aimed : let s = c.args in Aimed s.card s.aid.now (status s.life s.fallback) c.in-Some.t = asked.target c.in-Some.is in
     let a = aimed in
-    let k = c.write_information-n.ensures.1 in
-    steps-into a refl refl refl refl c.forgotten.ensures refl refl c.silently.ensures (rw a.place c.write_information-n.ensures.0) (rw a.place (omega arith))
+    let k = c.write_one_status.ensures.1 in
+    steps-into a refl refl refl refl c.forgotten.ensures refl refl c.silently.ensures (rw a.place (wrote_by c.new-out.ensures.as_lent (search rules) c.write_one_status.ensures.0)) (rw a.place (omega arith))
