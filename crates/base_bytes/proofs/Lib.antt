@@ -1,6 +1,5 @@
 -- Laws that the crates above cite.
 pub mod Parts
-pub mod Pairs
 pub mod Alike
 pub mod Rest
 pub mod PutLaws

@@ -21,69 +21,38 @@ pub struct Part {
 pub fn part_of(bytes: &[u8], part: Part) -> &[u8]
     ensures { result.now ≡ part_of bytes.now part }
 {
-    let size = bytes.len();
-    let start = part.start;
-    if start > size {
-        return &bytes[size..];
-    }
-    let left = size - start;
-    let len = part.len;
-    if len > left {
-        return &bytes[start..];
-    }
-    let end = start + len;
-    &bytes[start..end]
+    let rest = &bytes[part.start.min(bytes.len())..];
+    &rest[..part.len.min(rest.len())]
 }
 
 // The byte at a place; 00 where there is none.
 pub fn byte_at(bytes: &[u8], at: usize) -> u8
     ensures { result ≡ byte bytes.now at }
 {
-    if at < bytes.len() {
-        return bytes[at];
-    }
-    0
+    bytes.get(at).copied().unwrap_or(0)
 }
 
 // The number of the two bytes from a place on, high byte first.
 pub fn read_pair(bytes: &[u8], at: usize) -> u16
     ensures { result ≡ pair_at bytes.now at }
 {
-    if bytes.len() <= at {
-        return 0;
-    }
-    let high = byte_at(bytes, at) as u16;
-    let low = byte_at(bytes, at + 1) as u16;
-    high * 256 + low
+    u16::from_be_bytes([byte_at(bytes, at), byte_at(bytes, at.saturating_add(1))])
 }
 
 // The number of the four bytes from a place on, high byte first.
 pub fn read_four(bytes: &[u8], at: usize) -> u32
     ensures { result ≡ four_at bytes.now at }
 {
-    if bytes.len() <= at {
-        return 0;
-    }
     let high = read_pair(bytes, at) as u32;
-    let low = read_pair(bytes, at + 2) as u32;
+    let low = read_pair(bytes, at.saturating_add(2)) as u32;
     high * 65536 + low
 }
 
-// Are the two byte strings the same, in length too? Compared from the end: AIDs begin alike.
+// Are the two byte strings the same, in length too? The last byte is asked first: AIDs begin alike.
 pub fn same(a: &[u8], b: &[u8]) -> bool
     ensures { result ≡ same_bytes a.now b.now }
 {
-    if a.len() != b.len() {
-        return false;
-    }
-    let mut i = a.len();
-    while i > 0 {
-        i -= 1;
-        if a[i] != b[i] {
-            return false;
-        }
-    }
-    true
+    a.last() == b.last() && a == b
 }
 
 // A byte, or a byte string, written from a place on; the answer is the place after it. A `Writer` does the same and keeps the place.

@@ -1,5 +1,6 @@
 -- A line of a printed report read off, in either form. It is cut at its end and parted at its spaces, since letters and digits are neither; its number
 -- is read by the round trip of decimals. Assumes nothing.
+use Rattle.std.specs.Prelude.{Some}
 use Prim.Native.Nat.{ℕ, zero, suc, ◌+◌, ◌-◌, ◌/◌, ◌%◌, ◌≤◌, ◌<◌}
 use mathlib.Core.Path.{◌≡◌, refl, ap, sym, ◌∙◌}
 use mathlib.Core.List.{List, [], ◌∷◌, ◌++◌, map, append-nil, append_assoc}
@@ -14,7 +15,6 @@ use Rattle.text_words.specs.Letters.{text}
 use Rattle.text_words.specs.Numbers.{decimal_of, digits_text, decimal_text}
 use Rattle.text_words.specs.Hex.{glyph_of, hex_text}
 use Rattle.text_words.specs.Columns.{spaces, lead_of, column_text}
-use Rattle.text_words.specs.declared.numbers.Number.TheVariants.{Value}
 use Rattle.text_words.proofs.RoundTrips.{decimal-again}
 use Rattle.month_report.specs.Report.{name_column, figure_text, share_lead, percent_text, share_text, tenths_of, plain_text, minutes_text, total_text}
 use Rattle.month_report.specs.ReadOff.{PlainLine, plain_line, on_line, cut_lines, word_part, number_part, past_spaces, most_figure, line_off, signed_line}
@@ -114,7 +114,7 @@ past-none : {c : ℕ} (s : List ℕ) → 32 < c → past_spaces (c ∷ s) ≡ c 
 unfolding past_spaces
 past-none s h = sym (ne! _ (λ q. omega arith) refl)
 
-number-tail : {d tail : List ℕ} (n : ℕ) → Above 32 d → Tail tail → decimal_of most_figure d ≡ Value n → decimal_of most_figure (word_part (past_spaces (d ++ tail))) ≡ Value n
+number-tail : {d tail : List ℕ} (n : ℕ) → Above 32 d → Tail tail → decimal_of most_figure d ≡ Some n → decimal_of most_figure (word_part (past_spaces (d ++ tail))) ≡ Some n
 unfolding decimal_of
 number-tail n none q e = let z : ◌≡◌ {A = ℕ} 0 1 = cc in absurd (omega arith)
 number-tail {tail = tail} n (one {cs = cs} h p) q e =

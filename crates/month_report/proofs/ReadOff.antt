@@ -1,5 +1,6 @@
 -- What is read off a printed report, in either form: line by line, by going down the AIDs; then the lines by their words, and their numbers added up.
 -- Assumes nothing.
+use Rattle.std.specs.Prelude.{Some}
 use Prim.Native.Nat.{ℕ, zero, suc, ◌+◌, ◌/◌, ◌≤◌, ◌<◌}
 use mathlib.Core.Path.{◌≡◌, refl, ap, sym, subst, ◌∙◌}
 use mathlib.Core.List.{List, [], ◌∷◌, ◌++◌, append-nil, append_assoc}
@@ -15,7 +16,6 @@ use Rattle.text_words.specs.Letters.{text}
 use Rattle.text_words.specs.Numbers.{digits_on, decimal_of}
 use Rattle.text_words.specs.Hex.{nibble_of, pairs_of, is_hex, byte_of, spelled, hex_left, glyph_of, hex_text, hex_word}
 use Rattle.text_words.specs.RoundTrips.{Octets}
-use Rattle.text_words.specs.declared.numbers.Number.TheVariants.{Value}
 use Rattle.text_words.proofs.HexLaws.{hex-length}
 use Rattle.text_words.proofs.RoundTrips.{hex-again}
 use Rattle.month_tally.specs.Lines.{rest_line, aids_in, minutes_in}
@@ -97,16 +97,16 @@ minutes-from [] (suc i) (suc k) = refl
 minutes-from (x ∷ xs) zero k = refl
 minutes-from (x ∷ xs) (suc i) k = minutes-from xs i k
 
-aids-added : (minutes : List ℕ) (ls : List PlainLine) (n i : ℕ) (aids : List Aid) → numbers_added ls ≡ Value n → numbers_added (aid_lines minutes i aids ++ ls) ≡ Value (minutes_in (take (length aids) (drop i minutes)) + n)
+aids-added : (minutes : List ℕ) (ls : List PlainLine) (n i : ℕ) (aids : List Aid) → numbers_added ls ≡ Some n → numbers_added (aid_lines minutes i aids ++ ls) ≡ Some (minutes_in (take (length aids) (drop i minutes)) + n)
 unfolding numbers_added aid_lines minutes_in
-aids-added minutes ls n i [] e = e ∙ ap Value (omega arith)
+aids-added minutes ls n i [] e = e ∙ ap Some (omega arith)
 aids-added minutes ls n i (a ∷ aids) e =
     let m = minutes-from minutes i (length aids) in
-    rw (aids-added minutes ls n (suc i) aids e) (ap Value (omega arith))
+    rw (aids-added minutes ls n (suc i) aids e) (ap Some (omega arith))
 
-rest-added : (more : Bool) (n : ℕ) → numbers_added (rest_lines more n) ≡ Value (cond more n 0)
+rest-added : (more : Bool) (n : ℕ) → numbers_added (rest_lines more n) ≡ Some (cond more n 0)
 unfolding numbers_added
-rest-added true n = ap Value (omega arith)
+rest-added true n = ap Some (omega arith)
 rest-added false n = refl
 
 -- the AID that a line's word spells
@@ -124,8 +124,8 @@ word_at minutes ls l i (suc j) (a ∷ aids) h = word_at minutes ls l (suc i) j a
 -- the lines after those of the AIDs, by their words
 record EndsRead (more : Bool) (n t e : ℕ) (last : List PlainLine) : Type 0 where
   above : lines_above (text "ticks") (rest_lines more n ++ ends t e last) ≡ rest_lines more n
-  ticks : number_on (text "ticks") (rest_lines more n ++ ends t e last) ≡ Value t
-  events : number_on (text "events") (rest_lines more n ++ ends t e last) ≡ Value e
+  ticks : number_on (text "ticks") (rest_lines more n ++ ends t e last) ≡ Some t
+  events : number_on (text "events") (rest_lines more n ++ ends t e last) ≡ Some e
 
 ends_read : (more : Bool) (n t e : ℕ) (last : List PlainLine) → EndsRead more n t e last
 unfolding lines_above number_on same_bytes

@@ -1,6 +1,6 @@
 -- docs/EVENTS.md, 'The report' and 'For a person who has to sign it': both forms read as a person reads them: lines, each a word and a number. The
 -- readers are written from the page and cite nothing that writes; what they read off a printed report is said after them.
-use Rattle.std.specs.Prelude.{ℕ, suc, ◌+◌, ◌≤◌, ◌<◌, ◌≡◌, List, [], ◌∷◌, ◌++◌, map, Bool, true, false, cond, length, get_or, take, drop}
+use Rattle.std.specs.Prelude.{ℕ, suc, ◌+◌, ◌≤◌, ◌<◌, ◌≡◌, List, [], ◌∷◌, ◌++◌, map, Bool, true, false, cond, length, get_or, take, drop, Option, Some, None}
 use Rattle.base_bytes.specs.Bytes.{same_bytes}
 use Rattle.base_choice.specs.Choice.{pick, is_same}
 use Rattle.card_isdp.specs.Aids.{no_aid, bytes_of}
@@ -9,8 +9,6 @@ use Rattle.text_words.specs.Letters.{text}
 use Rattle.text_words.specs.Numbers.{decimal_of}
 use Rattle.text_words.specs.Hex.{hex_text, hex_left}
 use Rattle.text_words.specs.RoundTrips.{Octets}
-use Rattle.text_words.specs.declared.numbers.Number.{Number}
-use Rattle.text_words.specs.declared.numbers.Number.TheVariants.{Value, Wrong}
 use Rattle.month_tally.specs.Lines.{rest_line, aids_in, minutes_in}
 use Rattle.month_tally.specs.declared.Tally.{Tally}
 use Rattle.month_report.specs.Report.{report_text}
@@ -18,10 +16,10 @@ use Rattle.month_report.specs.Report.{report_text}
 -- what a line says
 pub record PlainLine : Type 0 where
   pub word : List ℕ
-  pub number : Number
+  pub number : Option ℕ
 
 abbrev pub plain_line : List ℕ → ℕ → PlainLine
-plain_line word n = record { word = word; number = Value n }
+plain_line word n = record { word = word; number = Some n }
 
 -- the lines of a text, each up to its line end; what stands after the last line end is a line too, so that nothing is passed over
 abbrev pub on_line : ℕ → List (List ℕ) → List (List ℕ)
@@ -73,18 +71,18 @@ unfoldable pub lines_above : List ℕ → List PlainLine → List PlainLine
 lines_above w [] = []
 lines_above w (l ∷ ls) = cond (same_bytes l.word w) [] (l ∷ lines_above w ls)
 
-unfoldable pub number_on : List ℕ → List PlainLine → Number
-number_on w [] = Wrong
+unfoldable pub number_on : List ℕ → List PlainLine → Option ℕ
+number_on w [] = None
 number_on w (l ∷ ls) = cond (same_bytes l.word w) l.number (number_on w ls)
 
 -- the numbers of some lines added up; one that cannot be read spoils the sum
-abbrev pub plus_read : Number → Number → Number
-plus_read (Value m) (Value n) = Value (m + n)
-plus_read (Value m) Wrong = Wrong
-plus_read Wrong n = Wrong
+abbrev pub plus_read : Option ℕ → Option ℕ → Option ℕ
+plus_read (Some m) (Some n) = Some (m + n)
+plus_read (Some m) None = None
+plus_read None n = None
 
-unfoldable pub numbers_added : List PlainLine → Number
-numbers_added [] = Value 0
+unfoldable pub numbers_added : List PlainLine → Option ℕ
+numbers_added [] = Some 0
 numbers_added (l ∷ ls) = plus_read l.number (numbers_added ls)
 
 -- the figures that are printed have 32 bits, as those of the code have
@@ -113,9 +111,9 @@ pub record ReportRead (t : Tally) (minutes : List ℕ) (last read : List PlainLi
   -- the numbers above `ticks` add up to the minutes told
   pub added :
       numbers_added (lines_above (text "ticks") read)
-      ≡ Value (minutes_in (take (length (aids_in t.names)) minutes) + cond t.names.more (get_or minutes rest_line 0) 0)
-  pub ticks : number_on (text "ticks") read ≡ Value t.ticks
-  pub events : number_on (text "events") read ≡ Value t.events
+      ≡ Some (minutes_in (take (length (aids_in t.names)) minutes) + cond t.names.more (get_or minutes rest_line 0) 0)
+  pub ticks : number_on (text "ticks") read ≡ Some t.ticks
+  pub events : number_on (text "events") read ≡ Some t.events
   -- the word of a line spells the AID, whatever its length
   pub aids :
       (i : ℕ) (none : PlainLine) → i < length (aids_in t.names)
@@ -153,12 +151,12 @@ page_lines =
     ∷ []
 
 abbrev pub unread_line : List ℕ → PlainLine
-unread_line word = record { word = word; number = Wrong }
+unread_line word = record { word = word; number = None }
 
 pub record ReadShown : Type 0 where
   pub page : read_off page_text ≡ page_lines
   pub signed : read_signed signed_text ≡ page_lines ++ plain_line (text "refused") 3 ∷ []
-  pub adds-up : numbers_added (lines_above (text "ticks") page_lines) ≡ Value 27
+  pub adds-up : numbers_added (lines_above (text "ticks") page_lines) ≡ Some 27
   pub aid : aid_off (plain_line (text "A000000001") 10) ≡ 0xA0 ∷ 0x00 ∷ 0x00 ∷ 0x00 ∷ 0x01 ∷ []
   pub no_number : read_off (text "ticks 2x\nticks\n\nticks 7 7") ≡ unread_line (text "ticks") ∷ unread_line (text "ticks") ∷ unread_line [] ∷ unread_line (text "ticks") ∷ []
-  pub spoilt : numbers_added (read_off (text "A000000001 10\nA000000002 x\n")) ≡ Wrong
+  pub spoilt : numbers_added (read_off (text "A000000001 10\nA000000002 x\n")) ≡ None

@@ -1,5 +1,6 @@
 -- What is printed of a file: the figures of its count have fewer than 32 bits, since no file has more events than bytes; so what is read off the text
 -- is these figures, and they add up. Assumes nothing.
+use Rattle.std.specs.Prelude.{Some}
 use Prim.Native.Nat.{ℕ, zero, suc, ◌+◌, ◌≤◌, ◌<◌}
 use mathlib.Core.Path.{◌≡◌, refl, ap, sym, subst, ◌∙◌}
 use mathlib.Core.List.{List, [], ◌∷◌, map}
@@ -16,7 +17,6 @@ use Rattle.rule_run.specs.Calls.{Call}
 use Rattle.rule_run.specs.Step.{answers}
 use Rattle.rule_run.specs.Runs.{is_tick, ticks_among}
 use Rattle.text_words.specs.RoundTrips.{Octets}
-use Rattle.text_words.specs.declared.numbers.Number.TheVariants.{Value}
 use Rattle.month_contents.specs.Contents.{most_file, events_kind, section_of}
 use Rattle.month_events.specs.Events.{events_within, events_of, first_cut, first_stop}
 use Rattle.month_tally.specs.Lines.{same_aid}
@@ -113,12 +113,12 @@ module _ (s : List ℕ) (e : verdict_of s ≡ Accepted) (told : FileTold s (mont
       let some = lines-figured c calls minutes 0 (with_lines c calls) (λ j h. ap (λ (i : ℕ). get_or minutes i 0) (omega arith) ∙ line j h) in
       let ticks = told.ticks.ticks in
       let events = told.events.events ∙ told.calls in
-      let printed = r.ticks ∙ ap Value ticks in
+      let printed = r.ticks ∙ ap Some ticks in
       record {
         lines = r.lines ∙ rw (ticks, events, say.more, say.rest, say.aids, some);
-        add-up = r.added ∙ ap Value told.ticks.lines ∙ sym printed;
+        add-up = r.added ∙ ap Some told.ticks.lines ∙ sym printed;
         ticks = printed;
-        events = r.events ∙ ap Value events;
+        events = r.events ∙ ap Some events;
         aids = subst (λ (aids : List Aid). (i : ℕ) (l : PlainLine) → i < length aids → Octets (bytes_of (get_or aids i no_aid)) → aid_off (get_or read i l) ≡ bytes_of (get_or aids i no_aid)) say.aids r.aids;
       }
 

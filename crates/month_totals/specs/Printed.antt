@@ -1,6 +1,6 @@
 -- Document 02, 2026-01: "The totals add up to the ticks in the file", said of the text that is printed: what is read off both forms
 -- (month_report/specs/ReadOff.antt) of a file that is accepted.
-use Rattle.std.specs.Prelude.{ℕ, ◌<◌, ◌≡◌, List, [], ◌∷◌, ◌++◌, map, true, false, not, length, get_or, ltb}
+use Rattle.std.specs.Prelude.{ℕ, ◌<◌, ◌≡◌, List, [], ◌∷◌, ◌++◌, map, true, false, not, length, get_or, ltb, Some}
 use Rattle.card_isdp.specs.Aids.{no_aid, bytes_of}
 use Rattle.card_isdp.specs.declared.Aid.{Aid}
 use Rattle.card_record.specs.declared.Card.{Card}
@@ -10,7 +10,6 @@ use Rattle.rule_run.specs.Runs.{ticks_among}
 use Rattle.text_words.specs.Letters.{text}
 use Rattle.text_words.specs.Hex.{hex_text}
 use Rattle.text_words.specs.RoundTrips.{Octets}
-use Rattle.text_words.specs.declared.numbers.Number.TheVariants.{Value}
 use Rattle.month_tally.specs.Lines.{same_aid}
 use Rattle.month_report.specs.ReadOff.{PlainLine, plain_line, read_off, read_signed, aid_off, lines_above, number_on, numbers_added, rest_lines}
 use Rattle.month_file.specs.File.{Verdict.Accepted, verdict_of, file_events, file_calls}
@@ -36,9 +35,9 @@ pub record Printed (s : List ℕ) (last read : List PlainLine) : Type 0 where
       ++ plain_line (text "ticks") (ticks_among (file_calls s)) ∷ plain_line (text "events") (length (file_events s)) ∷ last
   -- the printed numbers above `ticks` add up to the printed number after it, and that is the ticks of the file
   pub add-up : numbers_added (lines_above (text "ticks") read) ≡ number_on (text "ticks") read
-  pub ticks : number_on (text "ticks") read ≡ Value (ticks_among (file_calls s))
+  pub ticks : number_on (text "ticks") read ≡ Some (ticks_among (file_calls s))
   -- the printed number of events is that of the events in the file
-  pub events : number_on (text "events") read ≡ Value (length (file_events s))
+  pub events : number_on (text "events") read ≡ Some (length (file_events s))
   -- the word of a line spells its AID, whatever its length
   pub aids :
       (i : ℕ) (none : PlainLine) → i < length (with_lines (file_card s) (file_calls s))

@@ -7,7 +7,8 @@ use mathlib.Core.Bool.{Bool, true, false, not, ◌&&◌, false≢true}
 use lib.ListN.{set}
 use lib.Dec.{eqb}
 use borrow.Author.Tests.{eqb-true, not-false}
-use Rattle.base_status.specs.Rows.{row, word_of}
+use Rattle.std.specs.Prelude.{Some, None}
+use Rattle.base_status.specs.Rows.{word_of}
 use Rattle.card_isdp.specs.LifeCycle.{selectable, personalized, is_enabled}
 use Rattle.card_isdp.specs.Place.{vacant}
 use Rattle.card_isdp.specs.declared.Isdp.{Isdp}
@@ -26,18 +27,14 @@ use Rattle.card_record.proofs.Sounds.{Phased, parts, choose}
 use Rattle.card_record.proofs.Outcomes.{decide-card}
 use Rattle.read_fields.specs.declared.request.Request.{Request}
 use Rattle.read_fields.specs.declared.request.Request.TheVariants as request
-use Rattle.read_fields.specs.declared.request.Field.{Field}
-use Rattle.read_fields.specs.declared.request.Field.TheVariants as field
+use Rattle.read_fields.specs.Found.{Field}
 use Rattle.read_command.specs.Requests.{field_of}
 use Rattle.rule_steps.proofs.Rows.{Passed}
-use Rattle.read_operator.specs.Field.{policy_of}
-use Rattle.read_operator.specs.declared.Policy as operator
-use Rattle.read_operator.specs.declared.Policy.TheVariants as policy
+use Rattle.read_operator.specs.Field.{policy_of, Policy}
 use Rattle.rule_steps.specs.Asked.{Act, Act.enable, Act.disable, Act.delete, Act.master_delete, Act.set_fall_back, Act.status, Act.keyed, Act.stored, Act.finished, Act.set_policy, Asked, Asked.unread, Asked.create, Asked.on, Asked.confirm, Asked.status_of_all, Asked.get_data, Asked.tick, Asked.lost}
 use Rattle.rule_steps.specs.Steps.{goes_on_at, step_of, response_of}
 use Rattle.rule_run.proofs.Taken.{card-passed}
 use Rattle.rule_run.specs.Calls.{Call, Call.Command, Call.Keyed, Call.Stored, Call.Finished, Call.Tick, Call.Lost, Call.PolicyUpdate, asked, request_asks, field_asks, policy_asks}
-use Rattle.rule_run.specs.Table.{table}
 use Rattle.rule_run.specs.Step.{step, step_by}
 use Rattle.rule_run.specs.Runs.{taken, is_tick, is_confirmation, table_word}
 use Rattle.proof_demands.specs.Change.{Unmoved, Frame, OnlyOutstanding}
@@ -106,17 +103,17 @@ request-ticks verdict s (request.SetFallBack aid) = refl
 request-ticks verdict s (request.Delete aid) = refl
 request-ticks verdict s (request.MasterDelete aid) = refl
 request-ticks verdict s (request.Confirm number) = refl
-request-ticks verdict s (request.GetStatusOfAll next life fallback) = refl
-request-ticks verdict s (request.GetStatusOfOne aid life fallback) = refl
+request-ticks verdict s (request.GetStatusOfAll next tags) = refl
+request-ticks verdict s (request.GetStatusOfOne aid tags) = refl
 request-ticks verdict s request.GetData = refl
 
 field-ticks : (verdict : ℕ) (s : List ℕ) (f : Field) → is_ticking (field_asks verdict s f) ≡ false
-field-ticks verdict s field.Wrong = refl
-field-ticks verdict s (field.Found r) = request-ticks verdict s r
+field-ticks verdict s None = refl
+field-ticks verdict s (Some r) = request-ticks verdict s r
 
-policy-ticks : (speaker : List ℕ) (p : operator.Policy) → is_ticking (policy_asks speaker p) ≡ false
-policy-ticks speaker policy.Wrong = refl
-policy-ticks speaker (policy.Found p) = refl
+policy-ticks : (speaker : List ℕ) (p : Policy) → is_ticking (policy_asks speaker p) ≡ false
+policy-ticks speaker None = refl
+policy-ticks speaker (Some p) = refl
 
 only-tick : (c : Card) (call : Call) → is_tick call ≡ false → is_ticking (asked c call) ≡ false
 only-tick c (Command verdict s room) e = field-ticks verdict s (field_of s c.capacity)

@@ -6,6 +6,7 @@ use mathlib.Core.List.{List, [], ◌∷◌}
 use mathlib.Core.Bool.{Bool, true, false, not, cond, false≢true}
 use lib.ListN.{set}
 use borrow.Author.Tests.{not-true}
+use Rattle.std.specs.Prelude.{Some, None}
 use Rattle.base_status.specs.StatusWords.{is_done}
 use Rattle.base_status.specs.Rows.{Row, row}
 use Rattle.base_status.specs.declared.Status.{Status}
@@ -23,16 +24,13 @@ use Rattle.card_record.specs.declared.Card.{Card}
 use Rattle.card_record.specs.declared.Step.{Step}
 use Rattle.read_fields.specs.declared.request.Request.{Request}
 use Rattle.read_fields.specs.declared.request.Request.TheVariants as request
-use Rattle.read_fields.specs.declared.request.Field.{Field}
-use Rattle.read_fields.specs.declared.request.Field.TheVariants as field
+use Rattle.read_fields.specs.Found.{Field}
 use Rattle.read_frame.specs.Framing.{length_wrong, class_wrong, parameters_wrong, shape_wrong}
 use Rattle.read_command.specs.Requests.{field_of}
 use Rattle.rule_steps.specs.Asked.{Asked}
 use Rattle.rule_steps.specs.Conditions.{card_rows}
 use Rattle.rule_steps.specs.Steps.{success_of, step_of, response_of}
-use Rattle.read_operator.specs.Field.{policy_of}
-use Rattle.read_operator.specs.declared.Policy as operator
-use Rattle.read_operator.specs.declared.Policy.TheVariants as policy
+use Rattle.read_operator.specs.Field.{policy_of, Policy}
 use Rattle.rule_run.specs.Calls.{Call, Call.Command, Call.Keyed, Call.Stored, Call.Finished, Call.Tick, Call.Lost, Call.PolicyUpdate, request_asks, field_asks, policy_asks, asked}
 use Rattle.rule_run.specs.Table.{buffer_short, in_command, instruction_unknown, values_wrong, table}
 use Rattle.rule_run.specs.Step.{step, step_by, run}
@@ -53,17 +51,17 @@ request-spares a verdict s (request.SetFallBack aid) = refl
 request-spares a verdict s (request.Delete aid) = refl
 request-spares a verdict s (request.MasterDelete aid) = refl
 request-spares a verdict s (request.Confirm number) = refl
-request-spares a verdict s (request.GetStatusOfAll next life fallback) = refl
-request-spares a verdict s (request.GetStatusOfOne aid life fallback) = refl
+request-spares a verdict s (request.GetStatusOfAll next tags) = refl
+request-spares a verdict s (request.GetStatusOfOne aid tags) = refl
 request-spares a verdict s request.GetData = refl
 
 field-spares : (a : List ℕ) (verdict : ℕ) (s : List ℕ) (f : Field) → spares a (field_asks verdict s f) ≡ true
-field-spares a verdict s field.Wrong = refl
-field-spares a verdict s (field.Found r) = request-spares a verdict s r
+field-spares a verdict s None = refl
+field-spares a verdict s (Some r) = request-spares a verdict s r
 
-policy-spares : (a speaker : List ℕ) (p : operator.Policy) → spares a (policy_asks speaker p) ≡ true
-policy-spares a speaker policy.Wrong = refl
-policy-spares a speaker (policy.Found p) = refl
+policy-spares : (a speaker : List ℕ) (p : Policy) → spares a (policy_asks speaker p) ≡ true
+policy-spares a speaker None = refl
+policy-spares a speaker (Some p) = refl
 
 call-spares : (a : List ℕ) (c : Card) (call : Call) → not (fills a call) ≡ true → spares a (asked c call) ≡ true
 call-spares a c (Command verdict s room) n = field-spares a verdict s (field_of s c.capacity)

@@ -6,6 +6,7 @@ use mathlib.Core.List.{List, ◌∷◌}
 use mathlib.Core.Bool.{true, false, cond, false≢true}
 use lib.Dec.{ltb}
 use borrow.Author.Tests.{le-ltb, ltb-false}
+use Rattle.std.specs.Prelude.{Some, None, Ok, Err}
 use Rattle.base_status.specs.StatusWords.{is_done}
 use Rattle.base_status.specs.Rows.{word_of}
 use Rattle.base_status.specs.declared.Status.{Status}
@@ -15,13 +16,9 @@ use Rattle.card_record.specs.Answers.{sound_row, settle}
 use Rattle.card_record.specs.declared.Card.{Card}
 use Rattle.read_tlv.specs.Encoding.{Bytes}
 use Rattle.read_frame.specs.Framing.{length_wrong, class_wrong, parameters_wrong, shape_wrong}
-use Rattle.read_operator.specs.Field.{policy_of, is_policy_wrong}
-use Rattle.read_operator.specs.Reading.{not_store_data, policy_wrong, update_of}
+use Rattle.read_operator.specs.Field.{policy_of, is_policy_wrong, Policy}
+use Rattle.read_operator.specs.Reading.{not_store_data, policy_wrong, update_of, Update}
 use Rattle.read_operator.specs.Grammar.{EncodesUpdate}
-use Rattle.read_operator.specs.declared.Policy as operator
-use Rattle.read_operator.specs.declared.Policy.TheVariants as policy
-use Rattle.read_operator.specs.declared.Update.{Update}
-use Rattle.read_operator.specs.declared.Update.TheVariants as update
 use Rattle.read_operator.proofs.Answers.{passes-done, done-read, refused-word}
 use Rattle.read_operator.proofs.UpdateGrammar.{update-back, update-written}
 use Rattle.rule_steps.specs.Asked.{Act.set_policy, Asked}
@@ -49,9 +46,9 @@ update-answered c speaker s room p h encoded =
     ap (λ (x : Status). settle c x (step_of c (asked c call)) (response_of c (asked c call))) word
     ∙ ap (λ (x : Asked). settle c (word_of (success_of c x) (sound_row c ∷ rows)) (step_of c x) (response_of c x)) (asks-update c speaker s room h p q)
 
-right-field : (speaker : List ℕ) (p : operator.Policy) → update_wrong speaker p ≡ false → is_policy_wrong p ≡ false
-right-field speaker policy.Wrong e = absurd (false≢true (sym e))
-right-field speaker (policy.Found p) e = refl
+right-field : (speaker : List ℕ) (p : Policy) → update_wrong speaker p ≡ false → is_policy_wrong p ≡ false
+right-field speaker None e = absurd (false≢true (sym e))
+right-field speaker (Some p) e = refl
 
 field-right : (speaker s : List ℕ) → update_wrong speaker (policy_of s) ≡ false → policy_wrong s ≡ false
 unfolding policy_wrong
@@ -73,8 +70,8 @@ accepted-update c speaker s room b e =
 
 module _ (c : Card) (speaker s : List ℕ) (room : ℕ) (b : Bytes s) (e : sound c ≡ true) (h : least_buffer ≤ room) (none : (p : ℕ) → EncodesUpdate p s → ⊥) where
   refused-case : (x : Update) → x ≡ update_of s → of_reading (step c (PolicyUpdate speaker s room)).status ≡ true
-  refused-case (update.Read p) q = absurd (none p (update-written s p b q))
-  refused-case (update.Refused w) q =
+  refused-case (Ok p) q = absurd (none p (update-written s p b q))
+  refused-case (Err w) q =
       let call = PolicyUpdate speaker s room in
       let r = refused-word s w q in
       ap of_reading (word-is c call ∙ past-sound c (work c call).success (rows_after c call) e ∙ policy-refused c (work c call).success speaker s room w q ∙ past-buffer room w h ∙ r.0)

@@ -8,17 +8,17 @@ use mathlib.Core.Option.{some}
 use mathlib.Core.Bool.{Bool, true, false, not, cond, false≢true}
 use lib.ListN.{length}
 use borrow.Author.Tests.{ltb-false, leb-true}
+use Rattle.std.specs.Prelude.{Ok, Err}
 use Rattle.base_bytes.specs.declared.Part.{Part}
 use Rattle.base_bytes.specs.Bytes.{part_of}
 use Rattle.base_status.specs.StatusWords.{is_done}
 use Rattle.base_status.specs.Rows.{Row, row, word_of}
 use Rattle.base_status.specs.declared.Status.{Status}
 use Rattle.base_status.specs.declared.Status.TheVariants.{Unsound, LengthWrong, ClassWrong, InstructionWrong, ParametersWrong, DataWrong, Done}
-use Rattle.base_status.proofs.Tables.{passed}
 use Rattle.card_isdp.specs.Sizes.{least_aid}
 use Rattle.card_isdp.proofs.Bools.{and_l}
 use Rattle.card_record.specs.Sound.{sound}
-use Rattle.card_record.specs.Answers.{Outcome, outcome, sound_row, settle, accepted}
+use Rattle.card_record.specs.Answers.{Outcome, outcome, sound_row, settle}
 use Rattle.card_record.specs.declared.Card.{Card}
 use Rattle.card_record.proofs.Outcomes.{decided}
 use Rattle.read_tlv.specs.Encoding.{Bytes}
@@ -27,11 +27,9 @@ use Rattle.read_fields.specs.Places.{Placed, RequestIn}
 use Rattle.read_fields.specs.declared.request.Request.{Request}
 use Rattle.read_fields.specs.declared.request.Request.TheVariants as request
 use Rattle.read_command.specs.Grammar.{Encodes, read_as}
-use Rattle.read_command.specs.Reading.{read_of}
+use Rattle.read_command.specs.Reading.{read_of, Reading}
 use Rattle.read_frame.specs.Framing.{length_wrong, class_wrong, instruction_wrong, parameters_wrong, shape_wrong}
 use Rattle.read_command.specs.Requests.{data_wrong}
-use Rattle.read_command.specs.declared.Reading.{Reading}
-use Rattle.read_command.specs.declared.Reading.TheVariants as reading
 use Rattle.read_command.proofs.Answers.{passes-done, done-read, refused-word}
 use Rattle.read_command.proofs.Within.{read-inside}
 use Rattle.read_command.proofs.ReadBack.{command-back}
@@ -66,14 +64,14 @@ asks-same verdict s capacity (request.SetFallBack part) p = refl
 asks-same verdict s capacity (request.Delete part) p = refl
 asks-same verdict s capacity (request.MasterDelete part) p = refl
 asks-same verdict s capacity (request.Confirm number) p = refl
-asks-same verdict s capacity (request.GetStatusOfAll next life shown) p = refl
-asks-same verdict s capacity (request.GetStatusOfOne part life shown) p = listed-one (part_of s part) life shown (placed-length s part p)
+asks-same verdict s capacity (request.GetStatusOfAll next tags) p = refl
+asks-same verdict s capacity (request.GetStatusOfOne part tags) p = listed-one (part_of s part) tags.life tags.fall_back (placed-length s part p)
 asks-same verdict s capacity request.GetData p = refl
 
 -- the request that was read
-read_some : (s : List ℕ) (x : Reading) (w : Wanted) → read_as s x ≡ some w → (r : Request) × ((reading.Read r ≡ x) × (wanted_of s r ≡ w))
-read_some s (reading.Read r) w q = (r, (refl, cc))
-read_some s (reading.Refused word) w q = let z : ◌≡◌ {A = ℕ} 0 1 = cc in absurd (omega arith)
+read_some : (s : List ℕ) (x : Reading) (w : Wanted) → read_as s x ≡ some w → (r : Request) × ((Ok r ≡ x) × (wanted_of s r ≡ w))
+read_some s (Ok r) w q = (r, (refl, cc))
+read_some s (Err word) w q = let z : ◌≡◌ {A = ℕ} 0 1 = cc in absurd (omega arith)
 
 pub after-sound : (c : Card) (success : Status) (rows more : List Row) → word_of success rows ≡ word_of success more → word_of success (sound_row c ∷ rows) ≡ word_of success (sound_row c ∷ more)
 unfolding word_of
@@ -86,7 +84,7 @@ past-sound c success rows e = rw e
 
 -- what a written command asks is what was written
 module _ (c : Card) (verdict : ℕ) (s : List ℕ) (room : ℕ) (w : Wanted) (h : least_buffer ≤ room) (encoded : Encodes c.capacity w s) where
-  was_read : (r : Request) × ((reading.Read r ≡ read_of s c.capacity) × (wanted_of s r ≡ w))
+  was_read : (r : Request) × ((Ok r ≡ read_of s c.capacity) × (wanted_of s r ≡ w))
   was_read = read_some s (read_of s c.capacity) w (command-back s c.capacity w encoded)
 
   pub written-asks : asked c (Command verdict s room) ≡ wanted_asks verdict w
@@ -116,7 +114,7 @@ module _ (c : Card) (verdict : ℕ) (s : List ℕ) (room : ℕ) (wanted : Wanted
       ∙ past-sound c (success_of c asks) (card_rows c asks) e
 
 -- one that was read was written
-read-written : (s : List ℕ) (capacity : ℕ) (r : Request) → Bytes s → reading.Read r ≡ read_of s capacity → Encodes capacity (wanted_of s r) s
+read-written : (s : List ℕ) (capacity : ℕ) (r : Request) → Bytes s → Ok r ≡ read_of s capacity → Encodes capacity (wanted_of s r) s
 read-written s capacity r b q = command-written s capacity (wanted_of s r) b (ap (read_as s) (sym q))
 
 pub accepted-written : statement.AcceptedWritten
@@ -147,8 +145,8 @@ reading-word false false false false false false h = absurd (false≢true (sym h
 
 module _ (c : Card) (verdict : ℕ) (s : List ℕ) (room : ℕ) (b : Bytes s) (e : sound c ≡ true) (h : least_buffer ≤ room) (none : (w : Wanted) → Encodes c.capacity w s → ⊥) where
   refused-case : (x : Reading) → x ≡ read_of s c.capacity → of_reading (step c (Command verdict s room)).status ≡ true
-  refused-case (reading.Read r) q = absurd (none (wanted_of s r) (read-written s c.capacity r b q))
-  refused-case (reading.Refused word) q =
+  refused-case (Ok r) q = absurd (none (wanted_of s r) (read-written s c.capacity r b q))
+  refused-case (Err word) q =
       let r = refused-word s c.capacity word q in
       ap of_reading (word-is c (Command verdict s room) ∙ past-sound c (work c (Command verdict s room)).success (rows_after c (Command verdict s room)) e ∙ (not-read c verdict s room h word q).0 ∙ r.0)
       ∙ reading-word (length_wrong s) (class_wrong s) (instruction_wrong s) (parameters_wrong s) (shape_wrong s) (data_wrong s c.capacity) (ap is_done (sym r.0) ∙ r.1)

@@ -1,4 +1,5 @@
 -- Laws about reading a command.
+pub mod Opened
 pub mod Answers
 pub mod Within
 pub mod Examples

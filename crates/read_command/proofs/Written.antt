@@ -9,6 +9,7 @@ use native.Mathlib.Omega.{arith}
 use lib.ListN.{length}
 use lib.Dec.{eqb}
 use borrow.Author.Tests.{eqb-true, ne_eqb, eq-eqb, not-false}
+use Rattle.std.specs.Prelude.{Ok, Err}
 use Rattle.base_bytes.specs.Bytes.{byte}
 use Rattle.read_tlv.specs.Encoding.{window, Bytes}
 use Rattle.base_choice.proofs.Branches.{each-eq}
@@ -18,20 +19,18 @@ use Rattle.read_fields.proofs.DeletionGrammar.{deletion-written}
 use Rattle.read_fields.proofs.ListingGrammar.{listing-written}
 use Rattle.read_install.proofs.Written.{install-written}
 use Rattle.read_fields.specs.declared.request.Request.{Request}
-use Rattle.read_fields.specs.declared.request.Field.{Field}
-use Rattle.read_command.specs.declared.Reading.{Reading}
-use Rattle.read_command.specs.declared.Reading.TheVariants as reading
+use Rattle.read_fields.specs.Found.{Field}
 use Rattle.read_frame.specs.Framing.{instruction_wrong, parameters_right, shape_right, is_bare, data_end}
 use Rattle.read_command.specs.Requests.{goes_on, field_of}
-use Rattle.read_command.specs.Reading.{read_of}
+use Rattle.read_command.specs.Reading.{read_of, Reading}
 use Rattle.read_command.specs.Grammar.{read_as, Bare, second_of, Listing, Encodes, CommandWritten}
 use Rattle.read_frame.proofs.Frames.{and_l, and_r}
 use Rattle.read_frame.proofs.Framed.{class-right, parameters-right, shape-right, passes-framed}
 use Rattle.read_command.proofs.Answers.{Passes, read-passes, read_done}
 
-read_as_lem : (s : List ℕ) (r : Reading) (v : Wanted) → read_as s r ≡ some v → (q : Request) × ((reading.Read q ≡ r) × (some (wanted_of s q) ≡ some v))
-read_as_lem s (reading.Read q) v e = (q, (refl, e))
-read_as_lem s (reading.Refused w) v e = let z : ◌≡◌ {A = ℕ} 0 1 = cc in absurd (omega arith)
+read_as_lem : (s : List ℕ) (r : Reading) (v : Wanted) → read_as s r ≡ some v → (q : Request) × ((Ok q ≡ r) × (some (wanted_of s q) ≡ some v))
+read_as_lem s (Ok q) v e = (q, (refl, e))
+read_as_lem s (Err w) v e = let z : ◌≡◌ {A = ℕ} 0 1 = cc in absurd (omega arith)
 
 -- an instruction that is none of the other four is GET DATA's
 instruction-last : (s : List ℕ) (capacity : ℕ) → Passes s capacity → (byte s 1 ≡ 0xE6 → ⊥) → (byte s 1 ≡ 0xE4 → ⊥) → (byte s 1 ≡ 0xE2 → ⊥) → (byte s 1 ≡ 0xF2 → ⊥) → byte s 1 ≡ 0xCA

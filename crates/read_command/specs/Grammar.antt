@@ -1,21 +1,19 @@
 -- Document 01, 'Reading a command', from the writer's side: the string of each command, for every legal value, class, and Le or not.
 -- Reading such a string gives the value back, and whatever is accepted is such a string; an AID counts by its bytes.
-use Rattle.std.specs.Prelude.{ℕ, ◌≡◌, List, [], ◌∷◌, Bool, true, false}
+use Rattle.std.specs.Prelude.{ℕ, ◌≡◌, List, [], ◌∷◌, Bool, true, false, Ok, Err}
 use Rattle.std.proofs.Math.Option.{Option, none, some}
 use Rattle.read_tlv.specs.Encoding.{Bytes}
 use Rattle.read_fields.specs.Places.{RequestIn}
 use Rattle.read_fields.specs.Grammar.{EncodesStored, EncodesDeleted, EncodesListed, Inquiry, inquiry, Wanted, create, store_data, deletion, get_status, get_data, wanted_of}
 use Rattle.read_install.specs.Grammar.{EncodesCreated}
 use Rattle.read_fields.specs.declared.request.Request.{Request}
-use Rattle.read_command.specs.declared.Reading.{Reading}
-use Rattle.read_command.specs.declared.Reading.TheVariants as reading
 use Rattle.read_frame.specs.Framing.{class_right}
 use Rattle.read_frame.specs.Frame.{framed, Framed}
-use Rattle.read_command.specs.Reading.{read_of}
+use Rattle.read_command.specs.Reading.{read_of, Reading}
 
 abbrev pub read_as : List ℕ → Reading → Option Wanted
-read_as s (reading.Read r) = some (wanted_of s r)
-read_as s (reading.Refused word) = none
+read_as s (Ok r) = some (wanted_of s r)
+read_as s (Err word) = none
 
 pub record Bare (s : List ℕ) : Type 0 where
   pub class : ℕ
@@ -61,4 +59,4 @@ SameTags = (next next' : Bool) (class class' : ℕ) (with_le with_le' : Bool) (f
 
 -- what an accepted command names stands in it
 abbrev pub ReadInside : Type 0
-ReadInside = (s : List ℕ) (capacity : ℕ) (r : Request) → reading.Read r ≡ read_of s capacity → RequestIn s capacity r
+ReadInside = (s : List ℕ) (capacity : ℕ) (r : Request) → Ok r ≡ read_of s capacity → RequestIn s capacity r

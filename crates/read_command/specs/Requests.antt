@@ -1,13 +1,12 @@
 -- Document 01, 'Reading a command', the list: which request the data field of each instruction makes, or that it is wrong.
 -- The field stands from the sixth byte up to data_end.
-use Rattle.std.specs.Prelude.{ℕ, List, Bool, true, false, eqb}
+use Rattle.std.specs.Prelude.{ℕ, List, Bool, true, false, eqb, Some, None}
 use Rattle.base_choice.specs.Choice.{pick, is_same}
 use Rattle.read_fields.specs.StoreData.{store_data_at}
 use Rattle.read_fields.specs.Delete.{deletion_at}
 use Rattle.read_fields.specs.GetStatus.{listing_at}
 use Rattle.read_fields.specs.declared.request.Request.TheVariants as request
-use Rattle.read_fields.specs.declared.request.Field.{Field}
-use Rattle.read_fields.specs.declared.request.Field.TheVariants as field
+use Rattle.read_fields.specs.Found.{Field}
 use Rattle.read_install.specs.Install.{install_of}
 use Rattle.base_bytes.specs.Bytes.{byte}
 use Rattle.read_frame.specs.Framing.{data_end}
@@ -23,11 +22,11 @@ field_of s capacity =
     (pick (is_same (byte s 1) 0xE4) (deletion_at s 5 (data_end s))
     (pick (is_same (byte s 1) 0xE2) (store_data_at s 5 (data_end s))
     (pick (is_same (byte s 1) 0xF2) (listing_at (goes_on s) s 5 (data_end s))
-    (field.Found request.GetData))))
+    (Some request.GetData))))
 
 abbrev pub is_field_wrong : Field → Bool
-is_field_wrong field.Wrong = true
-is_field_wrong (field.Found r) = false
+is_field_wrong None = true
+is_field_wrong (Some r) = false
 
 -- 6A 80: data field or DGI wrong
 unfoldable pub data_wrong : List ℕ → ℕ → Bool

@@ -1,3 +1,2 @@
--- The law by which a reader's answers are the only element, and the laws of an element alone.
-pub mod Only
+-- The laws of an element alone in its window.
 pub mod Alone

@@ -1,115 +1,68 @@
 // Document 01, 'Reading a command': "Elements fill their list exactly and come in the order of the table".
-// A reader holds the data field and a position in it. Each function over it takes it apart and leaves the work to a function on the
-// slice and the number; `next_element` and `last_element` have plain parameters, so that their callers know no reader.
+// A reader holds the data field, the bytes up to `end`, and a position in it. Its methods are thin, over `read_tlv::expect`.
 #![tactic(auto)]
 
-ghost use Rattle.std.specs.Prelude.{◌≡◌, length};
+ghost use Rattle.std.specs.Prelude.{◌≡◌};
 ghost use Rattle.read_tlv.specs.Tlv.{expect_at};
-ghost use Rattle.read_elements.specs.Reader.{next_at, end_at, past_of, filled_of, alone_at};
+ghost use Rattle.read_tlv.specs.Lists.{list_wrong};
+ghost use Rattle.read_elements.specs.Reader.{moved, at_end, alone_at};
 
-use read_tlv::{Element, expect};
+use read_tlv::{Element, expect, list_wrong};
 
 #[derive(Clone, Copy)]
 pub struct Reader<'a> {
-    data: &'a [u8],
-    at: usize,
+    pub bytes: &'a [u8],
+    pub at: usize,
+    pub end: usize,
 }
 
-fn next_at(s: &[u8], at: usize, tag: u16, low: usize, high: usize) -> Element
-    ensures { result ≡ next_at s.now at tag low high }
-{
-    expect(s, at, s.len(), tag, low, high)
-}
-
-fn end_at(s: &[u8], at: usize) -> bool
-    ensures { result ≡ end_at s.now at }
-{
-    at == s.len()
-}
-
-// Past an element; where none was found, nothing is passed.
-fn past(at: usize, found: Element) -> usize
-    ensures { result ≡ past_of at found }
-{
-    match found {
-        Element::Found { start: _, stop } => stop,
-        Element::Wrong => at,
+impl<'a> Reader<'a> {
+    pub fn new(bytes: &'a [u8], at: usize, end: usize) -> Reader<'a>
+        ensures { result ≡ record { bytes = bytes.entry; at = at; end = end } }
+    {
+        Reader { bytes, at, end }
     }
-}
 
-// An element after which its list is at its end, or is not.
-fn filled(found: Element, ended: bool) -> Element
-    ensures { result ≡ filled_of found ended }
-{
-    if ended {
-        return found;
+    // A reader of an element's value.
+    pub fn inside(&self, element: Element) -> Reader<'a>
+        ensures { result ≡ record { bytes = self.now.bytes; at = element.start; end = element.stop } }
+    {
+        Reader {
+            bytes: self.bytes,
+            at: element.start,
+            end: element.stop,
+        }
     }
-    Element::Wrong
-}
 
-pub fn new<'a>(s: &'a [u8], at: usize) -> Reader<'a>
-    ensures { (result.«data» ≡ s.entry) × (result.at ≡ at) }
-{
-    Reader { data: s, at }
-}
-
-pub fn next<'a>(r: Reader<'a>, tag: u16, low: usize, high: usize) -> Element
-    ensures { result ≡ next_at r.entry.«data».now r.entry.at tag low high }
-{
-    next_at(r.data, r.at, tag, low, high)
-}
-
-pub fn moved<'a>(r: Reader<'a>, found: Element) -> Reader<'a>
-    ensures { (result.«data» ≡ r.entry.«data») × (result.at ≡ past_of r.entry.at found) }
-{
-    Reader {
-        data: r.data,
-        at: past(r.at, found),
+    // The element that the table has at the position, which moves past it; where there is none, it stays.
+    pub fn next(&mut self, tag: u16, low: usize, high: usize) -> Option<Element>
+        ensures found { result ≡ expect_at self.old.bytes.now self.old.at self.old.end tag low high }
+        ensures moved { self.new ≡ moved self.old result }
+    {
+        let found = expect(self.bytes, self.at, self.end, tag, low, high)?;
+        self.at = found.stop;
+        Some(found)
     }
-}
 
-pub fn at_end<'a>(r: Reader<'a>) -> bool
-    ensures { result ≡ end_at r.entry.«data».now r.entry.at }
-{
-    end_at(r.data, r.at)
-}
-
-// The element that the table has there, of a data field that ends with the slice.
-fn next_of(s: &[u8], at: usize, tag: u16, low: usize, high: usize) -> Element
-    ensures { result ≡ next_at s.now at tag low high }
-{
-    next(new(s, at), tag, low, high)
-}
-
-// The same, where nothing comes after it.
-fn only_of(s: &[u8], at: usize, tag: u16, low: usize, high: usize) -> Element
-    ensures { result ≡ alone_at s.now at (length s.now) tag low high }
-{
-    let reader = new(s, at);
-    let found = next(reader, tag, low, high);
-    let rest = moved(reader, found);
-    let ended = at_end(rest);
-    filled(found, ended)
-}
-
-// The element that the table has at a place of a data field that ends at `end`; another may follow.
-pub fn next_element(s: &[u8], at: usize, end: usize, tag: u16, low: usize, high: usize) -> Element
-    ensures { result ≡ expect_at s.now at end tag low high }
-{
-    if s.len() < end {
-        return Element::Wrong;
+    // Is what is left no list of elements?
+    pub fn list_wrong(&self) -> bool
+        ensures { result ≡ list_wrong self.now.bytes.now self.now.at self.now.end }
+    {
+        list_wrong(self.bytes, self.at, self.end)
     }
-    let field = &s[..end];
-    next_of(field, at, tag, low, high)
-}
 
-// The element that the table has there, where it ends the data field.
-pub fn last_element(s: &[u8], at: usize, end: usize, tag: u16, low: usize, high: usize) -> Element
-    ensures { result ≡ alone_at s.now at end tag low high }
-{
-    if s.len() < end {
-        return Element::Wrong;
+    pub fn at_end(&self) -> bool
+        ensures { result ≡ at_end self.now }
+    {
+        self.at == self.end
     }
-    let field = &s[..end];
-    only_of(field, at, tag, low, high)
+
+    // The element that the table has there, where nothing comes after it.
+    #[tactic(auto, unfolding(crate::specs::Reader::alone_at, base_choice::specs::Choice::pick, base_choice::specs::Choice::is_same))]
+    pub fn last(mut self, tag: u16, low: usize, high: usize) -> Option<Element>
+        ensures { result ≡ alone_at self.entry.bytes.now self.entry.at self.entry.end tag low high }
+    {
+        let found = self.next(tag, low, high)?;
+        self.at_end().then_some(found)
+    }
 }

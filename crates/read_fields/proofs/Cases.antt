@@ -3,36 +3,33 @@
 use Prim.Native.Nat.{ℕ}
 use mathlib.Core.Path.{◌≡◌, refl, subst}
 use mathlib.Core.Option.{none, some}
-use mathlib.Core.Bool.{Bool}
+use mathlib.Core.Bool.{Bool, true, false}
 use native.Mathlib.Omega.{arith}
-use Rattle.read_tlv.specs.declared.TagRead.{TagRead}
-use Rattle.read_tlv.specs.declared.TagRead.TheVariants as tag
+use Rattle.std.specs.Prelude.{Option, Some, None}
+use Rattle.read_tlv.specs.declared.Tag.{Tag}
+use Rattle.read_tlv.specs.Tlv.{tag_read}
 use Rattle.read_fields.specs.declared.Dgi.{Dgi}
-use Rattle.read_fields.specs.declared.Dgi.TheVariants as dgi
-use Rattle.read_fields.specs.declared.Verification.{Verification}
-use Rattle.read_fields.specs.declared.Verification.TheVariants as verification
-use Rattle.read_fields.specs.declared.Tags.{Tags}
-use Rattle.read_fields.specs.declared.Tags.TheVariants as tags
-use Rattle.read_fields.specs.StoreData.{on_dgi}
+use Rattle.read_fields.specs.declared.request.Tags.{Tags}
+use Rattle.read_fields.specs.StoreData.{dgi_read, on_dgi}
 use Rattle.read_fields.specs.Delete.{on_filled}
-use Rattle.read_fields.specs.GetStatus.{on_tag, on_shown}
+use Rattle.read_fields.specs.GetStatus.{tags_read, on_tag, on_shown}
 
 module _ {ℓ} {X : Type ℓ} (P : X → Type 0) where
-  pub each-dgi : (r : Dgi) {w : X} {f : ℕ → ℕ → X} → P w → ((number start : ℕ) → dgi.Found number start ≡ r → P (f number start)) → P (on_dgi r w f)
-  each-dgi dgi.Wrong p q = p
-  each-dgi (dgi.Found number start) p q = q number start refl
+  pub each-dgi : (r : Option Dgi) {w : X} {f : ℕ → ℕ → X} → P w → ((number start : ℕ) → dgi_read number start ≡ r → P (f number start)) → P (on_dgi r w f)
+  each-dgi None p q = p
+  each-dgi (Some d) p q = q d.number d.start refl
 
-  pub each-filled : (r : Verification) {w x : X} → P w → (verification.Filled ≡ r → P x) → P (on_filled r w x)
-  each-filled verification.Wrong p q = p
-  each-filled verification.Filled p q = q refl
+  pub each-filled : (r : Bool) {w x : X} → P w → (true ≡ r → P x) → P (on_filled r w x)
+  each-filled false p q = p
+  each-filled true p q = q refl
 
-  pub each-tag : (r : TagRead) {w : X} {f : ℕ → ℕ → X} → P w → ((t : ℕ) (c : Bool) (next : ℕ) → tag.Tag t c next ≡ r → P (f t next)) → P (on_tag r w f)
-  each-tag tag.Wrong p q = p
-  each-tag (tag.Tag t c next) p q = q t c next refl
+  pub each-tag : (r : Option Tag) {w : X} {f : ℕ → ℕ → X} → P w → ((t : ℕ) (c : Bool) (next : ℕ) → tag_read t c next ≡ r → P (f t next)) → P (on_tag r w f)
+  each-tag None p q = p
+  each-tag (Some t) p q = q t.tag t.constructed t.next refl
 
-  pub each-shown : (r : Tags) {w : X} {f : Bool → Bool → X} → P w → ((life shown : Bool) → tags.Shown life shown ≡ r → P (f life shown)) → P (on_shown r w f)
-  each-shown tags.Wrong p q = p
-  each-shown (tags.Shown life shown) p q = q life shown refl
+  pub each-shown : (r : Option Tags) {w : X} {f : Bool → Bool → X} → P w → ((life shown : Bool) → tags_read life shown ≡ r → P (f life shown)) → P (on_shown r w f)
+  each-shown None p q = p
+  each-shown (Some tags) p q = q tags.life tags.fall_back refl
 
 pub same-value : {X : Type 0} (P : X → Type 0) (v w : X) → P v → some v ≡ some w → P w
 same-value P v w p q = let e : v ≡ w = cc in subst P e p

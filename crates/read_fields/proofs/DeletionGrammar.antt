@@ -6,9 +6,9 @@ use mathlib.Core.List.{List, [], ◌++◌, append-nil}
 use mathlib.Core.Option.{some}
 use native.Mathlib.Omega.{arith}
 use lib.ListN.{length}
+use Rattle.std.specs.Prelude.{Bool, true, false, Some}
 use Rattle.base_bytes.specs.Bytes.{between, part_of}
-use Rattle.read_tlv.specs.Tlv.{expect_at}
-use Rattle.read_tlv.specs.declared.Element.TheVariants as element
+use Rattle.read_tlv.specs.Tlv.{element_read, expect_at}
 use Rattle.read_tlv.specs.Lists.{list_wrong}
 use Rattle.read_tlv.specs.Filled.{Filled, ended, primitive, constructed}
 use Rattle.read_tlv.specs.Encoding.{window, Bytes, encode_element}
@@ -19,11 +19,8 @@ use Rattle.read_tlv.proofs.Fills.{right-filled, filled-right, first-level, secon
 use Rattle.read_tlv.proofs.Written.{element-written}
 use Rattle.read_tlv.specs.Grammar.{one, two}
 use Rattle.read_tlv.proofs.ReadBack.{element-back}
-use Rattle.read_fields.specs.declared.Verification.{Verification}
-use Rattle.read_fields.specs.declared.Verification.TheVariants as verification
 use Rattle.read_fields.specs.declared.request.Request.TheVariants as request
-use Rattle.read_fields.specs.declared.request.Field.{Field}
-use Rattle.read_fields.specs.declared.request.Field.TheVariants as field
+use Rattle.read_fields.specs.Found.{Field}
 use Rattle.read_elements.specs.Reader.{alone_at}
 use Rattle.read_fields.specs.Delete.{verification_at, deletion_at}
 use Rattle.read_fields.specs.Grammar.{Named, delete, master_delete, Wanted, deletion, found_as, ReadFrom, Verified, Given, encode_verification, LegalVerified, encode_master_delete, EncodesDeleted, DeletionBack, DeletionWritten, DeletionFilled}
@@ -36,7 +33,7 @@ use Rattle.read_tlv.proofs.Written.{elements-written}
 -- ---- an encoded field is read back
 
 verification-back : (s : List ℕ) (at end : ℕ) → at ≤ end → end ≤ length s → (v : Verified) → LegalVerified v
-    → window s at end ≡ encode_verification v → (verification.Filled ≡ verification_at s at end) × Filled s 2 at end
+    → window s at end ≡ encode_verification v → (true ≡ verification_at s at end) × Filled s 2 at end
 unfolding encode_verification verification_at
 verification-back s at end ordered held v l q =
     let a = element-back s at end ordered held 0x42 1 255 v.of42 _ (one (omega arith) (omega arith)) l.given42.least l.given42.most q in
@@ -56,7 +53,7 @@ deletion-back s at end (delete aid) ordered held (named, q) =
     let w = a.within in let l = a.long in
     let m : a.stop ≡ end = omega arith in
     let f : Filled s 1 at end = primitive first-level a.head (subst (λ (k : ℕ). Filled s 1 k end) (sym m) (ended first-level held)) in
-    let r : field.Found (request.Delete (between a.start a.stop)) ≡ deletion_at s at end = no! _ (filled-right f) (rw (← a.found) (eq! _ m refl)) in
+    let r : Some (request.Delete (between a.start a.stop)) ≡ deletion_at s at end = no! _ (filled-right f) (rw (← a.found) (eq! _ m refl)) in
     rw (← r) (ap (λ (l : List ℕ). some (deletion (delete l))) (window-part s a.start a.stop (omega arith) ∙ a.value))
 deletion-back s at end (master_delete aid) ordered held (v, (named, (l, q))) =
     let a = element-back s at end ordered held 0x4F 5 16 aid _ (one (omega arith) (omega arith)) named.least named.most q in
@@ -65,7 +62,7 @@ deletion-back s at end (master_delete aid) ordered held (v, (named, (l, q))) =
     let f = verification-back s b.start b.stop i.ordered (omega arith) v l b.value in
     let t = alone-back s b.stop end b.within held 0x9E 1 255 v.of9_e (one (omega arith) (omega arith)) l.given9_e.least l.given9_e.most b.after in
     let k = a.long in
-    let r : field.Found (request.MasterDelete (between a.start a.stop)) ≡ deletion_at s at end =
+    let r : Some (request.MasterDelete (between a.start a.stop)) ≡ deletion_at s at end =
     no! _ (filled-right (primitive first-level a.head (constructed first-level b.head f.1 (primitive first-level t.head (ended first-level held)))))
     (rw (← a.found) (ne! _ (omega arith) (rw (← b.found) (rw (← f.0) (rw (← t.found) refl))))) in
     rw (← r) (ap (λ (l : List ℕ). some (deletion (master_delete l))) (window-part s a.start a.stop (omega arith) ∙ a.value))
@@ -89,11 +86,11 @@ module _ (s : List ℕ) (b : Bytes s) where
     pub given93 : Given values.of93
     pub bytes : window s at end ≡ encode_verification values
 
-  verification-written : (at end : ℕ) (token : List ℕ) → verification.Filled ≡ verification_at s at end → Four at end token
+  verification-written : (at end : ℕ) (token : List ℕ) → true ≡ verification_at s at end → Four at end token
   unfolding verification_at encode_verification
   verification-written at end token =
-      let P : Verification → Type 0 = λ z. verification.Filled ≡ z → Four at end token in
-      let none : P verification.Wrong = λ q. let z : ◌≡◌ {A = ℕ} 0 1 = cc in absurd (omega arith) in
+      let P : Bool → Type 0 = λ z. true ≡ z → Four at end token in
+      let none : P false = λ q. let z : ◌≡◌ {A = ℕ} 0 1 = cc in absurd (omega arith) in
       each-found P (expect_at s at end 0x42 1 255) none λ k₁ first q₁.
       each-found P (expect_at s first end 0x45 1 255) none λ k₂ second q₂.
       each-found P (expect_at s second end 0x5F20 1 255) none λ k₃ third q₃.
@@ -117,22 +114,22 @@ module _ (s : List ℕ) (at end : ℕ) (w : Wanted) (b : Bytes s) where
   abbrev Accepted : Field → Type 0
   Accepted z = found_as s z ≡ some w → Encoded w
 
-  module _ (start stop : ℕ) (q : element.Found start stop ≡ expect_at s at end 0x4F 5 16) where
+  module _ (start stop : ℕ) (q : element_read start stop ≡ expect_at s at end 0x4F 5 16) where
     named : Named (part_of s (between start stop))
     named =
         let x = expect-parts s at end 0x4F 5 16 start stop q in
         let i = x.inside in
         subst Named (sym (window-part s start stop i.ordered)) (part-named s start stop i.ordered (omega arith) x.least x.most)
 
-    delete-written : stop ≡ end → Accepted (field.Found (request.Delete (between start stop)))
+    delete-written : stop ≡ end → Accepted (Some (request.Delete (between start stop)))
     delete-written h =
         let i = expect-inside s at end 0x4F 5 16 start stop q in
         let bytes : window s at end ≡ encode_element 0x4F (part_of s (between start stop)) =
         ap (window s at) (sym h) ∙ element-written s at end 0x4F 5 16 start stop b q ∙ ap (encode_element 0x4F) (sym (window-part s start stop i.ordered)) in
         same-value Encoded (deletion (delete (part_of s (between start stop)))) w record { ordered = omega arith; held = omega arith; value = delete (part_of s (between start stop)); meant = refl; encoded = (named, bytes) }
 
-    master-written : (from to k e : ℕ) → element.Found from to ≡ expect_at s stop end 0xB6 0 255 → verification.Filled ≡ verification_at s from to
-        → element.Found k e ≡ alone_at s to end 0x9E 1 255 → Accepted (field.Found (request.MasterDelete (between start stop)))
+    master-written : (from to k e : ℕ) → element_read from to ≡ expect_at s stop end 0xB6 0 255 → true ≡ verification_at s from to
+        → element_read k e ≡ alone_at s to end 0x9E 1 255 → Accepted (Some (request.MasterDelete (between start stop)))
     master-written from to k e q₂ f g =
         let i = expect-inside s at end 0x4F 5 16 start stop q in
         let x = expect-parts s stop end 0xB6 0 255 from to q₂ in
@@ -171,5 +168,5 @@ deletion-written s at end w b q = accepted s at end w b q
 
 pub deletion-filled : DeletionFilled
 unfolding deletion_at
-deletion-filled s at end r = each (λ (z : Field). field.Found r ≡ z → Filled s 1 at end) (list_wrong s at end)
+deletion-filled s at end r = each (λ (z : Field). Some r ≡ z → Filled s 1 at end) (list_wrong s at end)
     (λ _ q. let z : ◌≡◌ {A = ℕ} 0 1 = cc in absurd (omega arith)) (λ e _. right-filled s at end e)

@@ -1,5 +1,6 @@
 -- The laws of the data fields.
 pub mod Left
+pub mod Opened
 pub mod Cases
 pub mod Parts
 pub mod StoreDataGrammar

@@ -6,8 +6,8 @@ use mathlib.Core.List.{List, [], ◌∷◌, ◌++◌}
 use mathlib.Core.Bool.{Bool, true, false}
 use native.Mathlib.Omega.{arith}
 use lib.ListN.{length}
-use Rattle.read_tlv.specs.Tlv.{tag_at}
-use Rattle.read_tlv.specs.declared.TagRead.TheVariants as tag
+use Rattle.std.specs.Prelude.{Option, None}
+use Rattle.read_tlv.specs.Tlv.{tag_read, tag_at}
 use Rattle.read_tlv.specs.Encoding.{window, Bytes, encode_tag}
 use Rattle.base_choice.proofs.Branches.{each-le, each-eq, le!, nle!, eq!, ne! }
 use Rattle.read_tlv.proofs.Inside.{tag-inside}
@@ -15,9 +15,8 @@ use Rattle.read_tlv.proofs.Windows.{window-none, window-length, window-cut}
 use Rattle.read_tlv.proofs.Written.{tag-written}
 use Rattle.read_tlv.specs.Grammar.{LegalTag, one, two}
 use Rattle.read_tlv.proofs.ReadBack.{tag_back}
-use Rattle.read_fields.specs.declared.Tags.{Tags}
-use Rattle.read_fields.specs.declared.Tags.TheVariants as tags
-use Rattle.read_fields.specs.GetStatus.{tag_noted, on_tag, on_shown, listed_within, listed_at}
+use Rattle.read_fields.specs.declared.request.Tags.{Tags}
+use Rattle.read_fields.specs.GetStatus.{tags_read, tag_noted, on_tag, on_shown, listed_within, listed_at}
 use Rattle.read_fields.specs.Grammar.{ListedTag, aid, life_cycle, fall_back, tag_number, encode_tags, lists_life, lists_fall_back}
 use Rattle.read_fields.proofs.Cases.{each-tag}
 
@@ -63,7 +62,7 @@ legal aid = one {t = 0x4F} (omega arith) (omega arith)
 legal life_cycle = two {t = 0x9F70} (omega arith) (omega arith) (omega arith)
 legal fall_back = one {t = 0x53} (omega arith) (omega arith)
 
-noted-tag : (t : ListedTag) (l f : Bool) → tags.Shown (sees_life l (t ∷ [])) (sees_fall_back f (t ∷ [])) ≡ tag_noted (tag_number t) l f
+noted-tag : (t : ListedTag) (l f : Bool) → tags_read (sees_life l (t ∷ [])) (sees_fall_back f (t ∷ [])) ≡ tag_noted (tag_number t) l f
 unfolding tag_noted
 noted-tag aid l f = eq! _ refl refl
 noted-tag life_cycle l f = ne! _ (omega arith) (eq! _ refl refl)
@@ -82,7 +81,7 @@ sees-next-fall-back fall_back ts f = refl
 -- ---- an encoded list is read back
 
 within-back : (ts : List ListedTag) (n : ℕ) (s : List ℕ) (at end : ℕ) (l f : Bool) → at ≤ end → end ≤ length s → end - at ≤ n
-    → window s at end ≡ encode_tags ts → tags.Shown (sees_life l ts) (sees_fall_back f ts) ≡ listed_within n s at end l f
+    → window s at end ≡ encode_tags ts → tags_read (sees_life l ts) (sees_fall_back f ts) ≡ listed_within n s at end l f
 unfolding encode_tags listed_within
 within-back [] zero s at end l f o h i q = refl
 within-back [] (suc n) s at end l f o h i q =
@@ -98,7 +97,7 @@ within-back (t ∷ ts) (suc n) s at end l f o h i q =
     (within-back ts n s b.next end (sees_life l (t ∷ [])) (sees_fall_back f (t ∷ [])) w h (omega arith) b.after)))))
 
 pub listed_back : (ts : List ListedTag) (s : List ℕ) (at end : ℕ) → at ≤ end → end ≤ length s
-    → window s at end ≡ encode_tags ts → tags.Shown (lists_life ts) (lists_fall_back ts) ≡ listed_at s at end
+    → window s at end ≡ encode_tags ts → tags_read (lists_life ts) (lists_fall_back ts) ≡ listed_at s at end
 unfolding listed_at
 listed_back ts s at end o h q =
     rw (← life-listed ts) (rw (← fall-back-listed ts) (within-back ts (end - at) s at end false false o h (omega arith) q))
@@ -112,11 +111,16 @@ pub record TagsWritten (s : List ℕ) (at end : ℕ) (l f life shown : Bool) : T
   pub bytes : window s at end ≡ encode_tags list
 
 module _ (s : List ℕ) (end : ℕ) (b : Bytes s) (life shown : Bool) where
-  ends : (at : ℕ) (l f : Bool) → at ≡ end → tags.Shown life shown ≡ tags.Shown l f → TagsWritten s at end l f life shown
+  ends : (at : ℕ) (l f : Bool) → at ≡ end → tags_read life shown ≡ tags_read l f → TagsWritten s at end l f life shown
   unfolding encode_tags
-  ends at l f h q = record { list = []; sees = cc; sees_too = cc; bytes = ap (λ (n : ℕ). window s n end) h ∙ window-none s end }
+  ends at l f h q = record {
+    list = [];
+    sees = ap (λ (z : Option Tags). on_shown z false (λ seen _. seen)) q;
+    sees_too = ap (λ (z : Option Tags). on_shown z false (λ _ seen. seen)) q;
+    bytes = ap (λ (n : ℕ). window s n end) h ∙ window-none s end;
+  }
 
-  goes_on : (at next : ℕ) (l f c : Bool) (t : ListedTag) → tag.Tag (tag_number t) c next ≡ tag_at s at end
+  goes_on : (at next : ℕ) (l f c : Bool) (t : ListedTag) → tag_read (tag_number t) c next ≡ tag_at s at end
       → TagsWritten s next end (sees_life l (t ∷ [])) (sees_fall_back f (t ∷ [])) life shown → TagsWritten s at end l f life shown
   unfolding encode_tags
   goes_on at next l f c t g r =
@@ -131,27 +135,27 @@ module _ (s : List ℕ) (end : ℕ) (b : Bytes s) (life shown : Bool) where
       }
 
   module _ (n at : ℕ) (l f : Bool)
-      (onward : (next : ℕ) (l' f' : Bool) → at < next → next ≤ end → tags.Shown life shown ≡ listed_within n s next end l' f' → TagsWritten s next end l' f' life shown) where
-    tag-first : tags.Shown life shown ≡ on_tag (tag_at s at end) tags.Wrong (λ t next. on_shown (tag_noted t l f) tags.Wrong (λ l' f'. listed_within n s next end l' f'))
+      (onward : (next : ℕ) (l' f' : Bool) → at < next → next ≤ end → tags_read life shown ≡ listed_within n s next end l' f' → TagsWritten s next end l' f' life shown) where
+    tag-first : tags_read life shown ≡ on_tag (tag_at s at end) None (λ t next. on_shown (tag_noted t l f) None (λ l' f'. listed_within n s next end l' f'))
         → TagsWritten s at end l f life shown
     unfolding tag_noted
     tag-first =
-        let Q : Tags → Type 0 = λ z. tags.Shown life shown ≡ z → TagsWritten s at end l f life shown in
-        let none : Q tags.Wrong = λ q. let z : ◌≡◌ {A = ℕ} 0 1 = cc in absurd (omega arith) in
+        let Q : Option Tags → Type 0 = λ z. tags_read life shown ≡ z → TagsWritten s at end l f life shown in
+        let none : Q None = λ q. let z : ◌≡◌ {A = ℕ} 0 1 = cc in absurd (omega arith) in
         each-tag Q (tag_at s at end) none λ t c next g.
-        let P : Tags → Type 0 = λ z. Q (on_shown z tags.Wrong (λ l' f'. listed_within n s next end l' f')) in
+        let P : Option Tags → Type 0 = λ z. Q (on_shown z None (λ l' f'. listed_within n s next end l' f')) in
         let i = tag-inside s at end t c next g in
-        let by : (u : ListedTag) → t ≡ tag_number u → tag.Tag (tag_number u) c next ≡ tag_at s at end = λ u h. ap (λ (m : ℕ). tag.Tag m c next) (sym h) ∙ g in
+        let by : (u : ListedTag) → t ≡ tag_number u → tag_read (tag_number u) c next ≡ tag_at s at end = λ u h. ap (λ (m : ℕ). tag_read m c next) (sym h) ∙ g in
         each-eq P (λ h q. goes_on at next l f c aid (by aid h) (onward next l f i.past i.within q))
         (λ _. each-eq P (λ h q. goes_on at next l f c life_cycle (by life_cycle h) (onward next true f i.past i.within q))
         (λ _. each-eq P (λ h q. goes_on at next l f c fall_back (by fall_back h) (onward next l true i.past i.within q))
         (λ _. none)))
 
-  within-written : (n at : ℕ) (l f : Bool) → at ≤ end → end - at ≤ n → tags.Shown life shown ≡ listed_within n s at end l f → TagsWritten s at end l f life shown
+  within-written : (n at : ℕ) (l f : Bool) → at ≤ end → end - at ≤ n → tags_read life shown ≡ listed_within n s at end l f → TagsWritten s at end l f life shown
   unfolding listed_within
   within-written zero at l f o h = ends at l f (omega arith)
   within-written (suc n) at l f o h =
-      let P : Tags → Type 0 = λ z. tags.Shown life shown ≡ z → TagsWritten s at end l f life shown in
+      let P : Option Tags → Type 0 = λ z. tags_read life shown ≡ z → TagsWritten s at end l f life shown in
       each-le P (λ k. ends at l f (omega arith)) (λ k. tag-first n at l f (λ next l' f' i j. within-written n next l' f' j (omega arith)))
 
 pub record ListedWritten (s : List ℕ) (at end : ℕ) (life shown : Bool) : Type 0 where
@@ -160,7 +164,7 @@ pub record ListedWritten (s : List ℕ) (at end : ℕ) (life shown : Bool) : Typ
   pub lists_too : shown ≡ lists_fall_back list
   pub bytes : window s at end ≡ encode_tags list
 
-pub listed-written : (s : List ℕ) (at end : ℕ) (life shown : Bool) → Bytes s → at ≤ end → tags.Shown life shown ≡ listed_at s at end
+pub listed-written : (s : List ℕ) (at end : ℕ) (life shown : Bool) → Bytes s → at ≤ end → tags_read life shown ≡ listed_at s at end
     → ListedWritten s at end life shown
 unfolding listed_at
 listed-written s at end life shown b o q =

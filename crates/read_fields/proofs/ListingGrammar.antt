@@ -7,9 +7,10 @@ use mathlib.Core.Option.{Option, none, some}
 use mathlib.Core.Bool.{Bool, false}
 use native.Mathlib.Omega.{arith}
 use lib.ListN.{length}
+use Rattle.std.specs.Prelude as std
+use Rattle.std.specs.Prelude.{Some, None}
 use Rattle.base_bytes.specs.Bytes.{between, part_of}
-use Rattle.read_tlv.specs.Tlv.{expect_at}
-use Rattle.read_tlv.specs.declared.Element.TheVariants as element
+use Rattle.read_tlv.specs.Tlv.{element_read, expect_at}
 use Rattle.read_tlv.specs.Lists.{list_wrong}
 use Rattle.read_tlv.specs.Filled.{Filled, ended, primitive}
 use Rattle.read_tlv.specs.Encoding.{window, Bytes, encode_element}
@@ -19,13 +20,11 @@ use Rattle.read_tlv.proofs.Windows.{window-none, window-length, window-part}
 use Rattle.read_tlv.proofs.Fills.{right-filled, filled-right, first-level}
 use Rattle.read_tlv.proofs.ReadBack.{element-back}
 use Rattle.read_tlv.specs.Grammar as legal
-use Rattle.read_fields.specs.declared.Tags.{Tags}
-use Rattle.read_fields.specs.declared.Tags.TheVariants as tags
+use Rattle.read_fields.specs.declared.request.Tags.{Tags}
 use Rattle.read_fields.specs.declared.request.Request.TheVariants as request
-use Rattle.read_fields.specs.declared.request.Field.{Field}
-use Rattle.read_fields.specs.declared.request.Field.TheVariants as field
+use Rattle.read_fields.specs.Found.{Field}
 use Rattle.read_elements.specs.Reader.{alone_at}
-use Rattle.read_fields.specs.GetStatus.{rows_of, tags_at, listing_at}
+use Rattle.read_fields.specs.GetStatus.{tags_shown, tags_read, on_shown, rows_of, tags_at, listing_at}
 use Rattle.read_fields.specs.Grammar.{Named, ListedTag, inquiry, Wanted, get_status, found_as, ReadFrom, Sought, all, one, Short, encode_tags, encode_list, shows_life, shows_fall_back, EncodesNext, ListingBack, ListingWritten, ListingFilled}
 use Rattle.read_elements.proofs.Alone.{alone-expected, alone-written, alone-back}
 use Rattle.read_fields.proofs.Parts.{part-named}
@@ -40,7 +39,7 @@ empty : (s : List ℕ) (at end : ℕ) → at ≤ end → end ≤ length s → wi
 empty s at end o h q = let n : end - at ≡ 0 = sym (window-length s at end h) ∙ ap length q in omega arith
 
 tags-back : (s : List ℕ) (at end : ℕ) → at ≤ end → end ≤ length s → (ts : Option (List ListedTag)) → Short ts
-    → window s at end ≡ encode_list ts → (tags.Shown (shows_life ts) (shows_fall_back ts) ≡ tags_at s at end) × Filled s 1 at end
+    → window s at end ≡ encode_list ts → (tags_read (shows_life ts) (shows_fall_back ts) ≡ tags_at s at end) × Filled s 1 at end
 unfolding tags_at
 tags-back s at end o h none short q =
     let e = empty s at end o h q in
@@ -59,11 +58,11 @@ module _ (s : List ℕ) (life shown : Bool) where
   who-back : (next : Bool) (who : List ℕ) → Sought next who → (start stop : ℕ) → stop ≡ start + length who → window s start stop ≡ who
       → found_as s (rows_of next start stop life shown) ≡ some (get_status (inquiry next who life shown))
   who-back next who all start stop l q =
-      let r : field.Found (request.GetStatusOfAll next life shown) ≡ rows_of next start stop life shown = eq! _ (omega arith) refl in
+      let r : Some (request.GetStatusOfAll next (tags_shown life shown)) ≡ rows_of next start stop life shown = eq! _ (omega arith) refl in
       rw (← r) refl
   who-back next who (one named) start stop l q =
       let k = named.least in
-      let r : field.Found (request.GetStatusOfOne (between start stop) life shown) ≡ rows_of false start stop life shown =
+      let r : Some (request.GetStatusOfOne (between start stop) (tags_shown life shown)) ≡ rows_of false start stop life shown =
       ne! _ (omega arith) (no! _ refl (nlt! _ (omega arith) refl)) in
       rw (← r) (ap (λ (a : List ℕ). some (get_status (inquiry false a life shown))) (window-part s start stop (omega arith) ∙ q))
 
@@ -86,13 +85,19 @@ pub record ListWritten (s : List ℕ) (at end : ℕ) (life shown : Bool) : Type 
   pub lists_too : shown ≡ shows_fall_back tags
   pub bytes : window s at end ≡ encode_list tags
 
-tags-written : (s : List ℕ) (at end : ℕ) (life shown : Bool) → Bytes s → tags.Shown life shown ≡ tags_at s at end → ListWritten s at end life shown
+tags-written : (s : List ℕ) (at end : ℕ) (life shown : Bool) → Bytes s → tags_read life shown ≡ tags_at s at end → ListWritten s at end life shown
 unfolding tags_at
 tags-written s at end life shown b =
-    let P : Tags → Type 0 = λ z. tags.Shown life shown ≡ z → ListWritten s at end life shown in
-    let none' : P tags.Wrong = λ q. let z : ◌≡◌ {A = ℕ} 0 1 = cc in absurd (omega arith) in
+    let P : std.Option Tags → Type 0 = λ z. tags_read life shown ≡ z → ListWritten s at end life shown in
+    let none' : P None = λ q. let z : ◌≡◌ {A = ℕ} 0 1 = cc in absurd (omega arith) in
     each-eq P
-    (λ h q. record { tags = none; short = tt; lists = cc; lists_too = cc; bytes = ap (λ (n : ℕ). window s n end) h ∙ window-none s end })
+    (λ h q. record {
+      tags = none;
+      short = tt;
+      lists = ap (λ (z : std.Option Tags). on_shown z false (λ seen _. seen)) q;
+      lists_too = ap (λ (z : std.Option Tags). on_shown z false (λ _ seen. seen)) q;
+      bytes = ap (λ (n : ℕ). window s n end) h ∙ window-none s end;
+    })
     (λ _. each-found P (alone_at s at end 0x5C 0 255) none' λ start stop g q.
     let x = alone-expected s at end 0x5C 0 255 start stop g in
     let i = x.inside in let m = x.most in
@@ -114,8 +119,8 @@ module _ (next : Bool) (s : List ℕ) (at end : ℕ) (w : Wanted) (b : Bytes s) 
   abbrev Accepted : Field → Type 0
   Accepted z = found_as s z ≡ some w → Encoded w
 
-  module _ (start stop : ℕ) (q : element.Found start stop ≡ expect_at s at end 0x4F 0 16) where
-    who-written : (who : List ℕ) (life shown : Bool) → Sought next who → window s start stop ≡ who → tags.Shown life shown ≡ tags_at s stop end
+  module _ (start stop : ℕ) (q : element_read start stop ≡ expect_at s at end 0x4F 0 16) where
+    who-written : (who : List ℕ) (life shown : Bool) → Sought next who → window s start stop ≡ who → tags_read life shown ≡ tags_at s stop end
         → Encoded (get_status (inquiry next who life shown))
     who-written who life shown sought e t =
         let i = expect-inside s at end 0x4F 0 16 start stop q in
@@ -164,5 +169,5 @@ listing-written next s at end w b q = accepted next s at end w b q
 
 pub listing-filled : ListingFilled
 unfolding listing_at
-listing-filled next s at end r = each (λ (z : Field). field.Found r ≡ z → Filled s 1 at end) (list_wrong s at end)
+listing-filled next s at end r = each (λ (z : Field). Some r ≡ z → Filled s 1 at end) (list_wrong s at end)
     (λ _ q. let z : ◌≡◌ {A = ℕ} 0 1 = cc in absurd (omega arith)) (λ e _. right-filled s at end e)

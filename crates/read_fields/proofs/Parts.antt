@@ -5,10 +5,9 @@ use mathlib.Core.List.{List, [], ◌∷◌}
 use mathlib.Core.Bool.{Bool, false}
 use native.Mathlib.Omega.{arith}
 use lib.ListN.{length}
+use Rattle.std.specs.Prelude.{Option, None}
 use Rattle.base_bytes.specs.Bytes.{byte, pair_at}
-use Rattle.read_tlv.specs.declared.HeadRead.TheVariants as head
-use Rattle.read_tlv.specs.declared.Element.TheVariants as element
-use Rattle.read_tlv.specs.Tlv.{head_at}
+use Rattle.read_tlv.specs.Tlv.{head_read, element_read, head_at}
 use Rattle.read_tlv.specs.Lists.{list_wrong}
 use Rattle.read_tlv.specs.Filled.{Filled, ended, primitive}
 use Rattle.read_tlv.specs.Grammar.{one, marks_list}
@@ -19,8 +18,7 @@ use Rattle.read_tlv.proofs.Fills.{right-filled, filled-right, first-level}
 use Rattle.read_elements.specs.Reader.{alone_at}
 use Rattle.read_elements.proofs.Alone.{alone-written, alone-back}
 use Rattle.read_fields.specs.declared.Dgi.{Dgi}
-use Rattle.read_fields.specs.declared.Dgi.TheVariants as dgi
-use Rattle.read_fields.specs.StoreData.{dgi_at}
+use Rattle.read_fields.specs.StoreData.{dgi_read, on_dgi, dgi_at}
 use Rattle.read_fields.specs.Grammar.{Named, encode_dgi}
 
 -- ---- a DGI
@@ -31,15 +29,20 @@ pub record DgiParts (s : List ℕ) (at end number contents : ℕ) : Type 0 where
   pub fills : at + 3 + byte s (at + 2) ≡ end
   pub held : end ≤ length s
 
-pub dgi-parts : (s : List ℕ) (at end number contents : ℕ) → dgi.Found number contents ≡ dgi_at s at end → DgiParts s at end number contents
+pub dgi-parts : (s : List ℕ) (at end number contents : ℕ) → dgi_read number contents ≡ dgi_at s at end → DgiParts s at end number contents
 unfolding dgi_at
 dgi-parts s at end number contents =
-    let P : Dgi → Type 0 = λ z. dgi.Found number contents ≡ z → DgiParts s at end number contents in
-    let none : P dgi.Wrong = λ q. let z : ◌≡◌ {A = ℕ} 0 1 = cc in absurd (omega arith) in
+    let P : Option Dgi → Type 0 = λ z. dgi_read number contents ≡ z → DgiParts s at end number contents in
+    let none : P None = λ q. let z : ◌≡◌ {A = ℕ} 0 1 = cc in absurd (omega arith) in
     each-lt P (λ _. none) (λ h. each-lt P (λ _. none) (λ i. each-lt P (λ _. none) (λ j. each-eq P
-    (λ k q. record { place = cc; numbered = cc; fills = k; held = h }) (λ _. none))))
+    (λ k q. record {
+      place = ap (λ (z : Option Dgi). on_dgi z 0 (λ _ start. start)) q;
+      numbered = ap (λ (z : Option Dgi). on_dgi z 0 (λ number _. number)) q;
+      fills = k;
+      held = h;
+    }) (λ _. none))))
 
-pub dgi-written : (s : List ℕ) (at end number contents : ℕ) → Bytes s → dgi.Found number contents ≡ dgi_at s at end
+pub dgi-written : (s : List ℕ) (at end number contents : ℕ) → Bytes s → dgi_read number contents ≡ dgi_at s at end
     → window s at end ≡ encode_dgi number (window s contents end)
 dgi-written s at end number contents b q =
     let p = dgi-parts s at end number contents q in
@@ -58,7 +61,7 @@ dgi-written s at end number contents b q =
 
 module _ (s : List ℕ) (at end : ℕ) (ordered : at ≤ end) (held : end ≤ length s) (number : ℕ) (contents : List ℕ) where
   pub record DgiBack : Type 0 where
-    pub found : dgi.Found number (at + 3) ≡ dgi_at s at end
+    pub found : dgi_read number (at + 3) ≡ dgi_at s at end
     pub room : at + 3 ≤ end
     pub after : window s (at + 3) end ≡ contents
 
@@ -77,12 +80,12 @@ module _ (s : List ℕ) (at end : ℕ) (ordered : at ≤ end) (held : end ≤ le
       let n : length contents ≡ end - (at + 3) = ap length (sym w) ∙ window-length s (at + 3) end held in
       let k : number ≡ pair_at s at = omega arith in
       record {
-        found = nlt! _ held (nlt! _ (omega arith) (nlt! _ (omega arith) (eq! _ (omega arith) (ap (λ (n : ℕ). dgi.Found n (at + 3)) k))));
+        found = nlt! _ held (nlt! _ (omega arith) (nlt! _ (omega arith) (eq! _ (omega arith) (ap (λ (n : ℕ). dgi_read n (at + 3)) k))));
         room = omega arith;
         after = w;
       }
 
-pub dgi-filled : (s : List ℕ) (at end number contents : ℕ) → dgi.Found number contents ≡ dgi_at s at end → list_wrong s contents end ≡ false → Filled s 1 (at + 3) end
+pub dgi-filled : (s : List ℕ) (at end number contents : ℕ) → dgi_read number contents ≡ dgi_at s at end → list_wrong s contents end ≡ false → Filled s 1 (at + 3) end
 dgi-filled s at end number contents d e = subst (λ (k : ℕ). Filled s 1 k end) (dgi-parts s at end number contents d).place (right-filled s contents end e)
 
 -- ---- a DGI that holds one element, which fills it
@@ -97,9 +100,9 @@ short-element t v h i =
 module _ (s : List ℕ) (at end : ℕ) (ordered : at ≤ end) (held : end ≤ length s) (number t low high : ℕ) (v : List ℕ) where
   pub record LoneBack : Type 0 where
     pub start : ℕ
-    pub opened : dgi.Found number (at + 3) ≡ dgi_at s at end
+    pub opened : dgi_read number (at + 3) ≡ dgi_at s at end
     pub listed : list_wrong s (at + 3) end ≡ false
-    pub found : element.Found start end ≡ alone_at s (at + 3) end t low high
+    pub found : element_read start end ≡ alone_at s (at + 3) end t low high
     pub long : end ≡ start + length v
     pub value : window s start end ≡ v
 
@@ -110,7 +113,7 @@ module _ (s : List ℕ) (at end : ℕ) (ordered : at ≤ end) (held : end ≤ le
       let n = short-element t v small short in
       let d = dgi-back s at end ordered held number (encode_element t v) (omega arith) q in
       let a = alone-back s (at + 3) end d.room held t low high v (one small legal) least most d.after in
-      let h = subst (λ (b : Bool). head.Head t b a.start end ≡ head_at s (at + 3) end) plain a.head in
+      let h = subst (λ (b : Bool). head_read t b a.start end ≡ head_at s (at + 3) end) plain a.head in
       record {
         start = a.start;
         opened = d.found;
@@ -120,8 +123,8 @@ module _ (s : List ℕ) (at end : ℕ) (ordered : at ≤ end) (held : end ≤ le
         value = a.value;
       }
 
-pub lone-written : (s : List ℕ) (at end number contents t low high start stop : ℕ) → Bytes s → dgi.Found number contents ≡ dgi_at s at end
-    → element.Found start stop ≡ alone_at s contents end t low high → window s at end ≡ encode_dgi number (encode_element t (window s start stop))
+pub lone-written : (s : List ℕ) (at end number contents t low high start stop : ℕ) → Bytes s → dgi_read number contents ≡ dgi_at s at end
+    → element_read start stop ≡ alone_at s contents end t low high → window s at end ≡ encode_dgi number (encode_element t (window s start stop))
 lone-written s at end number contents t low high start stop b d g =
     dgi-written s at end number contents b d ∙ ap (encode_dgi number) (alone-written s contents end t low high start stop b g)
 

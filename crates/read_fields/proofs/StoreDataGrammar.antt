@@ -6,21 +6,20 @@ use mathlib.Core.List.{List, [], ◌∷◌}
 use mathlib.Core.Option.{some}
 use native.Mathlib.Omega.{arith}
 use lib.ListN.{length}
+use Rattle.std.specs.Prelude.{Some, None}
 use Rattle.base_bytes.specs.Bytes.{byte, pair_at, between, part_of}
-use Rattle.read_tlv.specs.declared.Element.TheVariants as element
 use Rattle.base_bytes.specs.declared.Part.{Part}
+use Rattle.read_tlv.specs.Tlv.{element_read}
 use Rattle.read_tlv.specs.Lists.{list_wrong}
 use Rattle.read_tlv.specs.Filled.{Filled}
 use Rattle.read_tlv.specs.Encoding.{window, Bytes, encode_number, encode_element}
 use Rattle.base_choice.proofs.Branches.{no!, each, each-eq, eq!, ne! }
 use Rattle.read_tlv.proofs.Windows.{window-starts, window-part}
 use Rattle.read_tlv.proofs.Written.{window-two}
-use Rattle.read_fields.specs.declared.Dgi.TheVariants as dgi
 use Rattle.read_fields.specs.declared.request.Request.TheVariants as request
-use Rattle.read_fields.specs.declared.request.Field.{Field}
-use Rattle.read_fields.specs.declared.request.Field.TheVariants as field
+use Rattle.read_fields.specs.Found.{Field}
 use Rattle.read_elements.specs.Reader.{alone_at}
-use Rattle.read_fields.specs.StoreData.{dgi_at, confirmation_at, request_named, store_data_at}
+use Rattle.read_fields.specs.StoreData.{dgi_read, dgi_at, confirmation_at, request_named, store_data_at}
 use Rattle.read_fields.specs.Grammar.{Named, enable, disable, set_fall_back, confirmation, Wanted, store_data, found_as, ReadFrom, encode_dgi, EncodesStored, StoreDataBack, StoreDataWritten, StoreDataFilled}
 use Rattle.read_elements.proofs.Alone.{alone-expected, alone-parts}
 use Rattle.read_fields.proofs.Parts.{dgi-parts, dgi-filled, lone-back, lone-written, part-named}
@@ -48,7 +47,7 @@ module _ (s : List ℕ) (at end : ℕ) (ordered : at ≤ end) (held : end ≤ le
       }
 
   number-back : (number : ℕ) → window s at end ≡ encode_dgi 0x3A08 (encode_element 0x4E (encode_number number))
-      → field.Found (request.Confirm number) ≡ store_data_at s at end
+      → Some (request.Confirm number) ≡ store_data_at s at end
   unfolding store_data_at confirmation_at
   number-back number q =
       let a = lone-back s at end ordered held 0x3A08 0x4E 2 2 (encode_number number) (omega arith) (omega arith) refl (omega arith) (omega arith) (omega arith) q in
@@ -57,21 +56,21 @@ module _ (s : List ℕ) (at end : ℕ) (ordered : at ≤ end) (held : end ≤ le
       let y = window-starts s (a.start + 1) end (omega arith) held (number % 256) [] x.after in
       let f = x.first in let g = y.first in
       let e : number ≡ pair_at s a.start = omega arith in
-      rw (← a.opened) (no! _ a.listed (eq! _ refl (rw (← a.found) (ap (λ (n : ℕ). field.Found (request.Confirm n)) e))))
+      rw (← a.opened) (no! _ a.listed (eq! _ refl (rw (← a.found) (ap (λ (n : ℕ). Some (request.Confirm n)) e))))
 
 pub store-data-back : StoreDataBack
 unfolding request_named
 store-data-back s at end (enable aid) ordered held (named, q) =
     let a = aid-back s at end ordered held 0x3A03 aid (omega arith) named q in
-    let r : field.Found (request.Enable a.part) ≡ request_named 0x3A03 a.part = eq! _ refl refl in
+    let r : Some (request.Enable a.part) ≡ request_named 0x3A03 a.part = eq! _ refl refl in
     rw (← a.read) (rw (← r) (ap (λ (l : List ℕ). some (store_data (enable l))) a.bytes))
 store-data-back s at end (disable aid) ordered held (named, q) =
     let a = aid-back s at end ordered held 0x3A04 aid (omega arith) named q in
-    let r : field.Found (request.Disable a.part) ≡ request_named 0x3A04 a.part = ne! _ (omega arith) (eq! _ refl refl) in
+    let r : Some (request.Disable a.part) ≡ request_named 0x3A04 a.part = ne! _ (omega arith) (eq! _ refl refl) in
     rw (← a.read) (rw (← r) (ap (λ (l : List ℕ). some (store_data (disable l))) a.bytes))
 store-data-back s at end (set_fall_back aid) ordered held (named, q) =
     let a = aid-back s at end ordered held 0x3A05 aid (omega arith) named q in
-    let r : field.Found (request.SetFallBack a.part) ≡ request_named 0x3A05 a.part = ne! _ (omega arith) (ne! _ (omega arith) (eq! _ refl refl)) in
+    let r : Some (request.SetFallBack a.part) ≡ request_named 0x3A05 a.part = ne! _ (omega arith) (ne! _ (omega arith) (eq! _ refl refl)) in
     rw (← a.read) (rw (← r) (ap (λ (l : List ℕ). some (store_data (set_fall_back l))) a.bytes))
 store-data-back s at end (confirmation number) ordered held (legal, q) = rw (← number-back s at end ordered held number q) refl
 
@@ -84,8 +83,8 @@ module _ (s : List ℕ) (at end : ℕ) (w : Wanted) (b : Bytes s) where
   abbrev Accepted : Field → Type 0
   Accepted z = found_as s z ≡ some w → Encoded w
 
-  module _ (number contents : ℕ) (d : dgi.Found number contents ≡ dgi_at s at end) (start stop : ℕ) where
-    aid-written : element.Found start stop ≡ alone_at s contents end 0x4F 5 16 → Accepted (request_named number (between start stop))
+  module _ (number contents : ℕ) (d : dgi_read number contents ≡ dgi_at s at end) (start stop : ℕ) where
+    aid-written : element_read start stop ≡ alone_at s contents end 0x4F 5 16 → Accepted (request_named number (between start stop))
     unfolding request_named
     aid-written g =
         let p = dgi-parts s at end number contents d in
@@ -106,7 +105,7 @@ module _ (s : List ℕ) (at end : ℕ) (w : Wanted) (b : Bytes s) where
         (λ _. each-eq Accepted (λ h. same-value Encoded (store_data (set_fall_back aid)) w record { ordered = lies; held = held; value = set_fall_back aid; meant = refl; encoded = (named, by 0x3A05 h) })
         (λ _. no_value (Encoded w) w)))
 
-    number-written : number ≡ 0x3A08 → element.Found start stop ≡ alone_at s contents end 0x4E 2 2 → Accepted (field.Found (request.Confirm (pair_at s start)))
+    number-written : number ≡ 0x3A08 → element_read start stop ≡ alone_at s contents end 0x4E 2 2 → Accepted (Some (request.Confirm (pair_at s start)))
     number-written h g =
         let p = dgi-parts s at end number contents d in
         let x = alone-expected s contents end 0x4E 2 2 start stop g in
@@ -138,7 +137,7 @@ store-data-written s at end w b q = accepted s at end w b q
 pub store-data-filled : StoreDataFilled
 unfolding store_data_at
 store-data-filled s at end r =
-    let P : Field → Type 0 = λ z. field.Found r ≡ z → Filled s 1 (at + 3) end in
-    let none : P field.Wrong = λ q. let z : ◌≡◌ {A = ℕ} 0 1 = cc in absurd (omega arith) in
+    let P : Field → Type 0 = λ z. Some r ≡ z → Filled s 1 (at + 3) end in
+    let none : P None = λ q. let z : ◌≡◌ {A = ℕ} 0 1 = cc in absurd (omega arith) in
     each-dgi P (dgi_at s at end) none λ number contents d. each P (list_wrong s contents end) (λ _. none) λ e _.
     dgi-filled s at end number contents d e

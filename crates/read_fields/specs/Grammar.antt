@@ -1,14 +1,13 @@
 -- Document 01, 'Reading a command', from the writer's side: the bytes of each data field as its table has them, for every legal value.
 -- Reading a window that holds such bytes gives the value back, and whatever is read is so encoded; an AID counts by its bytes.
-use Rattle.std.specs.Prelude.{ℕ, ◌+◌, ◌/◌, ◌%◌, ◌≤◌, ◌<◌, ◌≡◌, List, [], ◌∷◌, ◌++◌, Bool, true, false, length}
+use Rattle.std.specs.Prelude.{ℕ, ◌+◌, ◌/◌, ◌%◌, ◌≤◌, ◌<◌, ◌≡◌, List, [], ◌∷◌, ◌++◌, Bool, true, false, length, Some, None}
 use Rattle.std.proofs.Math.Option.{Option, none, some}
 use Rattle.base_bytes.specs.Bytes.{part_of}
 use Rattle.read_tlv.specs.Filled.{Filled}
 use Rattle.read_tlv.specs.Encoding.{window, Bytes, encode_number, encode_tag, encode_element}
 use Rattle.read_fields.specs.declared.request.Request.{Request}
 use Rattle.read_fields.specs.declared.request.Request.TheVariants as request
-use Rattle.read_fields.specs.declared.request.Field.{Field}
-use Rattle.read_fields.specs.declared.request.Field.TheVariants as field
+use Rattle.read_fields.specs.Found.{Field}
 use Rattle.read_fields.specs.StoreData.{store_data_at}
 use Rattle.read_fields.specs.Delete.{deletion_at}
 use Rattle.read_fields.specs.GetStatus.{listing_at}
@@ -55,13 +54,13 @@ wanted_of s (request.SetFallBack part) = store_data (set_fall_back (part_of s pa
 wanted_of s (request.Confirm number) = store_data (confirmation number)
 wanted_of s (request.Delete part) = deletion (delete (part_of s part))
 wanted_of s (request.MasterDelete part) = deletion (master_delete (part_of s part))
-wanted_of s (request.GetStatusOfAll next life fall_back) = get_status (inquiry next [] life fall_back)
-wanted_of s (request.GetStatusOfOne part life fall_back) = get_status (inquiry false (part_of s part) life fall_back)
+wanted_of s (request.GetStatusOfAll next tags) = get_status (inquiry next [] tags.life tags.fall_back)
+wanted_of s (request.GetStatusOfOne part tags) = get_status (inquiry false (part_of s part) tags.life tags.fall_back)
 wanted_of s request.GetData = get_data
 
 abbrev pub found_as : List ℕ → Field → Option Wanted
-found_as s (field.Found r) = some (wanted_of s r)
-found_as s field.Wrong = none
+found_as s (Some r) = some (wanted_of s r)
+found_as s None = none
 
 -- what was read is a value of its kind, and the window holds the bytes of that
 pub record ReadFrom {Kind : Type 0} (means : Kind → Wanted) (Encoded : Kind → List ℕ → Type 0) (s : List ℕ) (at end : ℕ) (w : Wanted) : Type 0 where
@@ -99,7 +98,7 @@ StoreDataWritten = (s : List ℕ) (at end : ℕ) (w : Wanted) → Bytes s → fo
 
 -- what is accepted is, after its DGI, a list of elements
 abbrev pub StoreDataFilled : Type 0
-StoreDataFilled = (s : List ℕ) (at end : ℕ) (r : Request) → field.Found r ≡ store_data_at s at end → Filled s 1 (at + 3) end
+StoreDataFilled = (s : List ℕ) (at end : ℕ) (r : Request) → Some r ≡ store_data_at s at end → Filled s 1 (at + 3) end
 
 -- ---- DELETE
 
@@ -148,7 +147,7 @@ DeletionWritten = (s : List ℕ) (at end : ℕ) (w : Wanted) → Bytes s → fou
     → ReadFrom deletion EncodesDeleted s at end w
 
 abbrev pub DeletionFilled : Type 0
-DeletionFilled = (s : List ℕ) (at end : ℕ) (r : Request) → field.Found r ≡ deletion_at s at end → Filled s 1 at end
+DeletionFilled = (s : List ℕ) (at end : ℕ) (r : Request) → Some r ≡ deletion_at s at end → Filled s 1 at end
 
 -- ---- GET STATUS
 
@@ -224,4 +223,4 @@ ListingWritten = (next : Bool) (s : List ℕ) (at end : ℕ) (w : Wanted) → By
     → ReadFrom get_status (EncodesNext next) s at end w
 
 abbrev pub ListingFilled : Type 0
-ListingFilled = (next : Bool) (s : List ℕ) (at end : ℕ) (r : Request) → field.Found r ≡ listing_at next s at end → Filled s 1 at end
+ListingFilled = (next : Bool) (s : List ℕ) (at end : ℕ) (r : Request) → Some r ≡ listing_at next s at end → Filled s 1 at end

@@ -1,4 +1,5 @@
 -- Document 01, 'Reading a command': the data fields of STORE DATA, DELETE and GET STATUS.
+pub mod Found
 pub mod StoreData
 pub mod Delete
 pub mod GetStatus

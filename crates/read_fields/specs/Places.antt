@@ -1,11 +1,10 @@
 -- Document 01, 'Sizes': what is promised of an accepted request: "AID 5 to 16 bytes", standing in the command, and
 -- "quota 1 byte up to capacity".
-use Rattle.std.specs.Prelude.{ℕ, ◌+◌, ◌≤◌, List, length}
+use Rattle.std.specs.Prelude.{ℕ, ◌+◌, ◌≤◌, List, length, Some, None}
 use Rattle.base_bytes.specs.declared.Part.{Part}
 use Rattle.read_fields.specs.declared.request.Request.{Request}
 use Rattle.read_fields.specs.declared.request.Request.TheVariants as request
-use Rattle.read_fields.specs.declared.request.Field.{Field}
-use Rattle.read_fields.specs.declared.request.Field.TheVariants as field
+use Rattle.read_fields.specs.Found.{Field}
 
 pub record Placed (s : List ℕ) (aid : Part) : Type 0 where
   pub held : aid.start + aid.len ≤ length s
@@ -24,10 +23,10 @@ RequestIn s capacity (request.SetFallBack aid) = Placed s aid
 RequestIn s capacity (request.Delete aid) = Placed s aid
 RequestIn s capacity (request.MasterDelete aid) = Placed s aid
 RequestIn s capacity (request.Confirm number) = Unit
-RequestIn s capacity (request.GetStatusOfAll next life fall_back) = Unit
-RequestIn s capacity (request.GetStatusOfOne aid life fall_back) = Placed s aid
+RequestIn s capacity (request.GetStatusOfAll next tags) = Unit
+RequestIn s capacity (request.GetStatusOfOne aid tags) = Placed s aid
 RequestIn s capacity request.GetData = Unit
 
 abbrev pub FieldIn : List ℕ → ℕ → Field → Type 0
-FieldIn s capacity field.Wrong = Unit
-FieldIn s capacity (field.Found r) = RequestIn s capacity r
+FieldIn s capacity None = Unit
+FieldIn s capacity (Some r) = RequestIn s capacity r

@@ -1,51 +1,53 @@
 // The data fields of STORE DATA, DELETE and GET STATUS. Every function reads a window of the whole command, from `at` up to `end`;
 // one that does not lie in it is wrong. A data field is first read as a list of elements, then in the table's order; an AID is handed on
 // as its place in the command.
-#![tactic(auto)]
+#![tactic(auto, unfolding(crate::proofs::Opened::readers))]
 
 mod request;
 
-ghost use Rattle.std.specs.Prelude.{◌≡◌, ℕ, ◌+◌, ◌≤◌, ◌<◌, length};
+ghost use Rattle.std.specs.Prelude.{◌≡◌, is_some};
 ghost use Rattle.read_fields.specs.StoreData.{dgi_at, confirmation_at, store_data_at};
 ghost use Rattle.read_fields.specs.Delete.{verification_at, deletion_at};
 ghost use Rattle.read_fields.specs.GetStatus.{tag_noted, listed_at, tags_at, listing_at};
 
-use base_bytes::{Part, read_pair};
-use read_elements::{last_element, next_element};
-use read_tlv::{Element, TagRead, list_wrong, read_tag};
-pub use request::{Field, Request};
+use base_bytes::read_pair;
+use read_elements::Reader;
+use read_tlv::read_tag;
+pub use request::{Request, Tags};
 
 // A DGI that fills the window: its number, and where its contents start.
 #[derive(Clone, Copy)]
-pub enum Dgi {
-    Found { dgi: u16, start: usize },
-    Wrong,
+pub struct Dgi {
+    pub number: u16,
+    pub start: usize,
 }
 
-pub fn read_dgi(s: &[u8], at: usize, end: usize) -> Dgi
-    ensures { result ≡ dgi_at s.now at end }
+pub fn read_dgi(field: Reader<'_>) -> Option<Dgi>
+    ensures { result ≡ dgi_at field.entry.bytes.now field.entry.at field.entry.end }
 {
-    if s.len() < end {
-        return Dgi::Wrong;
+    if field.bytes.len() < field.end {
+        return None;
     }
-    if end < at {
-        return Dgi::Wrong;
+    if field.end < field.at {
+        return None;
     }
-    let room = end - at;
+    let room = field.end - field.at;
     if room < 3 {
-        return Dgi::Wrong;
+        return None;
     }
-    let place = at + 2;
-    let count = s[place] as usize;
+    let place = field.at + 2;
+    let count = field.bytes[place] as usize;
     if 0xFE < count {
-        return Dgi::Wrong;
+        return None;
     }
-    let start = at + 3;
-    if end - start != count {
-        return Dgi::Wrong;
+    let start = field.at + 3;
+    if field.end - start != count {
+        return None;
     }
-    let dgi = read_pair(s, at);
-    Dgi::Found { dgi, start }
+    Some(Dgi {
+        number: read_pair(field.bytes, field.at),
+        start,
+    })
 }
 
 const ENABLE: u16 = 0x3A03;
@@ -56,221 +58,131 @@ const SET_FALL_BACK: u16 = 0x3A05;
 
 const CONFIRMATION: u16 = 0x3A08;
 
-fn read_confirmation(s: &[u8], at: usize, end: usize) -> Field
-    ensures { result ≡ confirmation_at s.now at end }
+fn read_confirmation(contents: Reader<'_>) -> Option<Request>
+    ensures { result ≡ confirmation_at contents.entry.bytes.now contents.entry.at contents.entry.end }
 {
-    let Element::Found { start, stop: _ } = last_element(s, at, end, 0x4E, 2, 2) else {
-        return Field::Wrong;
-    };
-    let number = read_pair(s, start);
-    Field::Found(Request::Confirm(number))
+    let number = contents.last(0x4E, 2, 2)?;
+    Some(Request::Confirm(read_pair(contents.bytes, number.start)))
 }
 
-pub fn read_store_data(s: &[u8], at: usize, end: usize) -> Field
-    ensures { result ≡ store_data_at s.now at end }
+pub fn read_store_data(field: Reader<'_>) -> Option<Request>
+    ensures { result ≡ store_data_at field.entry.bytes.now field.entry.at field.entry.end }
 {
-    let Dgi::Found {
-        dgi,
-        start: contents,
-    } = read_dgi(s, at, end)
-    else {
-        return Field::Wrong;
+    let dgi = read_dgi(field)?;
+    let contents = Reader {
+        at: dgi.start,
+        ..field
     };
-    if list_wrong(s, contents, end) {
-        return Field::Wrong;
+    if contents.list_wrong() {
+        return None;
     }
-    if dgi == CONFIRMATION {
-        return read_confirmation(s, contents, end);
+    if dgi.number == CONFIRMATION {
+        return read_confirmation(contents);
     }
-    let Element::Found { start, stop } = last_element(s, contents, end, 0x4F, 5, 16) else {
-        return Field::Wrong;
-    };
-    let len = stop - start;
-    let aid = Part { start, len };
-    if dgi == ENABLE {
-        return Field::Found(Request::Enable(aid));
+    let aid = contents.last(0x4F, 5, 16)?.part();
+    match dgi.number {
+        ENABLE => Some(Request::Enable(aid)),
+        DISABLE => Some(Request::Disable(aid)),
+        SET_FALL_BACK => Some(Request::SetFallBack(aid)),
+        _ => None,
     }
-    if dgi == DISABLE {
-        return Field::Found(Request::Disable(aid));
-    }
-    if dgi == SET_FALL_BACK {
-        return Field::Found(Request::SetFallBack(aid));
-    }
-    Field::Wrong
 }
 
-#[derive(Clone, Copy)]
-pub enum Verification {
-    Filled,
-    Wrong,
-}
-
-// What B6 holds in a master delete: 42, 45, 5F20 and 93.
-fn read_verification(s: &[u8], at: usize, end: usize) -> Verification
-    ensures { result ≡ verification_at s.now at end }
+// Is what B6 holds in a master delete right: 42, 45, 5F20 and 93?
+fn read_verification(mut value: Reader<'_>) -> Option<()>
+    ensures { is_some result ≡ verification_at value.entry.bytes.now value.entry.at value.entry.end }
 {
-    let Element::Found {
-        start: _,
-        stop: first,
-    } = next_element(s, at, end, 0x42, 1, 255)
-    else {
-        return Verification::Wrong;
-    };
-    let Element::Found {
-        start: _,
-        stop: second,
-    } = next_element(s, first, end, 0x45, 1, 255)
-    else {
-        return Verification::Wrong;
-    };
-    let Element::Found {
-        start: _,
-        stop: third,
-    } = next_element(s, second, end, 0x5F20, 1, 255)
-    else {
-        return Verification::Wrong;
-    };
-    let Element::Found { start: _, stop: _ } = last_element(s, third, end, 0x93, 1, 255) else {
-        return Verification::Wrong;
-    };
-    Verification::Filled
+    value.next(0x42, 1, 255)?;
+    value.next(0x45, 1, 255)?;
+    value.next(0x5F20, 1, 255)?;
+    value.last(0x93, 1, 255)?;
+    Some(())
 }
 
 // Delete has the AID alone; a master delete goes on with B6 and the token.
-pub fn read_deletion(s: &[u8], at: usize, end: usize) -> Field
-    ensures { result ≡ deletion_at s.now at end }
+pub fn read_deletion(mut field: Reader<'_>) -> Option<Request>
+    ensures { result ≡ deletion_at field.entry.bytes.now field.entry.at field.entry.end }
 {
-    if list_wrong(s, at, end) {
-        return Field::Wrong;
+    if field.list_wrong() {
+        return None;
     }
-    let Element::Found { start, stop } = next_element(s, at, end, 0x4F, 5, 16) else {
-        return Field::Wrong;
-    };
-    let len = stop - start;
-    let aid = Part { start, len };
-    if stop == end {
-        return Field::Found(Request::Delete(aid));
+    let aid = field.next(0x4F, 5, 16)?.part();
+    if field.at_end() {
+        return Some(Request::Delete(aid));
     }
-    let Element::Found {
-        start: from,
-        stop: to,
-    } = next_element(s, stop, end, 0xB6, 0, 255)
-    else {
-        return Field::Wrong;
-    };
-    let Verification::Filled = read_verification(s, from, to) else {
-        return Field::Wrong;
-    };
-    let Element::Found { start: _, stop: _ } = last_element(s, to, end, 0x9E, 1, 255) else {
-        return Field::Wrong;
-    };
-    Field::Found(Request::MasterDelete(aid))
+    let verification = field.next(0xB6, 0, 255)?;
+    read_verification(field.inside(verification))?;
+    field.last(0x9E, 1, 255)?;
+    Some(Request::MasterDelete(aid))
 }
 
-// Which of the two optional tags a row of the answer shows.
-#[derive(Clone, Copy)]
-pub enum Tags {
-    Shown { life: bool, fall_back: bool },
-    Wrong,
-}
-
-fn tag_noted(tag: u16, life: bool, fall_back: bool) -> Tags
-    ensures { result ≡ tag_noted tag life fall_back }
+fn tag_noted(tag: u16, tags: Tags) -> Option<Tags>
+    ensures { result ≡ tag_noted tag tags.life tags.fall_back }
 {
     if tag == 0x4F {
-        return Tags::Shown { life, fall_back };
+        return Some(tags);
     }
     if tag == 0x9F70 {
-        return Tags::Shown {
-            life: true,
-            fall_back,
-        };
+        return Some(Tags { life: true, ..tags });
     }
     if tag == 0x53 {
-        return Tags::Shown {
-            life,
+        return Some(Tags {
             fall_back: true,
-        };
+            ..tags
+        });
     }
-    Tags::Wrong
+    None
 }
 
-fn read_listed(s: &[u8], at: usize, end: usize) -> Tags
-    ensures { result ≡ listed_at s.now at end }
+fn read_listed(mut list: Reader<'_>) -> Option<Tags>
+    ensures { result ≡ listed_at list.entry.bytes.now list.entry.at list.entry.end }
 {
-    let mut from = at;
-    let mut life = false;
-    let mut fall_back = false;
-    while from < end {
-        let TagRead::Tag {
-            tag,
-            constructed: _,
-            next,
-        } = read_tag(s, from, end)
-        else {
-            return Tags::Wrong;
-        };
-        let Tags::Shown {
-            life: l,
-            fall_back: f,
-        } = tag_noted(tag, life, fall_back)
-        else {
-            return Tags::Wrong;
-        };
-        life = l;
-        fall_back = f;
-        from = next;
+    let mut tags = Tags {
+        life: false,
+        fall_back: false,
+    };
+    while list.at < list.end {
+        let tag = read_tag(list.bytes, list.at, list.end)?;
+        tags = tag_noted(tag.tag, tags)?;
+        list.at = tag.next;
     }
-    Tags::Shown { life, fall_back }
+    Some(tags)
 }
 
 // With no 5C both optional tags are shown.
-fn read_tags(s: &[u8], at: usize, end: usize) -> Tags
-    ensures { result ≡ tags_at s.now at end }
+fn read_tags(rest: Reader<'_>) -> Option<Tags>
+    ensures { result ≡ tags_at rest.entry.bytes.now rest.entry.at rest.entry.end }
 {
-    if at == end {
-        return Tags::Shown {
+    if rest.at_end() {
+        return Some(Tags {
             life: true,
             fall_back: true,
-        };
+        });
     }
-    let Element::Found { start, stop } = last_element(s, at, end, 0x5C, 0, 255) else {
-        return Tags::Wrong;
-    };
-    read_listed(s, start, stop)
+    let list = rest.last(0x5C, 0, 255)?;
+    read_listed(rest.inside(list))
 }
 
 // `next`: a listing that goes on from the kept place, which names no AID.
-pub fn read_listing(next: bool, s: &[u8], at: usize, end: usize) -> Field
-    ensures { result ≡ listing_at next s.now at end }
+pub fn read_listing(next: bool, mut field: Reader<'_>) -> Option<Request>
+    ensures { result ≡ listing_at next field.entry.bytes.now field.entry.at field.entry.end }
 {
-    if list_wrong(s, at, end) {
-        return Field::Wrong;
+    if field.list_wrong() {
+        return None;
     }
-    let Element::Found { start, stop } = next_element(s, at, end, 0x4F, 0, 16) else {
-        return Field::Wrong;
-    };
-    let Tags::Shown { life, fall_back } = read_tags(s, stop, end) else {
-        return Field::Wrong;
-    };
-    let len = stop - start;
-    if len == 0 {
-        return Field::Found(Request::GetStatusOfAll {
-            next,
-            life,
-            fall_back,
-        });
+    let aid = field.next(0x4F, 0, 16)?;
+    let tags = read_tags(field)?;
+    if aid.len() == 0 {
+        return Some(Request::GetStatusOfAll { next, tags });
     }
     if next {
-        return Field::Wrong;
+        return None;
     }
-    if len < 5 {
-        return Field::Wrong;
+    if aid.len() < 5 {
+        return None;
     }
-    let aid = Part { start, len };
-    Field::Found(Request::GetStatusOfOne {
-        aid,
-        life,
-        fall_back,
+    Some(Request::GetStatusOfOne {
+        aid: aid.part(),
+        tags,
     })
 }

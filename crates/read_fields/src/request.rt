@@ -3,10 +3,7 @@ use base_bytes::Part;
 
 #[derive(Clone, Copy)]
 pub enum Request {
-    Create {
-        aid: Part,
-        quota: u32,
-    },
+    Create { aid: Part, quota: u32 },
     Enable(Part),
     Disable(Part),
     SetFallBack(Part),
@@ -15,22 +12,14 @@ pub enum Request {
     Confirm(u16),
     // The rows of all profiles, and of the one named: with which of the two optional tags. Only a listing of all comes in parts, so only it can go
     // on from the kept place.
-    GetStatusOfAll {
-        next: bool,
-        life: bool,
-        fall_back: bool,
-    },
-    GetStatusOfOne {
-        aid: Part,
-        life: bool,
-        fall_back: bool,
-    },
+    GetStatusOfAll { next: bool, tags: Tags },
+    GetStatusOfOne { aid: Part, tags: Tags },
     GetData,
 }
 
-// What is read of a data field.
+// Which of the two optional tags a row of the answer shows.
 #[derive(Clone, Copy)]
-pub enum Field {
-    Found(Request),
-    Wrong,
+pub struct Tags {
+    pub life: bool,
+    pub fall_back: bool,
 }

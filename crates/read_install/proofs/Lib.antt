@@ -1,4 +1,5 @@
 -- Laws about create's data field.
+pub mod Opened
 pub mod Inside
 pub mod Listing
 pub mod Numbers

@@ -1,11 +1,13 @@
 -- Create's data field: an encoded field is read back. The window that holds the encoding is cut into the encodings of its parts, each of
 -- which its reader finds there; the tests on their numbers of bytes are what the encoding promises.
 use Prim.Native.Nat.{ℕ, zero, suc, ◌+◌, ◌-◌, ◌≤◌}
+use mathlib.Core.Bool.{true}
+use Rattle.std.specs.Prelude.{Some}
 use mathlib.Core.Path.{◌≡◌, refl, sym, ap, ◌∙◌}
 use mathlib.Core.List.{List, [], ◌∷◌, ◌++◌, append_assoc, append-nil}
 use native.Mathlib.Omega.{arith}
 use lib.ListN.{length, length-append}
-use Rattle.read_tlv.specs.declared.Element.TheVariants as element
+use Rattle.read_tlv.specs.Tlv.{element_read}
 use Rattle.read_tlv.specs.Encoding.{window, encode_length, encode_element}
 use Rattle.base_choice.proofs.Branches.{no!, le!, nle!, nlt!, eq!, ne! }
 use Rattle.read_tlv.proofs.Inside.{expect-inside}
@@ -15,8 +17,6 @@ use Rattle.read_tlv.specs.Grammar.{one}
 use Rattle.read_tlv.proofs.Fills.{filled-right, first-level, second-level}
 use Rattle.read_tlv.proofs.ReadBack.{length_back, element-back}
 use Rattle.read_elements.proofs.Alone.{alone-back}
-use Rattle.read_install.specs.declared.Protocols.TheVariants as protocols
-use Rattle.read_install.specs.declared.Quota.TheVariants as quota
 use Rattle.read_install.specs.Parameters.{protocols_within, protocols_at, number_at, grant_of, memory_at, parameters_at}
 use Rattle.read_install.specs.Install.{prefixed_of, prefixed_at, names_at, rights_at, install_of}
 use Rattle.read_install.specs.Grammar.{Free, encode_prefixed, encode_protocols, encode_parameters, encode_names, encode_rights, encode_install, high_first, Sized, OrTwoMore, AllPairs, LegalParameters, InstallBack}
@@ -32,7 +32,7 @@ module _ (s : List ℕ) (at end : ℕ) (ordered : at ≤ end) (held : end ≤ le
   pub record PrefixedBack : Type 0 where
     pub start : ℕ
     pub stop : ℕ
-    pub found : element.Found start stop ≡ prefixed_at s at end low high
+    pub found : element_read start stop ≡ prefixed_at s at end low high
     pub long : stop ≡ start + length v
     pub past : at ≤ start
     pub within : stop ≤ end
@@ -59,7 +59,7 @@ module _ (s : List ℕ) (at end : ℕ) (ordered : at ≤ end) (held : end ≤ le
 -- ---- 81, n occurrences
 
 protocols-back-within : (n : ℕ) (s : List ℕ) (at end : ℕ) (values : List (List ℕ)) → end - at ≤ n → at ≤ end → end ≤ length s
-    → AllPairs values → window s at end ≡ encode_protocols values → protocols.Listed ≡ protocols_within n s at end
+    → AllPairs values → window s at end ≡ encode_protocols values → true ≡ protocols_within n s at end
 unfolding protocols_within encode_protocols
 protocols-back-within zero s at end values h o l p q = refl
 protocols-back-within (suc n) s at end [] h o l p q = let e = nothing_left s at end o l q in le! _ (omega arith) refl
@@ -70,7 +70,7 @@ protocols-back-within (suc n) s at end (v ∷ values) h o l p q =
     nle! _ (omega arith) (rw (← b.found) (protocols-back-within n s b.stop end values (omega arith) (omega arith) l p.1 b.after))
 
 protocols-back : (s : List ℕ) (at end : ℕ) (values : List (List ℕ)) → at ≤ end → end ≤ length s → AllPairs values
-    → window s at end ≡ encode_protocols values → protocols.Listed ≡ protocols_at s at end
+    → window s at end ≡ encode_protocols values → true ≡ protocols_at s at end
 unfolding protocols_at
 protocols-back s at end values o l p q = protocols-back-within (end - at) s at end values (omega arith) o l p q
 
@@ -78,7 +78,7 @@ protocols-back s at end values o l p q = protocols-back-within (end - at) s at e
 
 memory-back : (s : List ℕ) (at end capacity number : ℕ) (memory : List ℕ) → at ≤ end → end ≤ length s → OrTwoMore 2 memory
     → number ≡ high_first 0 memory → 1 ≤ number → number ≤ capacity → window s at end ≡ encode_element 0x83 memory
-    → (quota.Granted number ≡ memory_at s at end capacity) × Filled s 2 at end
+    → (Some number ≡ memory_at s at end capacity) × Filled s 2 at end
 unfolding memory_at grant_of
 memory-back s at end capacity number memory o l c n g f q =
     let least = c.least in let most = c.most in let not = c.not_between in
@@ -99,7 +99,7 @@ unfolding encode_element
 held-length t v before = simp length-append (omega arith)
 
 parameters-back : (s : List ℕ) (at end capacity number : ℕ) (free : Free) → at ≤ end → end ≤ length s → LegalParameters capacity number free
-    → length (encode_parameters free) ≤ 255 → window s at end ≡ encode_parameters free → quota.Granted number ≡ parameters_at s at end capacity
+    → length (encode_parameters free) ≤ 255 → window s at end ≡ encode_parameters free → Some number ≡ parameters_at s at end capacity
 unfolding encode_parameters parameters_at
 parameters-back s at end capacity number free o l p h q =
     let m : length (encode_element 0x83 free.memory) ≤ length (encode_parameters free) = held-length 0xEF (encode_element 0x83 free.memory) (encode_element 0xC9 (encode_protocols free.protocols)) in
@@ -119,7 +119,7 @@ module _ (s : List ℕ) (at end : ℕ) (ordered : at ≤ end) (held : end ≤ le
   pub record NamesBack (aid rest : List ℕ) : Type 0 where
     pub start : ℕ
     pub stop : ℕ
-    pub found : element.Found start stop ≡ names_at s at end
+    pub found : element_read start stop ≡ names_at s at end
     pub reached : start ≤ stop
     pub within : stop ≤ end
     pub value : window s start stop ≡ aid
@@ -149,7 +149,7 @@ module _ (s : List ℕ) (at end : ℕ) (ordered : at ≤ end) (held : end ≤ le
   pub record RightsBack (parameters : List ℕ) : Type 0 where
     pub from : ℕ
     pub to : ℕ
-    pub found : element.Found from to ≡ rights_at s at end
+    pub found : element_read from to ≡ rights_at s at end
     pub reached : from ≤ to
     pub within : to ≤ end
     pub value : window s from to ≡ parameters

@@ -6,13 +6,15 @@ use mathlib.Core.List.{List, [], ◌∷◌, ◌++◌}
 use mathlib.Core.Option.{some}
 use native.Mathlib.Omega.{arith}
 use lib.ListN.{length}
+use Rattle.std.specs.Prelude.{Option, Some, None}
+use Rattle.read_tlv.proofs.Parts.{element-start, element-stop}
+use mathlib.Core.Bool.{Bool, true, false}
 use Rattle.base_bytes.specs.Bytes.{between, part_of}
-use Rattle.read_tlv.specs.Tlv.{expect_at}
+use Rattle.read_tlv.specs.Tlv.{element_read, expect_at}
 use Rattle.read_tlv.specs.Lists.{list_wrong}
 use Rattle.read_elements.specs.Reader.{alone_at}
 use Rattle.read_elements.proofs.Alone.{alone-expected, alone-written}
 use Rattle.read_tlv.specs.declared.Element.{Element}
-use Rattle.read_tlv.specs.declared.Element.TheVariants as element
 use Rattle.read_tlv.specs.Encoding.{window, Bytes, encode_length, encode_element}
 use Rattle.base_choice.proofs.Branches.{each, each-le, each-lt, each-eq}
 use Rattle.read_tlv.proofs.Inside.{expect-parts}
@@ -21,22 +23,18 @@ use Rattle.read_tlv.proofs.Written.{length-written, element-written}
 use Rattle.read_tlv.specs.Filled.{Filled}
 use Rattle.read_tlv.proofs.Fills.{right-filled}
 use Rattle.read_fields.specs.Grammar.{Created, Wanted, create, found_as, ReadFrom}
-use Rattle.read_fields.specs.declared.request.Field.{Field}
-use Rattle.read_fields.specs.declared.request.Field.TheVariants as field
+use Rattle.read_fields.specs.Found.{Field}
 use Rattle.read_fields.proofs.Cases.{same-value}
-use Rattle.read_install.specs.declared.Protocols.{Protocols}
-use Rattle.read_install.specs.declared.Protocols.TheVariants as protocols
-use Rattle.read_install.specs.declared.Quota.{Quota}
-use Rattle.read_install.specs.declared.Quota.TheVariants as quota
 use Rattle.read_install.specs.Parameters.{protocols_within, protocols_at, number_at, grant_of, memory_at, parameters_at}
 use Rattle.read_install.specs.Install.{prefixed_at, names_at, rights_at, install_of}
 use Rattle.read_install.specs.Grammar.{Free, encode_prefixed, encode_protocols, encode_parameters, encode_names, encode_rights, encode_install, high_first, Sized, OrTwoMore, AllPairs, EncodesInstall, EncodesCreated, InstallWritten, ParametersFilled}
-use Rattle.read_install.proofs.Inside.{prefixed-parts, each-found, each-granted, each-listed}
+use Rattle.read_tlv.proofs.Branches.{each-found}
+use Rattle.read_install.proofs.Inside.{prefixed-parts, each-granted, each-listed}
 use Rattle.read_install.proofs.Numbers.{number-first}
 
 -- ---- a field after its length
 
-module _ (s : List ℕ) (at end low high start stop : ℕ) (q : element.Found start stop ≡ prefixed_at s at end low high) where
+module _ (s : List ℕ) (at end low high start stop : ℕ) (q : element_read start stop ≡ prefixed_at s at end low high) where
   pub prefixed-written : window s at stop ≡ encode_prefixed (window s start stop)
   unfolding encode_prefixed
   prefixed-written =
@@ -63,12 +61,12 @@ unfolding encode_protocols
 no-protocols s at end h i = let e : at ≡ end = omega arith in record { values = []; pairs = tt; written = ap (λ (n : ℕ). window s n end) e ∙ window-none s end }
 
 protocols-within : (n : ℕ) (s : List ℕ) (at end : ℕ) → Bytes s → end - at ≤ n → at ≤ end → end ≤ length s
-    → protocols.Listed ≡ protocols_within n s at end → ProtocolsWritten s at end
+    → true ≡ protocols_within n s at end → ProtocolsWritten s at end
 unfolding protocols_within encode_protocols
 protocols-within zero s at end b h o l = λ _. no-protocols s at end o (omega arith)
 protocols-within (suc n) s at end b h o l =
-    let P : Protocols → Type 0 = λ z. protocols.Listed ≡ z → ProtocolsWritten s at end in
-    let none : P protocols.Wrong = λ q. let z : ◌≡◌ {A = ℕ} 0 1 = cc in absurd (omega arith) in
+    let P : Bool → Type 0 = λ z. true ≡ z → ProtocolsWritten s at end in
+    let none : P false = λ q. let z : ◌≡◌ {A = ℕ} 0 1 = cc in absurd (omega arith) in
     each-le P (λ i _. no-protocols s at end o i) (λ i. each-found P (expect_at s at end 0x81 2 2) none (λ k e f q.
     let x = expect-parts s at end 0x81 2 2 k e f in let j = x.inside in let y = x.least in let z = x.most in
     let r = protocols-within n s e end b (omega arith) (omega arith) l q in
@@ -80,7 +78,7 @@ protocols-within (suc n) s at end b h o l =
           ∙ ap (λ (u : List ℕ). encode_element 0x81 (window s k e) ++ u) r.written;
     }))
 
-protocols-written : (s : List ℕ) (at end : ℕ) → Bytes s → at ≤ end → end ≤ length s → protocols.Listed ≡ protocols_at s at end → ProtocolsWritten s at end
+protocols-written : (s : List ℕ) (at end : ℕ) → Bytes s → at ≤ end → end ≤ length s → true ≡ protocols_at s at end → ProtocolsWritten s at end
 unfolding protocols_at
 protocols-written s at end b o l q = protocols-within (end - at) s at end b (omega arith) o l q
 
@@ -94,11 +92,11 @@ pub record MemoryWritten (s : List ℕ) (at end capacity number : ℕ) : Type 0 
   pub fits : number ≤ capacity
   pub written : window s at end ≡ encode_element 0x83 memory
 
-memory-written : (s : List ℕ) (at end capacity number : ℕ) → Bytes s → quota.Granted number ≡ memory_at s at end capacity → MemoryWritten s at end capacity number
+memory-written : (s : List ℕ) (at end capacity number : ℕ) → Bytes s → Some number ≡ memory_at s at end capacity → MemoryWritten s at end capacity number
 unfolding memory_at grant_of
 memory-written s at end capacity number b =
-    let P : Quota → Type 0 = λ z. quota.Granted number ≡ z → MemoryWritten s at end capacity number in
-    let none : P quota.Wrong = λ q. let z : ◌≡◌ {A = ℕ} 0 1 = cc in absurd (omega arith) in
+    let P : Option ℕ → Type 0 = λ z. Some number ≡ z → MemoryWritten s at end capacity number in
+    let none : P None = λ q. let z : ◌≡◌ {A = ℕ} 0 1 = cc in absurd (omega arith) in
     each-found P (alone_at s at end 0x83 2 4) none λ k e f. each-eq P (λ _. none) (λ t. each-eq P (λ _. none) (λ u. each-lt P (λ _. none) (λ v q.
     let x = alone-expected s at end 0x83 2 4 k e f in let j = x.inside in let y = x.least in let z = x.most in
     let m : number ≡ number_at s k (e - k) = cc in
@@ -126,11 +124,11 @@ module _ (s : List ℕ) (at end capacity number : ℕ) where
     pub fits : number ≤ capacity
     pub written : window s at end ≡ encode_element 0xC9 (encode_protocols values) ++ encode_element 0xEF (encode_element 0x83 memory)
 
-  parameters-written : Bytes s → quota.Granted number ≡ parameters_at s at end capacity → ParametersWritten
+  parameters-written : Bytes s → Some number ≡ parameters_at s at end capacity → ParametersWritten
   unfolding parameters_at
   parameters-written b =
-      let P : Quota → Type 0 = λ z. quota.Granted number ≡ z → ParametersWritten in
-      let none : P quota.Wrong = λ q. let z : ◌≡◌ {A = ℕ} 0 1 = cc in absurd (omega arith) in
+      let P : Option ℕ → Type 0 = λ z. Some number ≡ z → ParametersWritten in
+      let none : P None = λ q. let z : ◌≡◌ {A = ℕ} 0 1 = cc in absurd (omega arith) in
       each P (list_wrong s at end) (λ _. none) λ _.
       each-found P (expect_at s at end 0xC9 1 255) none λ k e c. each-listed P (protocols_at s k e) none λ l.
       each-found P (alone_at s e end 0xEF 0 255) none λ f t d q.
@@ -170,11 +168,11 @@ module _ (s : List ℕ) (at end start stop : ℕ) where
     pub held : end ≤ length s
     pub written : window s at stop ≡ encode_prefixed load_file ++ (encode_prefixed module_aid ++ encode_prefixed (window s start stop))
 
-  names-written : element.Found start stop ≡ names_at s at end → NamesWritten
+  names-written : element_read start stop ≡ names_at s at end → NamesWritten
   unfolding names_at
   names-written =
-      let P : Element → Type 0 = λ z. element.Found start stop ≡ z → NamesWritten in
-      let none : P element.Wrong = λ q. let z : ◌≡◌ {A = ℕ} 0 1 = cc in absurd (omega arith) in
+      let P : Option Element → Type 0 = λ z. element_read start stop ≡ z → NamesWritten in
+      let none : P None = λ q. let z : ◌≡◌ {A = ℕ} 0 1 = cc in absurd (omega arith) in
       each-found P (prefixed_at s at end 5 16) none λ k next c. each-found P (prefixed_at s next end 5 16) none λ l own d q.
       let i = (prefixed-parts s at end 5 16 k next c).inside in
       let j = (prefixed-parts s next end 5 16 l own d).inside in
@@ -210,14 +208,14 @@ module _ (s : List ℕ) (at end from to : ℕ) where
     pub ordered : at ≤ end
     pub written : window s at end ≡ encode_prefixed privileges ++ (encode_prefixed (window s from to) ++ encode_prefixed [])
 
-  rights-written : element.Found from to ≡ rights_at s at end → RightsWritten
+  rights-written : element_read from to ≡ rights_at s at end → RightsWritten
   unfolding rights_at
   rights-written =
-      let P : Element → Type 0 = λ z. element.Found from to ≡ z → RightsWritten in
-      let none : P element.Wrong = λ q. let z : ◌≡◌ {A = ℕ} 0 1 = cc in absurd (omega arith) in
+      let P : Option Element → Type 0 = λ z. element_read from to ≡ z → RightsWritten in
+      let none : P None = λ q. let z : ◌≡◌ {A = ℕ} 0 1 = cc in absurd (omega arith) in
       each-found P (prefixed_at s at end 1 3) none λ k e c. each-eq P (λ _. none) (λ t. each-found P (prefixed_at s e end 0 255) none λ f g d.
       each-found P (prefixed_at s g end 0 0) none λ h last u. each-eq P (λ v q.
-      let a₁ : f ≡ from = cc in let a₂ : g ≡ to = cc in
+      let a₁ : f ≡ from = sym (element-start q) in let a₂ : g ≡ to = sym (element-stop q) in
       let x = prefixed-parts s at end 1 3 k e c in let i = x.inside in
       let j = (prefixed-parts s e end 0 255 f g d).inside in
       let y = prefixed-parts s g end 0 0 h last u in let m = y.inside in let w = y.stops in let z = y.most in
@@ -276,7 +274,7 @@ unfolding install_of
 install-written s at end capacity w b =
     let Encoded : Wanted → Type 0 = λ z. ReadFrom create (EncodesCreated capacity) s at end z in
     let P : Field → Type 0 = λ z. found_as s z ≡ some w → Encoded w in
-    let none : P field.Wrong = λ q. let z : ◌≡◌ {A = ℕ} 0 1 = cc in absurd (omega arith) in
+    let none : P None = λ q. let z : ◌≡◌ {A = ℕ} 0 1 = cc in absurd (omega arith) in
     each-found P (names_at s at end) none λ start stop c. each-found P (rights_at s stop end) none λ from to d.
     each-granted P (parameters_at s from to capacity) none λ number g.
     let n = names-written s at end start stop c in
@@ -295,5 +293,5 @@ install-written s at end capacity w b =
 
 pub parameters-filled : ParametersFilled
 unfolding parameters_at
-parameters-filled s at end capacity number = each (λ (z : Quota). quota.Granted number ≡ z → Filled s 1 at end) (list_wrong s at end)
+parameters-filled s at end capacity number = each (λ (z : Option ℕ). Some number ≡ z → Filled s 1 at end) (list_wrong s at end)
     (λ _ q. let z : ◌≡◌ {A = ℕ} 0 1 = cc in absurd (omega arith)) (λ e _. right-filled s at end e)

@@ -1,11 +1,10 @@
 -- Document 01, 'Reading a command', 'Create', from the writer's side: the bytes of the INSTALL data field as Tables 9 and 10 of 000 have
 -- them. Reading a window that holds such bytes gives AID and quota back, and whatever is accepted is so encoded.
-use Rattle.std.specs.Prelude.{ℕ, ◌+◌, ◌*◌, ◌≤◌, ◌≡◌, List, [], ◌∷◌, ◌++◌, length}
+use Rattle.std.specs.Prelude.{Some, ℕ, ◌+◌, ◌*◌, ◌≤◌, ◌≡◌, List, [], ◌∷◌, ◌++◌, length}
 use Rattle.std.proofs.Math.Option.{some}
 use Rattle.read_tlv.specs.Encoding.{window, Bytes, encode_length, encode_element}
 use Rattle.read_tlv.specs.Filled.{Filled}
 use Rattle.read_fields.specs.Grammar.{Created, Wanted, create, found_as, ReadFrom}
-use Rattle.read_install.specs.declared.Quota.TheVariants as quota
 use Rattle.read_install.specs.Parameters.{parameters_at}
 use Rattle.read_install.specs.Install.{install_of}
 
@@ -95,4 +94,4 @@ InstallWritten = (s : List ℕ) (at end capacity : ℕ) (w : Wanted) → Bytes s
 
 -- accepted install parameters are a list of elements
 abbrev pub ParametersFilled : Type 0
-ParametersFilled = (s : List ℕ) (at end capacity number : ℕ) → quota.Granted number ≡ parameters_at s at end capacity → Filled s 1 at end
+ParametersFilled = (s : List ℕ) (at end capacity number : ℕ) → Some number ≡ parameters_at s at end capacity → Filled s 1 at end

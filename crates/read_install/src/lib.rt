@@ -1,34 +1,25 @@
 // Create's data field: GP's INSTALL, six fields each after its length, of which the ISD-P's AID and the quota are handed on.
-// Every function reads a window of the whole command, from `at` up to `end`; one that does not lie in it is wrong.
-#![tactic(auto)]
+// Every function reads a window of the whole command, which its reader holds; one that does not lie in the command is wrong.
+#![tactic(auto, unfolding(crate::proofs::Opened::readers))]
 
-ghost use Rattle.std.specs.Prelude.{◌≡◌, ◌+◌, ◌≤◌, length};
+ghost use Rattle.std.specs.Prelude.{◌≡◌, is_some, IfSome};
+ghost use Rattle.read_elements.specs.Reader.{moved};
 ghost use Rattle.read_install.specs.Parameters.{protocols_at, number_at, grant_of, memory_at, parameters_at};
 ghost use Rattle.read_install.specs.Install.{prefixed_at, names_at, rights_at, install_of};
 
-use base_bytes::{Part, read_four, read_pair};
-use read_elements::{last_element, next_element};
-use read_fields::{Field, Request};
-use read_tlv::{Element, LengthRead, list_wrong, read_length};
-
-#[derive(Clone, Copy)]
-enum Protocols {
-    Listed,
-    Wrong,
-}
+use base_bytes::{read_four, read_pair};
+use read_elements::Reader;
+use read_fields::Request;
+use read_tlv::{Element, read_length};
 
 // What C9 holds: 81 of two bytes, n times.
-fn read_protocols(s: &[u8], at: usize, end: usize) -> Protocols
-    ensures { result ≡ protocols_at s.now at end }
+fn read_protocols(mut value: Reader<'_>) -> Option<()>
+    ensures { is_some result ≡ protocols_at value.entry.bytes.now value.entry.at value.entry.end }
 {
-    let mut from = at;
-    while from < end {
-        let Element::Found { start: _, stop } = next_element(s, from, end, 0x81, 2, 2) else {
-            return Protocols::Wrong;
-        };
-        from = stop;
+    while value.at < value.end {
+        value.next(0x81, 2, 2)?;
     }
-    Protocols::Listed
+    Some(())
 }
 
 // A number of two bytes, or else of four.
@@ -41,155 +32,99 @@ fn read_number(s: &[u8], start: usize, count: usize) -> u32
     read_four(s, start)
 }
 
-#[derive(Clone, Copy)]
-enum Quota {
-    Granted(u32),
-    Wrong,
-}
-
-fn grant(number: u32, capacity: u32) -> Quota
+fn grant(number: u32, capacity: u32) -> Option<u32>
     ensures { result ≡ grant_of number capacity }
 {
     if number == 0 {
-        return Quota::Wrong;
+        return None;
     }
     if capacity < number {
-        return Quota::Wrong;
+        return None;
     }
-    Quota::Granted(number)
+    Some(number)
 }
 
 // What EF holds: one 83, of 2 or 4 bytes.
-fn read_memory(s: &[u8], at: usize, end: usize, capacity: u32) -> Quota
-    ensures { result ≡ memory_at s.now at end capacity }
+fn read_memory(value: Reader<'_>, capacity: u32) -> Option<u32>
+    ensures { result ≡ memory_at value.entry.bytes.now value.entry.at value.entry.end capacity }
 {
-    let Element::Found { start, stop } = last_element(s, at, end, 0x83, 2, 4) else {
-        return Quota::Wrong;
-    };
-    let count = stop - start;
-    if count == 3 {
-        return Quota::Wrong;
+    let memory = value.last(0x83, 2, 4)?;
+    if memory.len() == 3 {
+        return None;
     }
-    let number = read_number(s, start, count);
-    grant(number, capacity)
+    grant(
+        read_number(value.bytes, memory.start, memory.len()),
+        capacity,
+    )
 }
 
 // A list of elements: C9, then EF, and nothing after.
-fn read_parameters(s: &[u8], at: usize, end: usize, capacity: u32) -> Quota
-    ensures { result ≡ parameters_at s.now at end capacity }
+fn read_parameters(mut value: Reader<'_>, capacity: u32) -> Option<u32>
+    ensures { result ≡ parameters_at value.entry.bytes.now value.entry.at value.entry.end capacity }
 {
-    if list_wrong(s, at, end) {
-        return Quota::Wrong;
+    if value.list_wrong() {
+        return None;
     }
-    let Element::Found { start, stop } = next_element(s, at, end, 0xC9, 1, 255) else {
-        return Quota::Wrong;
-    };
-    let Protocols::Listed = read_protocols(s, start, stop) else {
-        return Quota::Wrong;
-    };
-    let Element::Found {
-        start: from,
-        stop: to,
-    } = last_element(s, stop, end, 0xEF, 0, 255)
-    else {
-        return Quota::Wrong;
-    };
-    read_memory(s, from, to, capacity)
+    let protocols = value.next(0xC9, 1, 255)?;
+    read_protocols(value.inside(protocols))?;
+    let memory = value.last(0xEF, 0, 255)?;
+    read_memory(value.inside(memory), capacity)
 }
 
-// A field after its length, of `low` to `high` bytes.
-fn read_prefixed(s: &[u8], at: usize, end: usize, low: usize, high: usize) -> Element
-    ensures { result ≡ prefixed_at s.now at end low high }
+// A field after its length, of `low` to `high` bytes; the reader moves past it, and stays where there is none.
+fn read_prefixed(field: &mut Reader<'_>, low: usize, high: usize) -> Option<Element>
+    ensures found { result ≡ prefixed_at field.old.bytes.now field.old.at field.old.end low high }
+    ensures moved { field.new ≡ moved field.old result }
 {
-    let LengthRead::Length { count, next } = read_length(s, at, end) else {
-        return Element::Wrong;
-    };
-    let room = end - next;
-    if room < count {
-        return Element::Wrong;
+    let length = read_length(field.bytes, field.at, field.end)?;
+    let room = field.end - length.next;
+    if room < length.count {
+        return None;
     }
-    if count < low {
-        return Element::Wrong;
+    if length.count < low {
+        return None;
     }
-    if high < count {
-        return Element::Wrong;
+    if high < length.count {
+        return None;
     }
-    let stop = next + count;
-    Element::Found { start: next, stop }
+    field.at = length.next + length.count;
+    Some(Element {
+        start: length.next,
+        stop: field.at,
+    })
 }
 
 // Load file AID, module AID and ISD-P AID: where the last stands.
-fn read_names(s: &[u8], at: usize, end: usize) -> Element
-    ensures { result ≡ names_at s.now at end }
+fn read_names(field: &mut Reader<'_>) -> Option<Element>
+    ensures found { result ≡ names_at field.old.bytes.now field.old.at field.old.end }
+    ensures moved { IfSome result (λ e. field.new ≡ record field.old { at = e.stop }) }
 {
-    let Element::Found {
-        start: _,
-        stop: next,
-    } = read_prefixed(s, at, end, 5, 16)
-    else {
-        return Element::Wrong;
-    };
-    let Element::Found {
-        start: _,
-        stop: own,
-    } = read_prefixed(s, next, end, 5, 16)
-    else {
-        return Element::Wrong;
-    };
-    read_prefixed(s, own, end, 5, 16)
+    read_prefixed(field, 5, 16)?;
+    read_prefixed(field, 5, 16)?;
+    read_prefixed(field, 5, 16)
 }
 
 // Privileges, install parameters and token, up to the end: where the parameters stand.
-fn read_rights(s: &[u8], at: usize, end: usize) -> Element
-    ensures { result ≡ rights_at s.now at end }
+fn read_rights(mut field: Reader<'_>) -> Option<Element>
+    ensures { result ≡ rights_at field.entry.bytes.now field.entry.at field.entry.end }
 {
-    let Element::Found { start, stop } = read_prefixed(s, at, end, 1, 3) else {
-        return Element::Wrong;
-    };
-    let count = stop - start;
-    if count == 2 {
-        return Element::Wrong;
+    let privileges = read_prefixed(&mut field, 1, 3)?;
+    if privileges.len() == 2 {
+        return None;
     }
-    let Element::Found {
-        start: from,
-        stop: to,
-    } = read_prefixed(s, stop, end, 0, 255)
-    else {
-        return Element::Wrong;
-    };
-    let Element::Found {
-        start: _,
-        stop: last,
-    } = read_prefixed(s, to, end, 0, 0)
-    else {
-        return Element::Wrong;
-    };
-    if last != end {
-        return Element::Wrong;
-    }
-    Element::Found {
-        start: from,
-        stop: to,
-    }
+    let parameters = read_prefixed(&mut field, 0, 255)?;
+    read_prefixed(&mut field, 0, 0)?;
+    field.at_end().then_some(parameters)
 }
 
-pub fn read_install(s: &[u8], at: usize, end: usize, capacity: u32) -> Field
-    ensures { result ≡ install_of s.now at end capacity }
+pub fn read_install(mut field: Reader<'_>, capacity: u32) -> Option<Request>
+    ensures { result ≡ install_of field.entry.bytes.now field.entry.at field.entry.end capacity }
 {
-    let Element::Found { start, stop } = read_names(s, at, end) else {
-        return Field::Wrong;
-    };
-    let Element::Found {
-        start: from,
-        stop: to,
-    } = read_rights(s, stop, end)
-    else {
-        return Field::Wrong;
-    };
-    let Quota::Granted(quota) = read_parameters(s, from, to, capacity) else {
-        return Field::Wrong;
-    };
-    let len = stop - start;
-    let aid = Part { start, len };
-    Field::Found(Request::Create { aid, quota })
+    let aid = read_names(&mut field)?;
+    let parameters = read_rights(field)?;
+    let quota = read_parameters(field.inside(parameters), capacity)?;
+    Some(Request::Create {
+        aid: aid.part(),
+        quota,
+    })
 }

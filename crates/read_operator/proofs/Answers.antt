@@ -5,6 +5,7 @@ use mathlib.Core.Path.{◌≡◌, refl, sym}
 use mathlib.Core.List.{List, ◌++◌}
 use mathlib.Core.Bool.{Bool, true, false, false≢true}
 use native.Mathlib.Omega.{arith}
+use Rattle.std.specs.Prelude.{Some, None, Ok, Err}
 use Rattle.base_status.specs.StatusWords.{is_done}
 use Rattle.base_status.specs.Rows.{Row, word_of}
 use Rattle.base_status.specs.declared.Status.{Status}
@@ -13,30 +14,30 @@ use Rattle.read_frame.specs.Framing.{length_wrong, class_wrong, parameters_wrong
 use Rattle.read_frame.specs.Rows.{rows_by}
 use Rattle.read_frame.proofs.Rows as rows
 use Rattle.read_frame.proofs.Answers as answers
-use Rattle.read_operator.specs.declared.Policy.{Policy}
-use Rattle.read_operator.specs.declared.Policy.TheVariants as policy
-use Rattle.read_operator.specs.declared.Update.{Update}
-use Rattle.read_operator.specs.declared.Update.TheVariants as update
-use Rattle.read_operator.specs.Field.{policy_of, is_policy_wrong}
-use Rattle.read_operator.specs.Reading.{not_store_data, policy_wrong, update_rows, update_read, update_of}
+use Rattle.read_operator.specs.Field.{policy_of, is_policy_wrong, Policy}
+use Rattle.read_operator.specs.Reading.{not_store_data, policy_wrong, update_rows, update_read, update_of, Update}
 
 -- no row's condition holds
 abbrev pub Passes : List ℕ → Type 0
 Passes s = rows.Passes (length_wrong s) (class_wrong s) (not_store_data s) (parameters_wrong s) (shape_wrong s) (policy_wrong s)
 
-policy-taken : (f : Policy) (p : ℕ) → update.Read p ≡ update_read f → policy.Found p ≡ f
-policy-taken policy.Wrong p q = let z : ◌≡◌ {A = ℕ} 0 1 = cc in absurd (omega arith)
-policy-taken (policy.Found t) p q = cc
+policy-taken : (f : Policy) (p : ℕ) → Ok p ≡ update_read f → Some p ≡ f
+policy-taken None p q = let z : ◌≡◌ {A = ℕ} 0 1 = cc in absurd (omega arith)
+policy-taken (Some t) p q = cc
 
-policy-given : (f : Policy) → is_policy_wrong f ≡ false → (p : ℕ) × (update.Read p ≡ update_read f)
-policy-given policy.Wrong h = absurd (false≢true (sym h))
-policy-given (policy.Found p) h = (p, refl)
+policy-given : (f : Policy) → is_policy_wrong f ≡ false → (p : ℕ) × (Ok p ≡ update_read f)
+policy-given None h = absurd (false≢true (sym h))
+policy-given (Some p) h = (p, refl)
 
-policy-apart : (p : ℕ) (w : Status) → update.Read p ≡ update.Refused w → ⊥
+policy-apart : (p : ℕ) (w : Status) → Ok p ≡ Err w → ⊥
 policy-apart p w q = let z : ◌≡◌ {A = ℕ} 0 1 = cc in omega arith
 
-policy-worded : (v w : Status) → update.Refused v ≡ update.Refused w → v ≡ w
+policy-worded : (v w : Status) → ◌≡◌ {A = Update} (Err v) (Err w) → v ≡ w
 policy-worded v w q = cc
+
+pub policy-refused : (f : Policy) → is_policy_wrong f ≡ true → update_read f ≡ Err status.DataWrong
+policy-refused None h = refl
+policy-refused (Some p) h = absurd (false≢true h)
 
 abbrev policies : answers.Reader
 policies =
@@ -44,11 +45,11 @@ policies =
       Value = ℕ;
       Field = Policy;
       Answer = Update;
-      found = λ p. policy.Found p;
+      found = λ p. Some p;
       is_wrong = is_policy_wrong;
       accepted = update_read;
-      read = λ p. update.Read p;
-      refused = λ w. update.Refused w;
+      read = λ p. Ok p;
+      refused = λ w. Err w;
       taken = policy-taken;
       given = policy-given;
       apart = policy-apart;
@@ -65,20 +66,20 @@ module _ (s : List ℕ) where
   passes-done = rows.passes-done (length_wrong s) (class_wrong s) (not_store_data s) (parameters_wrong s) (shape_wrong s) (policy_wrong s)
 
   -- `Refused w` exactly where the rows' word is w and no success
-  pub refused-word : (w : Status) → update.Refused w ≡ update_of s → (w ≡ word_of status.Done (update_rows s)) × (is_done w ≡ false)
+  pub refused-word : (w : Status) → Err w ≡ update_of s → (w ≡ word_of status.Done (update_rows s)) × (is_done w ≡ false)
   unfolding update_of policy_wrong
   refused-word = answers.refused-word policies (length_wrong s) (class_wrong s) (not_store_data s) (parameters_wrong s) (shape_wrong s) (policy_of s)
 
   -- `Read p` exactly where the rows' word is 90 00; p is then what the data field's reader found
-  pub read_done : (p : ℕ) → update.Read p ≡ update_of s → (word_of status.Done (update_rows s) ≡ status.Done) × (policy.Found p ≡ policy_of s)
+  pub read_done : (p : ℕ) → Ok p ≡ update_of s → (word_of status.Done (update_rows s) ≡ status.Done) × (Some p ≡ policy_of s)
   unfolding update_of policy_wrong
   read_done = answers.read_done policies (length_wrong s) (class_wrong s) (not_store_data s) (parameters_wrong s) (shape_wrong s) (policy_of s)
 
-  pub done-read : word_of status.Done (update_rows s) ≡ status.Done → (p : ℕ) × (update.Read p ≡ update_of s)
+  pub done-read : word_of status.Done (update_rows s) ≡ status.Done → (p : ℕ) × (Ok p ≡ update_of s)
   unfolding update_of policy_wrong
   done-read = answers.done-read policies (length_wrong s) (class_wrong s) (not_store_data s) (parameters_wrong s) (shape_wrong s) (policy_of s)
 
-  pub read-passes : (p : ℕ) → update.Read p ≡ update_of s → Passes s
+  pub read-passes : (p : ℕ) → Ok p ≡ update_of s → Passes s
   unfolding update_of policy_wrong
   read-passes = answers.read-passes policies (length_wrong s) (class_wrong s) (not_store_data s) (parameters_wrong s) (shape_wrong s) (policy_of s)
 

@@ -3,6 +3,7 @@ use Prim.Native.Nat.{ℕ}
 use mathlib.Core.Path.{◌≡◌, refl}
 use mathlib.Core.List.{List, [], ◌∷◌, ◌++◌, map}
 use lib.ListN.{length, replicate}
+use Rattle.std.specs.Prelude.{Ok, Err}
 use Rattle.base_status.specs.Rows.{word_of}
 use Rattle.base_status.specs.declared.Status.{Status}
 use Rattle.base_status.specs.declared.Status.TheVariants as status
@@ -12,20 +13,18 @@ use Rattle.read_tlv.specs.Lists.{list_wrong, list_at, list_within, list_of, elem
 use Rattle.read_elements.specs.Reader.{alone_at}
 use Rattle.read_fields.specs.StoreData.{dgi_at}
 use Rattle.read_frame.specs.Framing.{length_wrong, class_right, class_wrong, parameters_right, parameters_wrong, shape_right, shape_wrong}
-use Rattle.read_operator.specs.declared.Update.{Update}
-use Rattle.read_operator.specs.declared.Update.TheVariants as update
 use Rattle.read_operator.specs.Field.{policy_at, policy_of}
-use Rattle.read_operator.specs.Reading.{not_store_data, policy_wrong, update_of}
+use Rattle.read_operator.specs.Reading.{not_store_data, policy_wrong, update_of, Update}
 
 record Example : Type 0 where
   bytes : List ℕ
   answer : Update
 
 abbrev reads : ℕ → List ℕ → Example
-reads policy bytes = record { bytes = bytes; answer = update.Read policy }
+reads policy bytes = record { bytes = bytes; answer = Ok policy }
 
 abbrev refuses : Status → List ℕ → Example
-refuses word bytes = record { bytes = bytes; answer = update.Refused word }
+refuses word bytes = record { bytes = bytes; answer = Err word }
 
 -- DGI 3A06, and in it 81 with the policy 02
 abbrev field : List ℕ

@@ -1,4 +1,5 @@
 -- Laws about reading a policy update.
+pub mod Opened
 pub mod Answers
 pub mod Examples
 pub mod UpdateGrammar

@@ -7,9 +7,10 @@ use mathlib.Core.Bool.{false}
 use native.Mathlib.Omega.{arith}
 use lib.ListN.{length}
 use borrow.Author.Tests.{eqb-true, not-false}
+use Rattle.std.specs.Prelude.{Some, None, Ok}
 use Rattle.base_bytes.specs.Bytes.{byte}
 use Rattle.base_choice.proofs.Branches.{no!, each, by-eq, eq! }
-use Rattle.read_tlv.specs.declared.Element.TheVariants as element
+use Rattle.read_tlv.specs.Tlv.{element_read}
 use Rattle.read_tlv.specs.Lists.{list_wrong}
 use Rattle.read_tlv.specs.Encoding.{window, Bytes, encode_element}
 use Rattle.read_tlv.proofs.Branches.{each-found}
@@ -19,15 +20,11 @@ use Rattle.read_elements.specs.Reader.{alone_at}
 use Rattle.read_elements.proofs.Alone.{alone-expected}
 use Rattle.read_frame.specs.Framing.{data_end}
 use Rattle.read_frame.proofs.Framed.{stands, stands-passes, passes-framed}
-use Rattle.read_fields.specs.declared.Dgi.TheVariants as dgi
-use Rattle.read_fields.specs.StoreData.{dgi_at}
+use Rattle.read_fields.specs.StoreData.{dgi_read, dgi_at}
 use Rattle.read_fields.specs.Grammar.{encode_dgi}
 use Rattle.read_fields.proofs.Cases.{each-dgi}
 use Rattle.read_fields.proofs.Parts.{dgi-filled, lone-back, lone-written}
-use Rattle.read_operator.specs.declared.Policy.{Policy}
-use Rattle.read_operator.specs.declared.Policy.TheVariants as policy
-use Rattle.read_operator.specs.declared.Update.TheVariants as update
-use Rattle.read_operator.specs.Field.{policy_at, policy_of, is_policy_wrong}
+use Rattle.read_operator.specs.Field.{policy_at, policy_of, is_policy_wrong, Policy}
 use Rattle.read_operator.specs.Reading.{not_store_data, policy_wrong, update_read, update_of}
 use Rattle.read_operator.specs.Grammar.{encode_policy, UpdateBack, UpdateWritten, UpdateFilled}
 use Rattle.read_operator.proofs.Answers.{Passes, read_done, read-passes, passes-answer}
@@ -39,22 +36,22 @@ pub record PolicyParts (s : List ℕ) (at end p : ℕ) : Type 0 where
   pub contents : ℕ
   pub start : ℕ
   pub stop : ℕ
-  pub opened : dgi.Found 0x3A06 contents ≡ dgi_at s at end
+  pub opened : dgi_read 0x3A06 contents ≡ dgi_at s at end
   pub listed : list_wrong s contents end ≡ false
-  pub found : element.Found start stop ≡ alone_at s contents end 0x81 1 1
+  pub found : element_read start stop ≡ alone_at s contents end 0x81 1 1
   pub value : p ≡ byte s start
 
 module _ (s : List ℕ) (at end p : ℕ) where
   abbrev Accepted : Policy → Type 0
-  Accepted z = policy.Found p ≡ z → PolicyParts s at end p
+  Accepted z = Some p ≡ z → PolicyParts s at end p
 
-  none : Accepted policy.Wrong
+  none : Accepted None
   none q = let z : ◌≡◌ {A = ℕ} 0 1 = cc in absurd (omega arith)
 
-  one_found : (number contents start stop : ℕ) → dgi.Found number contents ≡ dgi_at s at end → list_wrong s contents end ≡ false → number ≡ 0x3A06
-      → element.Found start stop ≡ alone_at s contents end 0x81 1 1 → Accepted (policy.Found (byte s start))
+  one_found : (number contents start stop : ℕ) → dgi_read number contents ≡ dgi_at s at end → list_wrong s contents end ≡ false → number ≡ 0x3A06
+      → element_read start stop ≡ alone_at s contents end 0x81 1 1 → Accepted (Some (byte s start))
   one_found number contents start stop d e h g q =
-      record { contents = contents; start = start; stop = stop; opened = ap (λ (n : ℕ). dgi.Found n contents) (sym h) ∙ d; listed = e; found = g; value = cc }
+      record { contents = contents; start = start; stop = stop; opened = ap (λ (n : ℕ). dgi_read n contents) (sym h) ∙ d; listed = e; found = g; value = cc }
 
   policy-parts : Accepted (policy_at s at end)
   unfolding policy_at
@@ -70,7 +67,7 @@ policy-written s at end p b r =
     lone-written s at end 0x3A06 r.contents 0x81 1 1 r.start r.stop b r.opened r.found
     ∙ ap (λ (v : List ℕ). encode_dgi 0x3A06 (encode_element 0x81 v)) w
 
-found-parts : (s : List ℕ) (p : ℕ) → update.Read p ≡ update_of s → PolicyParts s 5 (data_end s) p
+found-parts : (s : List ℕ) (p : ℕ) → Ok p ≡ update_of s → PolicyParts s 5 (data_end s) p
 unfolding policy_of
 found-parts s p q = policy-parts s 5 (data_end s) p (read_done s p q).1
 
@@ -88,13 +85,13 @@ update-filled s p q = let r = found-parts s p q in dgi-filled s 5 (data_end s) 0
 
 -- ---- an encoded update is read back
 
-policy-back : (s : List ℕ) (at end : ℕ) → at ≤ end → end ≤ length s → (p : ℕ) → window s at end ≡ encode_policy p → policy.Found p ≡ policy_at s at end
+policy-back : (s : List ℕ) (at end : ℕ) → at ≤ end → end ≤ length s → (p : ℕ) → window s at end ≡ encode_policy p → Some p ≡ policy_at s at end
 unfolding policy_at
 policy-back s at end ordered held p q =
     let a = lone-back s at end ordered held 0x3A06 0x81 1 1 (p ∷ []) (omega arith) (omega arith) refl (omega arith) (omega arith) (omega arith) q in
     let l = a.long in
     let x = window-starts s a.start end (omega arith) held p [] a.value in
-    rw (← a.opened) (no! _ a.listed (eq! _ refl (rw (← a.found) (ap policy.Found (sym x.first)))))
+    rw (← a.opened) (no! _ a.listed (eq! _ refl (rw (← a.found) (ap Some (sym x.first)))))
 
 pub update-back : UpdateBack
 unfolding not_store_data policy_wrong policy_of

@@ -5,6 +5,7 @@ use mathlib.Core.List.{List, [], ◌∷◌}
 use mathlib.Core.Bool.{Bool, true, false, not, cond, false≢true}
 use lib.Dec.{eqb}
 use borrow.Author.Tests.{eqb-true}
+use Rattle.std.specs.Prelude.{Some, None, Err}
 use Rattle.base_bytes.specs.Bytes.{byte}
 use Rattle.base_status.specs.StatusWords.{is_done, number_of}
 use Rattle.base_status.specs.Rows.{word_of}
@@ -15,17 +16,14 @@ use Rattle.read_frame.specs.Classes.{is_among}
 use Rattle.read_frame.specs.Headers.{store_data_headers, printed_headers, has_header, is_shaped, field_word}
 use Rattle.read_frame.proofs.Rows as rows
 use Rattle.read_frame.proofs.Headers as headers
-use Rattle.read_operator.specs.declared.Policy.{Policy}
-use Rattle.read_operator.specs.declared.Policy.TheVariants as policy
-use Rattle.read_operator.specs.declared.Update.TheVariants as update
-use Rattle.read_operator.specs.Field.{policy_of, is_policy_wrong}
+use Rattle.read_operator.specs.Field.{policy_of, is_policy_wrong, Policy}
 use Rattle.read_operator.specs.Reading.{not_store_data, policy_wrong, update_rows, update_read, update_of, update_word}
 use Rattle.read_operator.specs.Words.{UpdateWords}
 
-word-case : (f : Policy) (w : Status) (b : Bool) → (b ≡ true → (is_policy_wrong f ≡ false) × (w ≡ status.Done)) → update_word (cond b (update_read f) (update.Refused w)) ≡ w
+word-case : (f : Policy) (w : Status) (b : Bool) → (b ≡ true → (is_policy_wrong f ≡ false) × (w ≡ status.Done)) → update_word (cond b (update_read f) (Err w)) ≡ w
 word-case f w false h = refl
-word-case (policy.Found p) w true h = sym (h refl).1
-word-case policy.Wrong w true h = absurd (false≢true (sym (h refl).0))
+word-case (Some p) w true h = sym (h refl).1
+word-case None w true h = absurd (false≢true (sym (h refl).0))
 
 rows-word : (s : List ℕ) → update_word (update_of s) ≡ word_of status.Done (update_rows s)
 unfolding update_of policy_wrong

@@ -6,9 +6,9 @@ use mathlib.Core.List.{List}
 use native.Mathlib.Omega.{arith}
 use lib.ListN.{length, take}
 use lib.Seq.{get_or-take, length-take-le}
-use Rattle.read_tlv.specs.declared.TagRead.{TagRead}
-use Rattle.read_tlv.specs.declared.TagRead.TheVariants as tag
-use Rattle.read_tlv.specs.declared.LengthRead.{LengthRead}
+use Rattle.std.specs.Prelude.{Option, Some, None}
+use Rattle.read_tlv.specs.declared.Tag.{Tag}
+use Rattle.read_tlv.specs.declared.Length.{Length}
 use Rattle.base_bytes.specs.Bytes.{byte}
 use Rattle.read_tlv.specs.Tlv.{tag_at, length_at, head_at, after_tag, after_length, expect_at, expect_of}
 use Rattle.base_choice.proofs.Branches.{le!, nle!, lt!, nlt!, eq!, ne!, each-le, each-lt, each-eq}
@@ -22,7 +22,7 @@ module _ (l s : List ℕ) (end : ℕ) (g : Agree l s end) where
   tag-agrees : (at : ℕ) → tag_at l at end ≡ tag_at s at end
   unfolding tag_at
   tag-agrees at =
-      let P : TagRead → Type 0 = λ z. z ≡ tag_at s at end in
+      let P : Option Tag → Type 0 = λ z. z ≡ tag_at s at end in
       let held = g.left in let held' = g.right in
       each-lt P (λ h. absurd (omega arith)) (λ _. each-le P (λ i. nlt! _ held' (le! _ i refl)) (λ i.
       let first : byte l at ≡ byte s at = g.same at i in
@@ -36,7 +36,7 @@ module _ (l s : List ℕ) (end : ℕ) (g : Agree l s end) where
   length-agrees : (at : ℕ) → length_at l at end ≡ length_at s at end
   unfolding length_at
   length-agrees at =
-      let P : LengthRead → Type 0 = λ z. z ≡ length_at s at end in
+      let P : Option Length → Type 0 = λ z. z ≡ length_at s at end in
       let held = g.left in let held' = g.right in
       each-lt P (λ h. absurd (omega arith)) (λ _. each-le P (λ i. nlt! _ held' (le! _ i refl)) (λ i.
       let first : byte l at ≡ byte s at = g.same at i in
@@ -48,10 +48,10 @@ module _ (l s : List ℕ) (end : ℕ) (g : Agree l s end) where
       (λ k. nlt! _ held' (nle! _ i (nlt! _ (omega arith) (eq! _ (omega arith) (nle! _ j (nlt! _ (omega arith) cc))))))))
       (λ e. nlt! _ held' (nle! _ i (nlt! _ (omega arith) (ne! _ (λ q. e (omega arith)) refl)))))))
 
-  after-agrees : (r : TagRead) → after_tag l end r ≡ after_tag s end r
+  after-agrees : (r : Option Tag) → after_tag l end r ≡ after_tag s end r
   unfolding after_tag
-  after-agrees tag.Wrong = refl
-  after-agrees (tag.Tag t constructed next) = ap (after_length end t constructed) (length-agrees next)
+  after-agrees None = refl
+  after-agrees (Some t) = ap (after_length end t.tag t.constructed) (length-agrees t.next)
 
   head-agrees : (at : ℕ) → head_at l at end ≡ head_at s at end
   unfolding head_at

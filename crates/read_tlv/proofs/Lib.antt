@@ -1,4 +1,6 @@
 -- The laws of what is read.
+pub mod Opened
+pub mod Parts
 pub mod Branches
 pub mod Inside
 pub mod Counts

@@ -6,11 +6,8 @@ use mathlib.Core.List.{List, [], ◌∷◌, ◌++◌, append_assoc}
 use native.Mathlib.Omega.{arith}
 use lib.ListN.{length}
 use borrow.Author.Tests.{lt-ltb, le-ltb}
-use Rattle.read_tlv.specs.declared.TagRead.TheVariants as tag
-use Rattle.read_tlv.specs.declared.LengthRead.TheVariants as len
-use Rattle.read_tlv.specs.declared.HeadRead.TheVariants as head
 use Rattle.base_bytes.specs.Bytes.{byte}
-use Rattle.read_tlv.specs.Tlv.{is_constructed, tag_at, length_at, head_at, after_tag, after_length, expect_at, expect_of}
+use Rattle.read_tlv.specs.Tlv.{is_constructed, tag_read, length_read, head_read, tag_at, length_at, head_at, after_tag, after_length, expect_at, expect_of}
 use Rattle.read_tlv.specs.Encoding.{window, encode_number, encode_tag, encode_length, encode_element}
 use Rattle.read_tlv.specs.Grammar.{LegalTag, one, two, marks_list, ElementReadBack}
 use Rattle.base_choice.proofs.Branches.{each-lt, le!, nle!, lt!, nlt!, eq!, ne! }
@@ -19,7 +16,7 @@ use Rattle.read_tlv.proofs.Windows.{window-starts, window-begins}
 module _ (s : List ℕ) (at end : ℕ) (ordered : at ≤ end) (held : end ≤ length s) where
   pub record TagBack (t : ℕ) (rest : List ℕ) : Type 0 where
     pub next : ℕ
-    pub read : tag.Tag t (marks_list t) next ≡ tag_at s at end
+    pub read : tag_read t (marks_list t) next ≡ tag_at s at end
     pub past : at < next
     pub within : next ≤ end
     pub after : window s next end ≡ rest
@@ -35,7 +32,7 @@ module _ (s : List ℕ) (at end : ℕ) (ordered : at ≤ end) (held : end ≤ le
       let c : marks_list t ≡ is_constructed (byte s at) = rw (lt-ltb t 256 h) (ap is_constructed (sym f)) in
       record {
         next = at + 1;
-        read = nlt! _ held (nle! _ r (ne! _ g (rw c (ap (λ (n : ℕ). tag.Tag n (is_constructed (byte s at)) (at + 1)) (sym f)))));
+        read = nlt! _ held (nle! _ r (ne! _ g (rw c (ap (λ (n : ℕ). tag_read n (is_constructed (byte s at)) (at + 1)) (sym f)))));
         past = omega arith;
         within = omega arith;
         after = w.after;
@@ -50,7 +47,7 @@ module _ (s : List ℕ) (at end : ℕ) (ordered : at ≤ end) (held : end ≤ le
       record {
         next = at + 1 + 1;
         read = nlt! _ held (nle! _ (omega arith) (eq! _ (ap (λ (n : ℕ). n % 32) f ∙ i) (nle! _ v.room (nle! _ (omega arith)
-            (rw c (ap (λ (n : ℕ). tag.Tag n (is_constructed (byte s at)) (at + 1 + 1)) n))))));
+            (rw c (ap (λ (n : ℕ). tag_read n (is_constructed (byte s at)) (at + 1 + 1)) n))))));
         past = omega arith;
         within = omega arith;
         after = v.after;
@@ -58,7 +55,7 @@ module _ (s : List ℕ) (at end : ℕ) (ordered : at ≤ end) (held : end ≤ le
 
   pub record LengthBack (n : ℕ) (rest : List ℕ) : Type 0 where
     pub next : ℕ
-    pub read : len.Length n next ≡ length_at s at end
+    pub read : length_read n next ≡ length_at s at end
     pub past : at < next
     pub within : next ≤ end
     pub after : window s next end ≡ rest
@@ -73,7 +70,7 @@ module _ (s : List ℕ) (at end : ℕ) (ordered : at ≤ end) (held : end ≤ le
       let f = w.first in
       record {
         next = at + 1;
-        read = nlt! _ held (nle! _ w.room (lt! _ (omega arith) (ap (λ (k : ℕ). len.Length k (at + 1)) (sym f))));
+        read = nlt! _ held (nle! _ w.room (lt! _ (omega arith) (ap (λ (k : ℕ). length_read k (at + 1)) (sym f))));
         past = omega arith;
         within = omega arith;
         after = w.after;
@@ -85,7 +82,7 @@ module _ (s : List ℕ) (at end : ℕ) (ordered : at ≤ end) (held : end ≤ le
       record {
         next = at + 1 + 1;
         read = nlt! _ held (nle! _ w.room (nlt! _ (omega arith) (eq! _ f (nle! _ v.room (nlt! _ (omega arith)
-            (ap (λ (k : ℕ). len.Length k (at + 1 + 1)) (sym g)))))));
+            (ap (λ (k : ℕ). length_read k (at + 1 + 1)) (sym g)))))));
         past = omega arith;
         within = omega arith;
         after = v.after;
@@ -98,7 +95,7 @@ element-back s at end ordered held t low high v rest l least most q =
     let b = length_back s a.next end a.within held (length v) (v ++ rest) a.after in
     let w = window-begins s b.next end b.within held v rest b.after in
     let r = w.room in
-    let h : head.Head t (marks_list t) b.next (b.next + length v) ≡ head_at s at end =
+    let h : head_read t (marks_list t) b.next (b.next + length v) ≡ head_at s at end =
     rw (← a.read) (rw (← b.read) (le! _ r refl)) in
     record {
       start = b.next;

@@ -1,10 +1,7 @@
 -- Document 01, 'Reading a command', TLV: reading and writing agree. An encoded element is read back, whatever is read is so encoded, and a
 -- list is read well exactly where its elements fill it, at most four levels deep.
-use Rattle.std.specs.Prelude.{ℕ, ◌+◌, ◌/◌, ◌%◌, ◌≤◌, ◌<◌, ◌≡◌, List, ◌++◌, Bool, false, cond, length, ltb}
-use Rattle.read_tlv.specs.declared.HeadRead.TheVariants as head
-use Rattle.read_tlv.specs.declared.Element.TheVariants as element
-use Rattle.read_tlv.specs.declared.ListRead.TheVariants as list
-use Rattle.read_tlv.specs.Tlv.{is_constructed, head_at, expect_at}
+use Rattle.std.specs.Prelude.{ℕ, ◌+◌, ◌/◌, ◌%◌, ◌≤◌, ◌<◌, ◌≡◌, List, ◌++◌, Bool, true, false, cond, length, ltb}
+use Rattle.read_tlv.specs.Tlv.{is_constructed, head_read, element_read, head_at, expect_at}
 use Rattle.read_tlv.specs.Lists.{list_at, list_wrong}
 use Rattle.read_tlv.specs.Filled.{Filled}
 use Rattle.read_tlv.specs.Encoding.{window, Bytes, encode_element}
@@ -22,8 +19,8 @@ marks_list t = is_constructed (cond (ltb t 256) t (t / 256))
 pub record ElementBack (s : List ℕ) (at end t low high : ℕ) (v rest : List ℕ) : Type 0 where
   pub start : ℕ
   pub stop : ℕ
-  pub head : head.Head t (marks_list t) start stop ≡ head_at s at end
-  pub found : element.Found start stop ≡ expect_at s at end t low high
+  pub head : head_read t (marks_list t) start stop ≡ head_at s at end
+  pub found : element_read start stop ≡ expect_at s at end t low high
   pub long : stop ≡ start + length v
   pub within : stop ≤ end
   pub value : window s start stop ≡ v
@@ -36,15 +33,15 @@ ElementReadBack = (s : List ℕ) (at end : ℕ) → at ≤ end → end ≤ lengt
 
 -- whatever is read is the encoding of an element
 abbrev pub ElementWritten : Type 0
-ElementWritten = (s : List ℕ) (at end t low high start stop : ℕ) → Bytes s → element.Found start stop ≡ expect_at s at end t low high
+ElementWritten = (s : List ℕ) (at end t low high start stop : ℕ) → Bytes s → element_read start stop ≡ expect_at s at end t low high
     → window s at stop ≡ encode_element t (window s start stop)
 
 -- a list that is read well is filled by its elements, and a filled one is read well
 abbrev pub ListFilled : Type 0
-ListFilled = (s : List ℕ) (at end level : ℕ) → list.Filled ≡ list_at s at end level → Filled s level at end
+ListFilled = (s : List ℕ) (at end level : ℕ) → true ≡ list_at s at end level → Filled s level at end
 
 abbrev pub FilledList : Type 0
-FilledList = (s : List ℕ) (at end level : ℕ) → Filled s level at end → list.Filled ≡ list_at s at end level
+FilledList = (s : List ℕ) (at end level : ℕ) → Filled s level at end → true ≡ list_at s at end level
 
 -- the same of the test that the data fields ask
 abbrev pub RightFilled : Type 0

@@ -1,238 +1,215 @@
 // Document 01, 'Reading a command': tags, lengths, elements and lists of elements, read in a window of a slice.
-// A window is the bytes from `at` up to `end`; one that does not lie in the slice holds nothing and is wrong.
-#![tactic(auto)]
+// A window is the bytes from `at` up to `end`; one that does not lie in the slice holds nothing, and nothing is read there.
+#![tactic(auto, unfolding(crate::proofs::Opened::readers))]
 
-ghost use Rattle.std.specs.Prelude.{◌≡◌, ℕ, ◌≤◌};
+ghost use Rattle.std.specs.Prelude.{◌≡◌, ℕ, ◌≤◌, ◌-◌};
+ghost use Rattle.base_bytes.specs.Bytes.{between};
 ghost use Rattle.read_tlv.specs.Tlv.{tag_at, length_at, head_at, expect_at};
 ghost use Rattle.read_tlv.specs.Lists.{list_at, element_at, list_wrong};
 
+use base_bytes::Part;
+
 // The tag's number is its one byte, or its two bytes, high byte first; `next` is the place after it.
 #[derive(Clone, Copy)]
-pub enum TagRead {
-    Tag {
-        tag: u16,
-        constructed: bool,
-        next: usize,
-    },
-    Wrong,
+pub struct Tag {
+    pub tag: u16,
+    pub constructed: bool,
+    pub next: usize,
 }
 
-pub fn read_tag(s: &[u8], at: usize, end: usize) -> TagRead
+pub fn read_tag(s: &[u8], at: usize, end: usize) -> Option<Tag>
     ensures { result ≡ tag_at s.now at end }
 {
     if s.len() < end {
-        return TagRead::Wrong;
+        return None;
     }
     if end <= at {
-        return TagRead::Wrong;
+        return None;
     }
     let first = s[at] as u16;
     let constructed = first / 32 % 2 == 1;
     let after = at + 1;
     if first % 32 != 31 {
-        return TagRead::Tag {
+        return Some(Tag {
             tag: first,
             constructed,
             next: after,
-        };
+        });
     }
     if end <= after {
-        return TagRead::Wrong;
+        return None;
     }
     let second = s[after] as u16;
     if 0x80 <= second {
-        return TagRead::Wrong;
+        return None;
     }
-    let tag = first * 256 + second;
-    let next = after + 1;
-    TagRead::Tag {
-        tag,
+    Some(Tag {
+        tag: first * 256 + second,
         constructed,
-        next,
-    }
+        next: after + 1,
+    })
 }
 
 #[derive(Clone, Copy)]
-pub enum LengthRead {
-    Length { count: usize, next: usize },
-    Wrong,
+pub struct Length {
+    pub count: usize,
+    pub next: usize,
 }
 
-pub fn read_length(s: &[u8], at: usize, end: usize) -> LengthRead
+pub fn read_length(s: &[u8], at: usize, end: usize) -> Option<Length>
     ensures { result ≡ length_at s.now at end }
 {
     if s.len() < end {
-        return LengthRead::Wrong;
+        return None;
     }
     if end <= at {
-        return LengthRead::Wrong;
+        return None;
     }
     let first = s[at] as usize;
     let after = at + 1;
     if first < 0x80 {
-        return LengthRead::Length {
+        return Some(Length {
             count: first,
             next: after,
-        };
+        });
     }
     if first != 0x81 {
-        return LengthRead::Wrong;
+        return None;
     }
     if end <= after {
-        return LengthRead::Wrong;
+        return None;
     }
     let second = s[after] as usize;
     if second < 0x80 {
-        return LengthRead::Wrong;
+        return None;
     }
-    let next = after + 1;
-    LengthRead::Length {
+    Some(Length {
         count: second,
-        next,
-    }
+        next: after + 1,
+    })
 }
 
 // The value stands from `start` up to `stop`, which is the place after the element.
 #[derive(Clone, Copy)]
-pub enum HeadRead {
-    Head {
-        tag: u16,
-        constructed: bool,
-        start: usize,
-        stop: usize,
-    },
-    Wrong,
+pub struct Head {
+    pub tag: u16,
+    pub constructed: bool,
+    pub start: usize,
+    pub stop: usize,
 }
 
-pub fn read_head(s: &[u8], at: usize, end: usize) -> HeadRead
+pub fn read_head(s: &[u8], at: usize, end: usize) -> Option<Head>
     ensures { result ≡ head_at s.now at end }
 {
-    let TagRead::Tag {
-        tag,
-        constructed,
-        next,
-    } = read_tag(s, at, end)
-    else {
-        return HeadRead::Wrong;
-    };
-    let LengthRead::Length { count, next: start } = read_length(s, next, end) else {
-        return HeadRead::Wrong;
-    };
+    let tag = read_tag(s, at, end)?;
+    let length = read_length(s, tag.next, end)?;
+    let start = length.next;
     let room = end - start;
-    if room < count {
-        return HeadRead::Wrong;
+    if room < length.count {
+        return None;
     }
-    let stop = start + count;
-    HeadRead::Head {
-        tag,
-        constructed,
+    Some(Head {
+        tag: tag.tag,
+        constructed: tag.constructed,
         start,
-        stop,
-    }
+        stop: start + length.count,
+    })
 }
 
+// Where an element's value starts and stops.
 #[derive(Clone, Copy)]
-pub enum Element {
-    Found { start: usize, stop: usize },
-    Wrong,
+pub struct Element {
+    pub start: usize,
+    pub stop: usize,
+}
+
+impl Element {
+    // How many bytes the value has.
+    pub fn len(self) -> usize
+        ensures { result ≡ self.stop - self.start }
+    {
+        self.stop.saturating_sub(self.start)
+    }
+
+    // The value as a part of the bytes.
+    pub fn part(self) -> Part
+        ensures { result ≡ between self.start self.stop }
+    {
+        Part {
+            start: self.start,
+            len: self.len(),
+        }
+    }
 }
 
 // The next element, where it bears the tag that the table has there and its value has `low` to `high` bytes.
-pub fn expect(s: &[u8], at: usize, end: usize, tag: u16, low: usize, high: usize) -> Element
+pub fn expect(s: &[u8], at: usize, end: usize, tag: u16, low: usize, high: usize) -> Option<Element>
     ensures { result ≡ expect_at s.now at end tag low high }
 {
-    let HeadRead::Head {
-        tag: found,
-        constructed: _,
-        start,
-        stop,
-    } = read_head(s, at, end)
-    else {
-        return Element::Wrong;
-    };
-    if found != tag {
-        return Element::Wrong;
+    let head = read_head(s, at, end)?;
+    if head.tag != tag {
+        return None;
     }
-    let count = stop - start;
+    let count = head.stop - head.start;
     if count < low {
-        return Element::Wrong;
+        return None;
     }
     if high < count {
-        return Element::Wrong;
+        return None;
     }
-    Element::Found { start, stop }
-}
-
-#[derive(Clone, Copy)]
-enum ElementRead {
-    Next(usize),
-    Wrong,
-}
-
-#[derive(Clone, Copy)]
-pub enum ListRead {
-    Filled,
-    Wrong,
+    Some(Element {
+        start: head.start,
+        stop: head.stop,
+    })
 }
 
 // The outermost list is level 1, and four levels are the most.
 const LEVELS: usize = 4;
 
+// Do elements fill the window, at most four levels deep?
 #[cycle(read_element_read_list)]
-pub fn read_list(s: &[u8], at: usize, end: usize, level: usize) -> ListRead
+pub fn read_list(s: &[u8], at: usize, end: usize, level: usize) -> bool
     ensures { result ≡ list_at s.now at end level }
 {
     if s.len() < end {
-        return ListRead::Wrong;
+        return false;
     }
     if end < at {
-        return ListRead::Wrong;
+        return false;
     }
     if level < 1 {
-        return ListRead::Wrong;
+        return false;
     }
     if LEVELS < level {
-        return ListRead::Wrong;
+        return false;
     }
     if at == end {
-        return ListRead::Filled;
+        return true;
     }
     match read_element(s, at, end, level) {
-        ElementRead::Wrong => ListRead::Wrong,
-        ElementRead::Next(next) => read_list(s, next, end, level),
+        None => false,
+        Some(next) => read_list(s, next, end, level),
     }
 }
 
+// The place after an element, with all that it holds.
 #[cycle(read_element_read_list)]
-fn read_element(s: &[u8], at: usize, end: usize, level: usize) -> ElementRead
+fn read_element(s: &[u8], at: usize, end: usize, level: usize) -> Option<usize>
     requires { level ≤ 4 }
     ensures { result ≡ element_at s.now at end level }
 {
-    let HeadRead::Head {
-        tag: _,
-        constructed,
-        start,
-        stop,
-    } = read_head(s, at, end)
-    else {
-        return ElementRead::Wrong;
-    };
-    if constructed {
-        let inner = level + 1;
-        return match read_list(s, start, stop, inner) {
-            ListRead::Wrong => ElementRead::Wrong,
-            ListRead::Filled => ElementRead::Next(stop),
-        };
+    let head = read_head(s, at, end)?;
+    if head.constructed {
+        if !read_list(s, head.start, head.stop, level + 1) {
+            return None;
+        }
     }
-    ElementRead::Next(stop)
+    Some(head.stop)
 }
 
 // Is the window no list of elements? They have to fill it exactly, at most four levels deep.
 pub fn list_wrong(s: &[u8], at: usize, end: usize) -> bool
     ensures { result ≡ list_wrong s.now at end }
 {
-    match read_list(s, at, end, 1) {
-        ListRead::Wrong => true,
-        ListRead::Filled => false,
-    }
+    !read_list(s, at, end, 1)
 }

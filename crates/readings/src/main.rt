@@ -5,10 +5,10 @@
 ghost use Rattle.std.specs.Prelude.{◌≤◌, length};
 
 use base_bytes::{Part, part_of, put_byte, put_bytes};
-use read_command::{Reading, Request};
+use read_command::{Request, Tags};
 use std::io::Read;
 use text_input::{count, fail, read_some};
-use text_words::{HexRead, put_decimal, put_hex, put_hex_16, read_hex, until};
+use text_words::{put_decimal, put_hex, put_hex_16, read_hex, until};
 
 const CAPACITY: u32 = 1000;
 
@@ -17,17 +17,14 @@ fn put_named(out: &mut [u8], name: &[u8], bytes: &[u8], aid: Part) -> usize {
     put_hex(out, at, part_of(bytes, aid))
 }
 
-fn put_tags(out: &mut [u8], at: usize, life: bool, fall_back: bool) -> usize {
-    if life & fall_back {
-        return put_bytes(out, at, b" 4F,9F70,53");
-    }
-    if life {
-        return put_bytes(out, at, b" 4F,9F70");
-    }
-    if fall_back {
-        return put_bytes(out, at, b" 4F,53");
-    }
-    put_bytes(out, at, b" 4F")
+fn put_tags(out: &mut [u8], at: usize, tags: Tags) -> usize {
+    let listed: &[u8] = match (tags.life, tags.fall_back) {
+        (true, true) => b" 4F,9F70,53",
+        (true, false) => b" 4F,9F70",
+        (false, true) => b" 4F,53",
+        (false, false) => b" 4F",
+    };
+    put_bytes(out, at, listed)
 }
 
 fn put_listing(out: &mut [u8], next: bool) -> usize {
@@ -53,21 +50,13 @@ fn put_request(out: &mut [u8], bytes: &[u8], request: Request) -> usize {
             let at = put_bytes(out, 0, b"confirm ");
             put_decimal(out, at, number as u64)
         }
-        Request::GetStatusOfAll {
-            next,
-            life,
-            fall_back,
-        } => {
+        Request::GetStatusOfAll { next, tags } => {
             let at = put_listing(out, next);
-            put_tags(out, at, life, fall_back)
+            put_tags(out, at, tags)
         }
-        Request::GetStatusOfOne {
-            aid,
-            life,
-            fall_back,
-        } => {
+        Request::GetStatusOfOne { aid, tags } => {
             let at = put_named(out, b"get-status ", bytes, aid);
-            put_tags(out, at, life, fall_back)
+            put_tags(out, at, tags)
         }
         Request::GetData => put_bytes(out, 0, b"get-data"),
     }
@@ -75,8 +64,8 @@ fn put_request(out: &mut [u8], bytes: &[u8], request: Request) -> usize {
 
 fn put_reading(out: &mut [u8], bytes: &[u8]) -> usize {
     match read_command::read(bytes, CAPACITY) {
-        Reading::Read(request) => put_request(out, bytes, request),
-        Reading::Refused(status) => put_hex_16(out, 0, status.number()),
+        Ok(request) => put_request(out, bytes, request),
+        Err(status) => put_hex_16(out, 0, status.number()),
     }
 }
 
@@ -107,7 +96,7 @@ fn answer_line(rt: &HostRuntime, line: &[u8], bytes: &mut [u8], out: &mut [u8]) 
     if line[0] == b'#' {
         return;
     }
-    let HexRead::Bytes(count) = read_hex(line, bytes) else {
+    let Ok(count) = read_hex(line, bytes) else {
         let at = put_bytes(out, 0, b"no hex word");
         write_line(rt, out, at);
         return;

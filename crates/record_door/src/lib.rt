@@ -14,8 +14,8 @@ ghost use Rattle.record_door.specs.Door.{call_of, Served};
 use base_bytes::{Part, part_of};
 use base_status::Status;
 use card_record::{Answer, Card};
-use read_command::{Reading, Request, read};
-use read_operator::Update;
+use read_command::{Request, read};
+use read_frame::word;
 
 // A call over the bytes that it came in: each part names some of them (decisions B15, B16, B32).
 #[derive(Clone, Copy)]
@@ -52,16 +52,12 @@ fn serve(card: Card, verdict: u8, request: Request, bytes: &[u8], buf: &mut [u8]
             record_calls::master_delete(card, part_of(bytes, aid), verdict, buf)
         }
         Request::Confirm(number) => record_calls::confirm(card, number, buf),
-        Request::GetStatusOfAll {
-            next,
-            life,
-            fall_back,
-        } => record_calls::status_of_all(card, next, life, fall_back, buf),
-        Request::GetStatusOfOne {
-            aid,
-            life,
-            fall_back,
-        } => record_calls::status_of_one(card, part_of(bytes, aid), life, fall_back, buf),
+        Request::GetStatusOfAll { next, tags } => {
+            record_calls::status_of_all(card, next, tags.life, tags.fall_back, buf)
+        }
+        Request::GetStatusOfOne { aid, tags } => {
+            record_calls::status_of_one(card, part_of(bytes, aid), tags.life, tags.fall_back, buf)
+        }
         Request::GetData => record_calls::get_data(card, buf),
     }
 }
@@ -76,8 +72,8 @@ fn command(card: Card, verdict: u8, bytes: &[u8], buf: &mut [u8]) -> Answer
     // the copy that `serve` takes is made here, and not where the door is entered (decision B42)
     let served = card;
     let reading = read(bytes, card.capacity);
-    let Reading::Read(request) = reading else {
-        return served.refused(reading.word());
+    let Ok(request) = reading else {
+        return served.refused(word(reading));
     };
     serve(served, verdict, request, bytes, buf)
 }
@@ -90,8 +86,8 @@ fn policy(card: Card, speaker: &[u8], bytes: &[u8], buf: &mut [u8]) -> Answer
         return card.refused(Status::BufferShort);
     }
     let update = read_operator::read(bytes);
-    let Update::Read(policy) = update else {
-        return card.refused(update.word());
+    let Ok(policy) = update else {
+        return card.refused(word(update));
     };
     record_calls::set_policy(card, speaker, policy)
 }

@@ -8,6 +8,7 @@ use mathlib.Core.Bool.{true, false}
 use lib.ListN.{length, drop, length-drop}
 use lib.Seq.{length-take-le}
 use borrow.Author.Tests.{le-leb, not-false}
+use Rattle.std.specs.Prelude.{Some, None}
 use Rattle.base_status.specs.StatusWords.{is_done}
 use Rattle.base_status.specs.Rows.{word_of}
 use Rattle.base_status.specs.declared.Status.{Status}
@@ -25,12 +26,9 @@ use Rattle.read_command.specs.Requests.{field_of}
 use Rattle.read_fields.specs.Places.{Placed, RequestIn, FieldIn}
 use Rattle.read_fields.specs.declared.request.Request.{Request}
 use Rattle.read_fields.specs.declared.request.Request.TheVariants as request
-use Rattle.read_fields.specs.declared.request.Field.{Field}
-use Rattle.read_fields.specs.declared.request.Field.TheVariants as field
+use Rattle.read_fields.specs.Found.{Field}
 use Rattle.read_command.proofs.Within.{field_in}
-use Rattle.read_operator.specs.Field.{policy_of}
-use Rattle.read_operator.specs.declared.Policy as operator
-use Rattle.read_operator.specs.declared.Policy.TheVariants as update
+use Rattle.read_operator.specs.Field.{policy_of, Policy}
 use Rattle.rule_steps.specs.Steps.{step_of, response_of}
 use Rattle.rule_steps.proofs.Rows.{Passed, named}
 use Rattle.rule_steps.proofs.Kept.{Legal, step_kept}
@@ -58,17 +56,17 @@ request-legal c verdict s (request.SetFallBack aid) h = tt
 request-legal c verdict s (request.Delete aid) h = tt
 request-legal c verdict s (request.MasterDelete aid) h = tt
 request-legal c verdict s (request.Confirm number) h = tt
-request-legal c verdict s (request.GetStatusOfAll next life fallback) h = tt
-request-legal c verdict s (request.GetStatusOfOne aid life fallback) h = tt
+request-legal c verdict s (request.GetStatusOfAll next tags) h = tt
+request-legal c verdict s (request.GetStatusOfOne aid tags) h = tt
 request-legal c verdict s request.GetData h = tt
 
 field-legal : (c : Card) (verdict : ℕ) (s : List ℕ) (f : Field) → FieldIn s c.capacity f → Legal c (field_asks verdict s f)
-field-legal c verdict s field.Wrong h = tt
-field-legal c verdict s (field.Found r) h = request-legal c verdict s r h
+field-legal c verdict s None h = tt
+field-legal c verdict s (Some r) h = request-legal c verdict s r h
 
-update-legal : (c : Card) (speaker : List ℕ) (p : operator.Policy) → update_wrong speaker p ≡ false → Legal c (policy_asks speaker p)
-update-legal c speaker update.Wrong e = tt
-update-legal c speaker (update.Found p) e = and_r (aid_ok speaker) _ (not-false _ e)
+update-legal : (c : Card) (speaker : List ℕ) (p : Policy) → update_wrong speaker p ≡ false → Legal c (policy_asks speaker p)
+update-legal c speaker None e = tt
+update-legal c speaker (Some p) e = and_r (aid_ok speaker) _ (not-false _ e)
 
 -- what a call asks is legal once its values are right
 pub legal : (c : Card) (call : Call) → values_wrong c call ≡ false → Legal c (asked c call)

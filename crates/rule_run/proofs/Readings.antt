@@ -5,6 +5,7 @@ use Prim.Native.Nat.{ℕ, ◌≤◌}
 use mathlib.Core.List.{List, ◌++◌}
 use mathlib.Core.Bool.{false}
 use borrow.Author.Tests.{le-ltb}
+use Rattle.std.specs.Prelude.{Ok, Err}
 use Rattle.base_status.specs.StatusWords.{is_done}
 use Rattle.base_status.specs.Rows.{word_of}
 use Rattle.base_status.specs.declared.Status.{Status}
@@ -13,7 +14,6 @@ use Rattle.card_record.specs.Answers.{refused_with, outcome_on_sound}
 use Rattle.card_record.specs.declared.Card.{Card}
 use Rattle.read_command.specs.Reading.{reading_rows, read_of}
 use Rattle.read_fields.specs.declared.request.Request.{Request}
-use Rattle.read_command.specs.declared.Reading.TheVariants as reading
 use Rattle.read_command.proofs.Answers.{refused-word, read_done, read-passes, rows-stop, rows_pass}
 use Rattle.rule_steps.specs.Conditions.{card_rows}
 use Rattle.rule_steps.specs.Steps.{asked_work}
@@ -33,23 +33,23 @@ module _ (c : Card) (verdict : ℕ) (s : List ℕ) (room : ℕ) (h : least_buffe
   past-buffer = rw (le-ltb room least_buffer h)
 
   -- a command that was not read
-  pub not-read : (w : Status) → reading.Refused w ≡ read_of s c.capacity → (word_of (work c call).success (rows_after c call) ≡ w) × (is_done w ≡ false)
+  pub not-read : (w : Status) → Err w ≡ read_of s c.capacity → (word_of (work c call).success (rows_after c call) ≡ w) × (is_done w ≡ false)
   not-read w q =
       let r = refused-word s c.capacity w q in
       (past-buffer ∙ rows-stop s c.capacity (work c call).success (card_rows c (asked c call)) (ap is_done (sym r.0) ∙ r.1) ∙ sym r.0, r.1)
 
-  pub refused-read : (w : Status) → reading.Refused w ≡ read_of s c.capacity → on_sound c call ≡ refused_with (ticks_by_phase c) c w
+  pub refused-read : (w : Status) → Err w ≡ read_of s c.capacity → on_sound c call ≡ refused_with (ticks_by_phase c) c w
   unfolding on_sound
   refused-read w q = let r = not-read w q in rw (r.0, r.1)
 
   -- one that was
-  pub asks_read : (r : Request) → reading.Read r ≡ read_of s c.capacity → asked c call ≡ request_asks verdict s r
+  pub asks_read : (r : Request) → Ok r ≡ read_of s c.capacity → asked c call ≡ request_asks verdict s r
   asks_read r q = ap (field_asks verdict s) (sym (read_done s c.capacity r q).1)
 
-  pub word_read : (r : Request) → reading.Read r ≡ read_of s c.capacity → word_of (work c call).success (rows_after c call) ≡ word_of (work c call).success (card_rows c (asked c call))
+  pub word_read : (r : Request) → Ok r ≡ read_of s c.capacity → word_of (work c call).success (rows_after c call) ≡ word_of (work c call).success (card_rows c (asked c call))
   word_read r q = past-buffer ∙ rows_pass s c.capacity (work c call).success (card_rows c (asked c call)) (read-passes s c.capacity r q)
 
-  pub known_read : (r : Request) → reading.Read r ≡ read_of s c.capacity → on_sound c call ≡ outcome_on_sound c (asked_work c (request_asks verdict s r))
+  pub known_read : (r : Request) → Ok r ≡ read_of s c.capacity → on_sound c call ≡ outcome_on_sound c (asked_work c (request_asks verdict s r))
   unfolding on_sound
   known_read r q = rw (word_read r q, asks_read r q)
 

@@ -1,14 +1,11 @@
 -- Document 01, 'What is bought': the calls, and what each asks of a card once it is read.
-use Rattle.std.specs.Prelude.{ℕ, List}
+use Rattle.std.specs.Prelude.{ℕ, List, Some, None}
 use Rattle.base_bytes.specs.Bytes.{part_of}
 use Rattle.read_command.specs.Requests.{field_of}
 use Rattle.read_fields.specs.declared.request.Request.{Request}
 use Rattle.read_fields.specs.declared.request.Request.TheVariants as request
-use Rattle.read_fields.specs.declared.request.Field.{Field}
-use Rattle.read_fields.specs.declared.request.Field.TheVariants as field
-use Rattle.read_operator.specs.Field.{policy_of}
-use Rattle.read_operator.specs.declared.Policy as operator
-use Rattle.read_operator.specs.declared.Policy.TheVariants as policy
+use Rattle.read_fields.specs.Found.{Field}
+use Rattle.read_operator.specs.Field.{policy_of, Policy}
 use Rattle.rule_steps.specs.Asked.{Act.enable, Act.disable, Act.delete, Act.master_delete, Act.set_fall_back, Act.status, Act.keyed, Act.stored, Act.finished, Act.set_policy, Asked, Asked.unread, Asked.create, Asked.on, Asked.confirm, Asked.status_of_all, Asked.get_data, Asked.tick, Asked.lost}
 use Rattle.card_record.specs.declared.Card.{Card}
 
@@ -33,17 +30,17 @@ request_asks verdict s (request.SetFallBack aid) = on (part_of s aid) set_fall_b
 request_asks verdict s (request.Delete aid) = on (part_of s aid) delete
 request_asks verdict s (request.MasterDelete aid) = on (part_of s aid) (master_delete verdict)
 request_asks verdict s (request.Confirm number) = confirm number
-request_asks verdict s (request.GetStatusOfAll next life fallback) = status_of_all next life fallback
-request_asks verdict s (request.GetStatusOfOne aid life fallback) = on (part_of s aid) (status life fallback)
+request_asks verdict s (request.GetStatusOfAll next tags) = status_of_all next tags.life tags.fall_back
+request_asks verdict s (request.GetStatusOfOne aid tags) = on (part_of s aid) (status tags.life tags.fall_back)
 request_asks verdict s request.GetData = get_data
 
 abbrev pub field_asks : ℕ → List ℕ → Field → Asked
-field_asks verdict s field.Wrong = unread
-field_asks verdict s (field.Found r) = request_asks verdict s r
+field_asks verdict s None = unread
+field_asks verdict s (Some r) = request_asks verdict s r
 
-abbrev pub policy_asks : List ℕ → operator.Policy → Asked
-policy_asks speaker policy.Wrong = unread
-policy_asks speaker (policy.Found p) = on speaker (set_policy p)
+abbrev pub policy_asks : List ℕ → Policy → Asked
+policy_asks speaker None = unread
+policy_asks speaker (Some p) = on speaker (set_policy p)
 
 -- what a call asks; of the card a reader needs the capacity (decision 26)
 abbrev pub asked_of : ℕ → Call → Asked

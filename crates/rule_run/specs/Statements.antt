@@ -1,5 +1,5 @@
 -- What an auditor needs beside the demands: the card known to be sound, the longest response, and which rows are parts of the table.
-use Rattle.std.specs.Prelude.{ℕ, ◌≤◌, ◌≡◌, List, ◌∷◌, ◌++◌, true, cond, length, ltb}
+use Rattle.std.specs.Prelude.{ℕ, ◌≤◌, ◌≡◌, List, ◌∷◌, ◌++◌, true, cond, length, ltb, Ok, Err}
 use Rattle.base_status.specs.Rows.{row, word_of}
 use Rattle.base_status.specs.declared.Status.{Status}
 use Rattle.base_status.specs.declared.Status.TheVariants.{BufferShort}
@@ -8,7 +8,6 @@ use Rattle.card_record.specs.Answers.{sound_row}
 use Rattle.card_record.specs.declared.Card.{Card}
 use Rattle.read_command.specs.Reading.{reading_rows}
 use Rattle.read_operator.specs.Reading.{update_of}
-use Rattle.read_operator.specs.declared.Update.TheVariants as update
 use Rattle.rule_steps.specs.Asked.{Act.keyed, Act.stored, Act.finished, Act.set_policy, Asked.tick, Asked.lost}
 use Rattle.rule_steps.specs.Conditions.{card_rows}
 use Rattle.rule_steps.specs.Steps.{inner_work}
@@ -35,5 +34,5 @@ pub record TableParts (c : Card) (success : Status) : Type 0 where
   pub tick-rows : word_of success (rows_after c Tick) ≡ word_of success (card_rows c tick)
   pub lost-rows : word_of success (rows_after c Lost) ≡ word_of success (card_rows c lost)
   -- of a policy update: the buffer's row, then the word of its reader, or once it is read the row of its values and the card's rows
-  pub policy-refused : (speaker s : List ℕ) (room : ℕ) (word : Status) → update.Refused word ≡ update_of s → word_of success (rows_after c (PolicyUpdate speaker s room)) ≡ cond (ltb room least_buffer) BufferShort word
-  pub policy-read : (speaker s : List ℕ) (room policy : ℕ) → update.Read policy ≡ update_of s → word_of success (rows_after c (PolicyUpdate speaker s room)) ≡ cond (ltb room least_buffer) BufferShort (word_of success (inner_work c speaker (set_policy policy)).rows)
+  pub policy-refused : (speaker s : List ℕ) (room : ℕ) (word : Status) → Err word ≡ update_of s → word_of success (rows_after c (PolicyUpdate speaker s room)) ≡ cond (ltb room least_buffer) BufferShort word
+  pub policy-read : (speaker s : List ℕ) (room policy : ℕ) → Ok policy ≡ update_of s → word_of success (rows_after c (PolicyUpdate speaker s room)) ≡ cond (ltb room least_buffer) BufferShort (word_of success (inner_work c speaker (set_policy policy)).rows)

@@ -1,16 +1,14 @@
 -- Document 01, 'Status words': the table, row for row. "Given exactly when, in this order". This is the table; `reading_rows` of the
 -- reader, `inner_work`'s row and `card_rows` of the steps are parts of it (statement `TableParts`).
-use Rattle.std.specs.Prelude.{ℕ, List, [], ◌∷◌, Bool, true, false, not, ltb}
+use Rattle.std.specs.Prelude.{ℕ, List, [], ◌∷◌, Bool, true, false, ltb, Some, None}
 use Rattle.base_status.specs.Rows.{Row, row}
 use Rattle.base_status.specs.declared.Status.TheVariants.{BufferShort, LengthWrong, ClassWrong, InstructionWrong, ParametersWrong, DataWrong, StateWrong, NotHeld, PolicyForbids, VerdictWrong, NoRoom}
 use Rattle.card_record.specs.Answers.{sound_row}
 use Rattle.card_record.specs.declared.Card.{Card}
 use Rattle.read_frame.specs.Framing.{length_wrong, class_wrong, instruction_wrong, parameters_wrong, shape_wrong}
 use Rattle.read_command.specs.Requests.{data_wrong}
-use Rattle.read_operator.specs.Field.{policy_of}
+use Rattle.read_operator.specs.Field.{policy_of, Policy}
 use Rattle.read_operator.specs.Reading.{not_store_data}
-use Rattle.read_operator.specs.declared.Policy as operator
-use Rattle.read_operator.specs.declared.Policy.TheVariants as update
 use Rattle.rule_steps.specs.Asked.{Act.keyed, Act.stored, Act.finished, Act.set_policy}
 use Rattle.rule_steps.specs.Conditions.{inner_wrong, change_wrong, target_missing, already_held, state_wrong, policy_forbids, verdict_wrong, no_room}
 use Rattle.rule_run.specs.Calls.{Call, Call.Command, Call.Keyed, Call.Stored, Call.Finished, Call.Tick, Call.Lost, Call.PolicyUpdate, asked}
@@ -50,9 +48,9 @@ instruction_unknown Lost = false
 instruction_unknown (PolicyUpdate speaker s room) = not_store_data s
 
 -- a policy update's data field, or else its speaker and its policy (decision B83)
-abbrev pub update_wrong : List ℕ → operator.Policy → Bool
-update_wrong speaker update.Wrong = true
-update_wrong speaker (update.Found p) = inner_wrong speaker (set_policy p)
+abbrev pub update_wrong : List ℕ → Policy → Bool
+update_wrong speaker None = true
+update_wrong speaker (Some p) = inner_wrong speaker (set_policy p)
 
 -- "data field, DGI, or inner call's values wrong"
 abbrev pub values_wrong : Card → Call → Bool

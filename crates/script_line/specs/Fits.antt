@@ -1,6 +1,6 @@
 -- What an order promises to the calls above: each byte string that it names lies in the line, is well-formed and has at most 2,048
 -- bytes, and the buffer that a call lends has at most 1,024.
-use Rattle.std.specs.Prelude.{ℕ, ◌+◌, ◌≤◌, ◌<◌, ◌≡◌, List, true, length}
+use Rattle.std.specs.Prelude.{ℕ, ◌+◌, ◌≤◌, ◌<◌, ◌≡◌, List, true, length, Ok}
 use Rattle.text_words.specs.Hex.{is_hex}
 use Rattle.text_lines.specs.Lines.{longest}
 use Rattle.base_bytes.specs.declared.Part.{Part}
@@ -32,7 +32,6 @@ OrderFits s order.Nothing = Unit {0}
 OrderFits s (order.Fresh eid aid capacity quota used volatile) = Fits s eid × Fits s aid
 OrderFits s (order.Call x room) = CallFits s x × (room ≤ most_buffer)
 OrderFits s (order.Record at) = Unit {0}
-OrderFits s (order.Wrong why) = Unit {0}
 
 abbrev pub OrdersFit : Type 0
-OrdersFit = (s : List ℕ) (o : Order) → o ≡ order_of s → OrderFits s o
+OrdersFit = (s : List ℕ) (o : Order) → Ok o ≡ order_of s → OrderFits s o

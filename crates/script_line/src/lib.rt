@@ -1,17 +1,17 @@
 // What a line of a script means: the order that it gives, by its first word, or what is wrong with it. Every function answers for every line.
 #![tactic(auto)]
 
-ghost use Rattle.std.specs.Prelude.{◌≡◌};
-ghost use Rattle.script_line.specs.Orders.{verb_of, words_counted, inner, value_or, sent_at, fresh_with, fresh_at, command_at, keyed_at, stored_at, finished_at, policy_line_at, order_by, order_of};
+ghost use Rattle.std.specs.Prelude.{◌≡◌, ◌≤◌, Ok, IfOk};
+ghost use Rattle.script_line.specs.Orders.{verb_of, count_ok, inner, value_or, sent_at, fresh_with, fresh_at, command_at, keyed_at, stored_at, finished_at, policy_line_at, order_by, order_of};
 
 use base_bytes::{Part, same};
 use card_record::Card;
 use record_door::{Call, LEAST_BUFFER};
-use script_words::{Bytes, MOST_NUMBER, Reason, Value, next_bytes, next_value};
+use script_words::{MOST_NUMBER, Read, Reason, next_bytes, next_value};
 use text_lines::LONGEST;
-use text_words::{Word, count_words, next_word};
+use text_words::{Span, count_words, next_word};
 
-// A byte string stays in the line, where a part names the word that spells it: an enum holds no array.
+// A byte string stays in the line, where a part names the word that spells it: an order holds no bytes.
 #[derive(Clone, Copy)]
 pub enum Order {
     Nothing,
@@ -30,7 +30,6 @@ pub enum Order {
     },
     // The record's words begin at this place; `script_record::record_at` reads them.
     Record(usize),
-    Wrong(Reason),
 }
 
 // The largest response buffer that a line may ask for.
@@ -50,169 +49,143 @@ pub enum Verb {
     Lost,
     Policy,
     Card,
-    Unknown,
 }
 
-fn verb_of(w: &[u8]) -> Verb
+// Word after word, as in the table of the definition: a `match` on the byte strings is proved byte by byte, and its goals stay open.
+#[tactic(auto, unfolding(crate::specs::Orders::verb_of, crate::specs::Orders::verb_in, base_choice::specs::Choice::pick))]
+fn verb_of(w: &[u8]) -> Option<Verb>
     ensures { result ≡ verb_of w.now }
 {
     if same(w, b"fresh") {
-        return Verb::Fresh;
+        return Some(Verb::Fresh);
     }
     if same(w, b"command") {
-        return Verb::Command;
+        return Some(Verb::Command);
     }
     if same(w, b"keyed") {
-        return Verb::Keyed;
+        return Some(Verb::Keyed);
     }
     if same(w, b"stored") {
-        return Verb::Stored;
+        return Some(Verb::Stored);
     }
     if same(w, b"finished") {
-        return Verb::Finished;
+        return Some(Verb::Finished);
     }
     if same(w, b"tick") {
-        return Verb::Tick;
+        return Some(Verb::Tick);
     }
     if same(w, b"lost") {
-        return Verb::Lost;
+        return Some(Verb::Lost);
     }
     if same(w, b"policy") {
-        return Verb::Policy;
+        return Some(Verb::Policy);
     }
     if same(w, b"card") {
-        return Verb::Card;
+        return Some(Verb::Card);
     }
-    Verb::Unknown
+    None
 }
 
-// The order, where the line has the words that it should have.
-fn words_counted(least: usize, most: usize, n: usize, order: Order) -> Order
-    ensures { result ≡ words_counted least most n order }
+// The line has from `least` to `most` words.
+#[tactic(auto, unfolding(crate::specs::Orders::count_ok, base_choice::specs::Choice::pick, base_choice::specs::Choice::is_below))]
+fn count_ok(least: usize, most: usize, n: usize) -> Result<(), Reason>
+    ensures { result ≡ count_ok least most n }
 {
     if n < least {
-        return Order::Wrong(Reason::WordsMissing);
+        return Err(Reason::WordsMissing);
     }
     if most < n {
-        return Order::Wrong(Reason::TooManyWords);
+        return Err(Reason::TooManyWords);
     }
-    order
+    Ok(())
 }
 
 // CAPACITY QUOTA USED VOLATILE.
-fn fresh_with(s: &[u8], at: usize, eid: Part, aid: Part) -> Order
+#[tactic(auto, unfolding(crate::specs::Orders::fresh_with))]
+fn fresh_with(s: &[u8], at: usize, eid: Part, aid: Part) -> Result<Order, Reason>
     ensures { result ≡ fresh_with s.now at eid aid }
 {
-    match next_value(s, at, MOST_NUMBER) {
-        Value::Wrong(why) => Order::Wrong(why),
-        Value::Is {
-            n: capacity,
-            next: b,
-        } => match next_value(s, b, MOST_NUMBER) {
-            Value::Wrong(why) => Order::Wrong(why),
-            Value::Is { n: quota, next: c } => match next_value(s, c, MOST_NUMBER) {
-                Value::Wrong(why) => Order::Wrong(why),
-                Value::Is { n: used, next: d } => match next_value(s, d, MOST_NUMBER) {
-                    Value::Wrong(why) => Order::Wrong(why),
-                    Value::Is {
-                        n: volatile,
-                        next: _,
-                    } => Order::Fresh {
-                        eid,
-                        aid,
-                        capacity,
-                        quota,
-                        used,
-                        volatile,
-                    },
-                },
-            },
-        },
-    }
+    let capacity = next_value(s, at, MOST_NUMBER)?;
+    let quota = next_value(s, capacity.next, MOST_NUMBER)?;
+    let used = next_value(s, quota.next, MOST_NUMBER)?;
+    let volatile = next_value(s, used.next, MOST_NUMBER)?;
+    Ok(Order::Fresh {
+        eid,
+        aid,
+        capacity: capacity.value,
+        quota: quota.value,
+        used: used.value,
+        volatile: volatile.value,
+    })
 }
 
-fn fresh_order(s: &[u8], at: usize) -> Order
+#[tactic(auto, unfolding(crate::specs::Orders::fresh_at))]
+fn fresh_order(s: &[u8], at: usize) -> Result<Order, Reason>
     ensures { result ≡ fresh_at s.now at }
 {
-    match next_bytes(s, at) {
-        Bytes::Wrong(why) => Order::Wrong(why),
-        Bytes::Is { part: eid, next: b } => match next_bytes(s, b) {
-            Bytes::Wrong(why) => Order::Wrong(why),
-            Bytes::Is { part: aid, next: c } => fresh_with(s, c, eid, aid),
-        },
-    }
+    let eid = next_bytes(s, at)?;
+    let aid = next_bytes(s, eid.next)?;
+    fresh_with(s, aid.next, eid.value, aid.value)
 }
 
 // The last word, a number, which may be missing and then counts as `missing`.
-fn next_or(missing: u32, most: u32, s: &[u8], at: usize) -> Value
-    ensures { result ≡ value_or missing most s.now at }
+#[tactic(auto, unfolding(crate::specs::Orders::value_or))]
+fn next_or(missing: u32, most: u32, s: &[u8], at: usize) -> Result<Read<u32>, Reason>
+    ensures value { result ≡ value_or missing most s.now at }
+    ensures within { missing ≤ most → IfOk result (λ v. v.value ≤ most) }
 {
-    let Word::Span { .. } = next_word(s, at) else {
-        return Value::Is {
-            n: missing,
+    if next_word(s, at).is_none() {
+        return Ok(Read {
+            value: missing,
             next: at,
-        };
-    };
+        });
+    }
     next_value(s, at, most)
 }
 
 // A command as it was sent, and the length of the response buffer lent to it.
 #[derive(Clone, Copy)]
-pub enum Sent {
-    Is { bytes: Part, room: usize },
-    Wrong(Reason),
+pub struct Sent {
+    pub bytes: Part,
+    pub room: usize,
 }
 
-fn next_sent(s: &[u8], at: usize) -> Sent
+#[tactic(auto, unfolding(crate::specs::Orders::sent_at))]
+fn next_sent(s: &[u8], at: usize) -> Result<Sent, Reason>
     ensures { result ≡ sent_at s.now at }
 {
-    match next_bytes(s, at) {
-        Bytes::Wrong(why) => Sent::Wrong(why),
-        Bytes::Is {
-            part: bytes,
-            next: b,
-        } => match next_or(LEAST_BUFFER as u32, MOST_ROOM as u32, s, b) {
-            Value::Wrong(why) => Sent::Wrong(why),
-            Value::Is { n, next: _ } => {
-                let room = n as usize;
-                Sent::Is { bytes, room }
-            }
-        },
-    }
+    let bytes = next_bytes(s, at)?;
+    let length = next_or(LEAST_BUFFER as u32, MOST_ROOM as u32, s, bytes.next)?;
+    Ok(Sent {
+        bytes: bytes.value,
+        room: length.value as usize,
+    })
 }
 
-fn command_order(s: &[u8], at: usize) -> Order
+#[tactic(auto, unfolding(crate::specs::Orders::command_at))]
+fn command_order(s: &[u8], at: usize) -> Result<Order, Reason>
     ensures { result ≡ command_at s.now at }
 {
-    match next_value(s, at, 255) {
-        Value::Wrong(why) => Order::Wrong(why),
-        Value::Is { n, next: b } => match next_sent(s, b) {
-            Sent::Wrong(why) => Order::Wrong(why),
-            Sent::Is { bytes, room } => {
-                let verdict = n as u8;
-                let call = Call::Command { verdict, bytes };
-                Order::Call { call, room }
-            }
-        },
-    }
+    let verdict = next_value(s, at, 255)?;
+    let Sent { bytes, room } = next_sent(s, verdict.next)?;
+    let call = Call::Command {
+        verdict: verdict.value as u8,
+        bytes,
+    };
+    Ok(Order::Call { call, room })
 }
 
-fn policy_order(s: &[u8], at: usize) -> Order
+#[tactic(auto, unfolding(crate::specs::Orders::policy_line_at))]
+fn policy_order(s: &[u8], at: usize) -> Result<Order, Reason>
     ensures { result ≡ policy_line_at s.now at }
 {
-    match next_bytes(s, at) {
-        Bytes::Wrong(why) => Order::Wrong(why),
-        Bytes::Is {
-            part: speaker,
-            next: b,
-        } => match next_sent(s, b) {
-            Sent::Wrong(why) => Order::Wrong(why),
-            Sent::Is { bytes, room } => {
-                let call = Call::PolicyUpdate { speaker, bytes };
-                Order::Call { call, room }
-            }
-        },
-    }
+    let speaker = next_bytes(s, at)?;
+    let Sent { bytes, room } = next_sent(s, speaker.next)?;
+    let call = Call::PolicyUpdate {
+        speaker: speaker.value,
+        bytes,
+    };
+    Ok(Order::Call { call, room })
 }
 
 // A call that has no response lends no buffer.
@@ -222,76 +195,99 @@ fn inner(call: Call) -> Order
     Order::Call { call, room: 0 }
 }
 
-fn keyed_order(s: &[u8], at: usize) -> Order
+#[tactic(auto, unfolding(crate::specs::Orders::keyed_at))]
+fn keyed_order(s: &[u8], at: usize) -> Result<Order, Reason>
     ensures { result ≡ keyed_at s.now at }
 {
-    match next_bytes(s, at) {
-        Bytes::Wrong(why) => Order::Wrong(why),
-        Bytes::Is { part: aid, next: _ } => inner(Call::Keyed(aid)),
-    }
+    let aid = next_bytes(s, at)?;
+    Ok(inner(Call::Keyed(aid.value)))
 }
 
-fn stored_order(s: &[u8], at: usize) -> Order
+#[tactic(auto, unfolding(crate::specs::Orders::stored_at))]
+fn stored_order(s: &[u8], at: usize) -> Result<Order, Reason>
     ensures { result ≡ stored_at s.now at }
 {
-    match next_bytes(s, at) {
-        Bytes::Wrong(why) => Order::Wrong(why),
-        Bytes::Is { part: aid, next: b } => match next_value(s, b, MOST_NUMBER) {
-            Value::Wrong(why) => Order::Wrong(why),
-            Value::Is { n, next: _ } => inner(Call::Stored { aid, n }),
-        },
-    }
+    let aid = next_bytes(s, at)?;
+    let used = next_value(s, aid.next, MOST_NUMBER)?;
+    Ok(inner(Call::Stored {
+        aid: aid.value,
+        n: used.value,
+    }))
 }
 
-fn finished_order(s: &[u8], at: usize) -> Order
+#[tactic(auto, unfolding(crate::specs::Orders::finished_at))]
+fn finished_order(s: &[u8], at: usize) -> Result<Order, Reason>
     ensures { result ≡ finished_at s.now at }
 {
-    match next_bytes(s, at) {
-        Bytes::Wrong(why) => Order::Wrong(why),
-        Bytes::Is { part: aid, next: b } => match next_value(s, b, 255) {
-            Value::Wrong(why) => Order::Wrong(why),
-            Value::Is { n: policy, next: c } => match next_or(1, 255, s, c) {
-                Value::Wrong(why) => Order::Wrong(why),
-                Value::Is { n: mark, next: _ } => inner(Call::Finished {
-                    aid,
-                    policy: policy as u8,
-                    mark: mark as u8,
-                }),
-            },
-        },
-    }
+    let aid = next_bytes(s, at)?;
+    let policy = next_value(s, aid.next, 255)?;
+    let mark = next_or(1, 255, s, policy.next)?;
+    Ok(inner(Call::Finished {
+        aid: aid.value,
+        policy: policy.value as u8,
+        mark: mark.value as u8,
+    }))
 }
 
 // The order by its first word, of a line of n words.
-fn order_by(verb: Verb, n: usize, s: &[u8], at: usize) -> Order
+#[tactic(auto, unfolding(crate::specs::Orders::order_by, crate::specs::Orders::words_counted))]
+fn order_by(verb: Verb, n: usize, s: &[u8], at: usize) -> Result<Order, Reason>
     ensures { result ≡ order_by verb n s.now at }
 {
     match verb {
-        Verb::Fresh => words_counted(7, 7, n, fresh_order(s, at)),
-        Verb::Command => words_counted(3, 4, n, command_order(s, at)),
-        Verb::Keyed => words_counted(2, 2, n, keyed_order(s, at)),
-        Verb::Stored => words_counted(3, 3, n, stored_order(s, at)),
-        Verb::Finished => words_counted(3, 4, n, finished_order(s, at)),
-        Verb::Tick => words_counted(1, 1, n, inner(Call::Tick)),
-        Verb::Lost => words_counted(1, 1, n, inner(Call::Lost)),
-        Verb::Policy => words_counted(3, 4, n, policy_order(s, at)),
-        Verb::Card => words_counted(RECORD, RECORD, n, Order::Record(at)),
-        Verb::Unknown => Order::Wrong(Reason::UnknownWord),
+        Verb::Fresh => {
+            count_ok(7, 7, n)?;
+            fresh_order(s, at)
+        }
+        Verb::Command => {
+            count_ok(3, 4, n)?;
+            command_order(s, at)
+        }
+        Verb::Keyed => {
+            count_ok(2, 2, n)?;
+            keyed_order(s, at)
+        }
+        Verb::Stored => {
+            count_ok(3, 3, n)?;
+            stored_order(s, at)
+        }
+        Verb::Finished => {
+            count_ok(3, 4, n)?;
+            finished_order(s, at)
+        }
+        Verb::Tick => {
+            count_ok(1, 1, n)?;
+            Ok(inner(Call::Tick))
+        }
+        Verb::Lost => {
+            count_ok(1, 1, n)?;
+            Ok(inner(Call::Lost))
+        }
+        Verb::Policy => {
+            count_ok(3, 4, n)?;
+            policy_order(s, at)
+        }
+        Verb::Card => {
+            count_ok(RECORD, RECORD, n)?;
+            Ok(Order::Record(at))
+        }
     }
 }
 
 // What a line says, given without its line end.
-pub fn read_line(s: &[u8]) -> Order
+#[tactic(auto, unfolding(crate::specs::Orders::order_of, base_choice::specs::Choice::pick, base_choice::specs::Choice::is_below, base_choice::specs::Choice::is_same))]
+pub fn read_line(s: &[u8]) -> Result<Order, Reason>
     ensures { result ≡ order_of s.now }
 {
     if LONGEST < s.len() {
-        return Order::Wrong(Reason::TooLong);
+        return Err(Reason::TooLong);
     }
-    let Word::Span { from, to } = next_word(s, 0) else {
-        return Order::Nothing;
+    let Some(Span { from, to }) = next_word(s, 0) else {
+        return Ok(Order::Nothing);
     };
     if s[from] == b'#' {
-        return Order::Nothing;
+        return Ok(Order::Nothing);
     }
-    order_by(verb_of(&s[from..to]), count_words(s), s, to)
+    let verb = verb_of(&s[from..to]).ok_or(Reason::UnknownWord)?;
+    order_by(verb, count_words(s), s, to)
 }

@@ -7,7 +7,7 @@ use lib.ListN.{length, drop, replicate}
 use lib.Seq.{take_all}
 use Rattle.base_bytes.specs.Put.{put}
 use Rattle.text_words.specs.Hex.{is_hex, spelled, hex_read_of, hex_left}
-use Rattle.text_words.specs.declared.hex.HexRead.TheVariants.{Bytes}
+use Rattle.std.specs.Prelude.{Ok}
 use Rattle.base_bytes.proofs.PutLaws.{put_front}
 use Rattle.text_words.proofs.HexLaws.{hex-fits, hex-full, hex-wrong, spelled-length}
 use Rattle.base_choice.proofs.Branches.{on_test, on-lt}
@@ -16,7 +16,7 @@ use Rattle.card_isdp.proofs.Bytes.{pad-whole}
 use Rattle.script_record.specs.Colons.{place_with}
 use Rattle.script_record.specs.Records.{record_with}
 
-pub hex-taken : (s : List ℕ) (room n : ℕ) → Bytes n ≡ hex_read_of s room → (n ≡ length (spelled s)) × ((n ≤ room) × (spelled s ≡ hex_left s room))
+pub hex-taken : (s : List ℕ) (room n : ℕ) → Ok n ≡ hex_read_of s room → (n ≡ length (spelled s)) × ((n ≤ room) × (spelled s ≡ hex_left s room))
 hex-taken s room n q =
     let k = spelled-length s in
     on_test (is_hex s)
@@ -43,13 +43,13 @@ put-padded vs h =
     ∙ ap (λ (l : List ℕ). vs ++ l) (drop-zeros (length vs) 16)
     ∙ ap (λ (l : List ℕ). l ++ replicate (16 - length vs) 0) (sym (take_all 16 vs h))
 
-pub aid-read : (s l : List ℕ) (n : ℕ) → Bytes n ≡ hex_read_of s 16 → l ≡ put (replicate 16 0) 0 (hex_left s 16) → l ≡ padded (spelled s)
+pub aid-read : (s l : List ℕ) (n : ℕ) → Ok n ≡ hex_read_of s 16 → l ≡ put (replicate 16 0) 0 (hex_left s 16) → l ≡ padded (spelled s)
 aid-read s l n q e =
     let t = hex-taken s 16 n q in
     let h : length (spelled s) ≤ 16 = omega arith in
     e ∙ ap (put (replicate 16 0) 0) (sym t.1.1) ∙ put-padded (spelled s) h
 
-pub eid-read : (s l : List ℕ) (n : ℕ) → Bytes n ≡ hex_read_of s 16 → n ≡ 16 → l ≡ put (replicate 16 0) 0 (hex_left s 16) → l ≡ spelled s
+pub eid-read : (s l : List ℕ) (n : ℕ) → Ok n ≡ hex_read_of s 16 → n ≡ 16 → l ≡ put (replicate 16 0) 0 (hex_left s 16) → l ≡ spelled s
 eid-read s l n q m e =
     let t = hex-taken s 16 n q in
     let h : length (spelled s) ≡ 16 = omega arith in

@@ -4,304 +4,178 @@
 
 mod colons;
 
-ghost use Rattle.std.specs.Prelude.{◌≡◌, []};
+ghost use Rattle.std.specs.Prelude.{◌≡◌, ◌≤◌, [], IfSome, IfOk};
 ghost use Rattle.card_isdp.specs.Sizes.{most_places};
-ghost use Rattle.script_record.specs.Records.{phase_at, kept_in, kept_at, pending_at, record_memory_at, record_head_at, not_held, places_on, no_record, fine, record_with, record_at};
+ghost use Rattle.card_record.specs.Cards.{no_place};
+ghost use Rattle.script_record.specs.Records.{phase_at, kept_in, kept_at, pending_at, record_memory_at, record_head_at, place_at, places_on, record_with, record_at};
 
 use base_bytes::same;
 use card_isdp::Isdp;
 use card_record::{Card, Phase};
-use colons::{Phased, read_phase, read_place};
-use script_words::{MOST_NUMBER, Reason, Value, next_value};
-use text_words::{HexRead, Number, Word, decimal, next_word, read_hex};
+use colons::{read_phase, read_place};
+use script_words::{MOST_NUMBER, Read, Reason, next_value};
+use text_words::{Span, decimal, next_word, read_hex};
 
-#[derive(Clone, Copy)]
-pub enum PhaseRead {
-    Is { phase: Phase, next: usize },
-    Wrong(Reason),
-}
-
-fn next_phase(s: &[u8], at: usize) -> PhaseRead
+#[tactic(auto, unfolding(crate::specs::Records::phase_at))]
+fn next_phase(s: &[u8], at: usize) -> Result<Read<Phase>, Reason>
     ensures { result ≡ phase_at s.now at }
 {
-    let Word::Span { from, to } = next_word(s, at) else {
-        return PhaseRead::Wrong(Reason::WordsMissing);
-    };
-    let Phased::Is(phase) = read_phase(&s[from..to]) else {
-        return PhaseRead::Wrong(Reason::BadPhase);
-    };
-    PhaseRead::Is { phase, next: to }
+    let Span { from, to } = next_word(s, at).ok_or(Reason::WordsMissing)?;
+    let value = read_phase(&s[from..to]).ok_or(Reason::BadPhase)?;
+    Ok(Read { value, next: to })
 }
 
 // KEPT: no number spells `Card::NO_PLACE`.
-fn kept_in(w: &[u8]) -> Number
-    ensures { result ≡ kept_in w.now }
+#[tactic(auto, unfolding(crate::specs::Records::kept_in, base_choice::specs::Choice::pick))]
+fn kept_in(w: &[u8]) -> Option<u32>
+    ensures value { result ≡ kept_in w.now }
+    ensures within { IfSome result (λ n. n ≤ no_place) }
 {
     if same(w, b"-") {
-        return Number::Value(Card::NO_PLACE as u32);
+        return Some(Card::NO_PLACE as u32);
     }
     decimal(w, 254)
 }
 
-fn next_kept(s: &[u8], at: usize) -> Value
-    ensures { result ≡ kept_at s.now at }
+#[tactic(auto, unfolding(crate::specs::Records::kept_at))]
+fn next_kept(s: &[u8], at: usize) -> Result<Read<u32>, Reason>
+    ensures value { result ≡ kept_at s.now at }
+    ensures within { IfOk result (λ v. v.value ≤ no_place) }
 {
-    let Word::Span { from, to } = next_word(s, at) else {
-        return Value::Wrong(Reason::WordsMissing);
-    };
-    let Number::Value(n) = kept_in(&s[from..to]) else {
-        return Value::Wrong(Reason::BadNumber);
-    };
-    Value::Is { n, next: to }
+    let Span { from, to } = next_word(s, at).ok_or(Reason::WordsMissing)?;
+    let value = kept_in(&s[from..to]).ok_or(Reason::BadNumber)?;
+    Ok(Read { value, next: to })
 }
 
 // The change and the listing that are open.
 #[derive(Clone, Copy)]
-pub enum Pending {
-    Is { phase: Phase, kept: u8, next: usize },
-    Wrong(Reason),
+pub struct Pending {
+    pub phase: Phase,
+    pub kept: u8,
 }
 
-fn pending_at(s: &[u8], at: usize) -> Pending
+#[tactic(auto, unfolding(crate::specs::Records::pending_at))]
+fn pending_at(s: &[u8], at: usize) -> Result<Read<Pending>, Reason>
     ensures { result ≡ pending_at s.now at }
 {
-    match next_phase(s, at) {
-        PhaseRead::Wrong(why) => Pending::Wrong(why),
-        PhaseRead::Is { phase, next: b } => match next_kept(s, b) {
-            Value::Wrong(why) => Pending::Wrong(why),
-            Value::Is { n: kept, next } => Pending::Is {
-                phase,
-                kept: kept as u8,
-                next,
-            },
+    let phase = next_phase(s, at)?;
+    let kept = next_kept(s, phase.next)?;
+    Ok(Read {
+        value: Pending {
+            phase: phase.value,
+            kept: kept.value as u8,
         },
-    }
+        next: kept.next,
+    })
 }
 
 // The figures of the card's memory, which stand after the EID.
 #[derive(Clone, Copy)]
-pub enum Memory {
-    Is {
-        capacity: u32,
-        volatile: u32,
-        free: u32,
-        next: usize,
-    },
-    Wrong(Reason),
+pub struct Memory {
+    pub capacity: u32,
+    pub volatile: u32,
+    pub free: u32,
 }
 
-fn record_memory_at(s: &[u8], at: usize) -> Memory
+#[tactic(auto, unfolding(crate::specs::Records::record_memory_at))]
+fn record_memory_at(s: &[u8], at: usize) -> Result<Read<Memory>, Reason>
     ensures { result ≡ record_memory_at s.now at }
 {
-    match next_value(s, at, MOST_NUMBER) {
-        Value::Wrong(why) => Memory::Wrong(why),
-        Value::Is {
-            n: capacity,
-            next: b,
-        } => match next_value(s, b, MOST_NUMBER) {
-            Value::Wrong(why) => Memory::Wrong(why),
-            Value::Is {
-                n: volatile,
-                next: c,
-            } => match next_value(s, c, MOST_NUMBER) {
-                Value::Wrong(why) => Memory::Wrong(why),
-                Value::Is { n: free, next } => Memory::Is {
-                    capacity,
-                    volatile,
-                    free,
-                    next,
-                },
-            },
+    let capacity = next_value(s, at, MOST_NUMBER)?;
+    let volatile = next_value(s, capacity.next, MOST_NUMBER)?;
+    let free = next_value(s, volatile.next, MOST_NUMBER)?;
+    Ok(Read {
+        value: Memory {
+            capacity: capacity.value,
+            volatile: volatile.value,
+            free: free.value,
         },
-    }
+        next: free.next,
+    })
 }
 
 // What stands between the EID and the places.
 #[derive(Clone, Copy)]
-pub enum Head {
-    Is {
-        capacity: u32,
-        volatile: u32,
-        free: u32,
-        last: u16,
-        fallback: u8,
-        phase: Phase,
-        kept: u8,
-        next: usize,
-    },
-    Wrong(Reason),
+pub struct Head {
+    pub memory: Memory,
+    pub last: u16,
+    pub fallback: u8,
+    pub pending: Pending,
 }
 
-fn record_head_at(s: &[u8], at: usize) -> Head
+#[tactic(auto, unfolding(crate::specs::Records::record_head_at))]
+fn record_head_at(s: &[u8], at: usize) -> Result<Read<Head>, Reason>
     ensures { result ≡ record_head_at s.now at }
 {
-    match record_memory_at(s, at) {
-        Memory::Wrong(why) => Head::Wrong(why),
-        Memory::Is {
-            capacity,
-            volatile,
-            free,
-            next: b,
-        } => match next_value(s, b, 65535) {
-            Value::Wrong(why) => Head::Wrong(why),
-            Value::Is { n: last, next: c } => match next_value(s, c, 255) {
-                Value::Wrong(why) => Head::Wrong(why),
-                Value::Is {
-                    n: fallback,
-                    next: d,
-                } => match pending_at(s, d) {
-                    Pending::Wrong(why) => Head::Wrong(why),
-                    Pending::Is { phase, kept, next } => Head::Is {
-                        capacity,
-                        volatile,
-                        free,
-                        last: last as u16,
-                        fallback: fallback as u8,
-                        phase,
-                        kept,
-                        next,
-                    },
-                },
-            },
+    let memory = record_memory_at(s, at)?;
+    let last = next_value(s, memory.next, 65535)?;
+    let fallback = next_value(s, last.next, 255)?;
+    let pending = pending_at(s, fallback.next)?;
+    Ok(Read {
+        value: Head {
+            memory: memory.value,
+            last: last.value as u16,
+            fallback: fallback.value as u8,
+            pending: pending.value,
         },
-    }
+        next: pending.next,
+    })
 }
 
-#[derive(Clone, Copy)]
-pub enum Reading {
-    Fine,
-    Wrong(Reason),
-}
-
-#[derive(Clone, Copy)]
-pub struct Held {
-    pub reading: Reading,
-    pub places: [Isdp; Card::PLACES],
-}
-
-fn not_held(why: Reason) -> Held
-    ensures { result ≡ not_held why }
+#[tactic(auto, unfolding(crate::specs::Records::place_at))]
+fn next_place(s: &[u8], at: usize) -> Result<Read<Isdp>, Reason>
+    ensures { result ≡ place_at s.now at }
 {
-    let none = Isdp::none();
-    let places = [none; Card::PLACES];
-    Held {
-        reading: Reading::Wrong(why),
-        places,
-    }
+    let Span { from, to } = next_word(s, at).ok_or(Reason::WordsMissing)?;
+    let value = read_place(&s[from..to]).ok_or(Reason::BadPlace)?;
+    Ok(Read { value, next: to })
 }
 
-fn read_places(s: &[u8], start: usize) -> Held
+fn read_places(s: &[u8], start: usize) -> Result<[Isdp; Card::PLACES], Reason>
     ensures { result ≡ places_on most_places s.now start [] }
 {
-    let none = Isdp::none();
-    let mut places = [none; Card::PLACES];
+    let mut places = [Isdp::none(); Card::PLACES];
     let mut at = start;
-    let mut i = 0;
-    while i < Card::PLACES {
-        let Word::Span { from, to } = next_word(s, at) else {
-            return not_held(Reason::WordsMissing);
-        };
-        let placed = read_place(&s[from..to]);
-        if !placed.ok {
-            return not_held(Reason::BadPlace);
-        }
-        let place = placed.place;
-        places[i] = place;
-        at = to;
-        i += 1;
+    for i in 0..Card::PLACES {
+        let place = next_place(s, at)?;
+        places[i] = place.value;
+        at = place.next;
     }
-    Held {
-        reading: Reading::Fine,
-        places,
-    }
-}
-
-// The card is the record of zeros where the line is wrong.
-#[derive(Clone, Copy)]
-pub struct Record {
-    pub reading: Reading,
-    pub card: Card,
-}
-
-fn no_record(why: Reason) -> Record
-    ensures { result ≡ no_record why }
-{
-    let card = Card::zero();
-    Record {
-        reading: Reading::Wrong(why),
-        card,
-    }
-}
-
-fn fine(
-    eid: [u8; 16],
-    capacity: u32,
-    volatile: u32,
-    free: u32,
-    last: u16,
-    fallback: u8,
-    phase: Phase,
-    kept: u8,
-    places: [Isdp; Card::PLACES],
-) -> Record
-    ensures { result ≡ fine eid capacity volatile free last fallback phase kept places }
-{
-    let card = Card::with(
-        eid, capacity, volatile, free, last, fallback, phase, kept, places,
-    );
-    Record {
-        reading: Reading::Fine,
-        card,
-    }
+    Ok(places)
 }
 
 // What stands after the EID.
-fn record_with(s: &[u8], at: usize, eid: [u8; 16]) -> Record
+#[tactic(auto, unfolding(crate::specs::Records::record_with))]
+fn record_with(s: &[u8], at: usize, eid: [u8; 16]) -> Result<Card, Reason>
     ensures { result ≡ record_with s.now at eid }
 {
-    match record_head_at(s, at) {
-        Head::Wrong(why) => no_record(why),
-        Head::Is {
-            capacity,
-            volatile,
-            free,
-            last,
-            fallback,
-            phase,
-            kept,
-            next,
-        } => {
-            let held = read_places(s, next);
-            let reading = held.reading;
-            match reading {
-                Reading::Wrong(why) => no_record(why),
-                Reading::Fine => {
-                    let places = held.places;
-                    fine(
-                        eid, capacity, volatile, free, last, fallback, phase, kept, places,
-                    )
-                }
-            }
-        }
-    }
+    let Read { value: head, next } = record_head_at(s, at)?;
+    let places = read_places(s, next)?;
+    Ok(Card::with(
+        eid,
+        head.memory.capacity,
+        head.memory.volatile,
+        head.memory.free,
+        head.last,
+        head.fallback,
+        head.pending.phase,
+        head.pending.kept,
+        places,
+    ))
 }
 
 // The record of the words after `card`.
-pub fn record_at(s: &[u8], at: usize) -> Record
+#[tactic(auto, unfolding(crate::specs::Records::record_at, base_choice::specs::Choice::pick, base_choice::specs::Choice::is_same))]
+pub fn record_at(s: &[u8], at: usize) -> Result<Card, Reason>
     ensures { result ≡ record_at s.now at }
 {
-    let Word::Span { from, to } = next_word(s, at) else {
-        return no_record(Reason::WordsMissing);
-    };
+    let Span { from, to } = next_word(s, at).ok_or(Reason::WordsMissing)?;
     let mut eid = [0u8; 16];
-    match read_hex(&s[from..to], &mut eid) {
-        HexRead::NoRoom => no_record(Reason::BadHex),
-        HexRead::Wrong => no_record(Reason::BadHex),
-        HexRead::Bytes(n) => {
-            if n == 16 {
-                return record_with(s, to, eid);
-            }
-            no_record(Reason::BadHex)
-        }
+    let Ok(n) = read_hex(&s[from..to], &mut eid) else {
+        return Err(Reason::BadHex);
+    };
+    if n != 16 {
+        return Err(Reason::BadHex);
     }
+    record_with(s, to, eid)
 }

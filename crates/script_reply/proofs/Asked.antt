@@ -3,7 +3,7 @@
 use mathlib.Core.Path.{◌≡◌, refl, ap, sym, ◌∙◌}
 use Prim.Native.Nat.{ℕ, suc}
 use mathlib.Core.List.{List, [], ◌∷◌, ◌++◌}
-use mathlib.Core.Bool.{Bool, true, false, not, cond, ◌&&◌, false≢true}
+use mathlib.Core.Bool.{Bool, true, false, cond, ◌&&◌, false≢true}
 use Rattle.base_status.specs.StatusWords.{is_done}
 use Rattle.base_status.specs.Rows.{word_of}
 use Rattle.card_isdp.proofs.Bools.{and_r}
@@ -16,11 +16,12 @@ use Rattle.rule_run.specs.Calls.{Call}
 use Rattle.rule_run.specs.Step.{step}
 use Rattle.rule_run.proofs.Kept.{on-sound-agrees, step-sound}
 use Rattle.script_line.specs.Orders.{order_of}
-use Rattle.script_record.specs.Records.{on_reading, record_at}
+use Rattle.std.specs.Prelude.{Result, Ok, Err}
+use Rattle.script_words.specs.Arguments.{on_ok}
+use Rattle.script_words.specs.declared.Reason.{Reason}
+use Rattle.script_record.specs.Records.{record_at}
 use Rattle.script_line.specs.declared.Order.{Order}
 use Rattle.script_line.specs.declared.Order.TheVariants as order
-use Rattle.script_record.specs.declared.Reading.{Reading}
-use Rattle.script_record.specs.declared.Reading.TheVariants as reading
 use Rattle.script_reply.specs.Replies.{spelled_bytes, bytes_in, call_spelled, record_work, record_outcome, reply_of, first_reply, fault_reply, answer_to, Reply, reply_by, reply_to_line, checked_line, script_of, checked_script, CheckedOnce}
 
 -- the flag is right: where it says that the card is sound, it is
@@ -37,25 +38,28 @@ unfolding word_of
 record-flag c true e = λ z. rw (checked c (record_work c) e (λ y. e)) e
 record-flag c false e = λ z. absurd (false≢true (sym (ap (λ (o : _). is_done o.status) (stopped c (record_work c) e)) ∙ z))
 
-reading-flag : (c : Card) (found explain : Bool) (n : ℕ) (d : Card) (r : Reading) → Right c found
-    → Right (on_reading r (fault_reply c found n) (first_reply explain (record_outcome d))).card (on_reading r (fault_reply c found n) (first_reply explain (record_outcome d))).sound
-reading-flag c found explain n d (reading.Wrong why) h = h
-reading-flag c found explain n d reading.Fine h = record-flag d (sound d) refl
+-- what a `card` line comes to, of the record that it hands in
+abbrev record-reply : Card → Bool → Bool → ℕ → Result Card Reason → Reply
+record-reply c found explain n r = on_ok r (fault_reply c found n) λ d. first_reply explain (record_outcome d)
+
+record-right : (c : Card) (found explain : Bool) (n : ℕ) (r : Result Card Reason) → Right c found → Right (record-reply c found explain n r).card (record-reply c found explain n r).sound
+record-right c found explain n (Err why) h = h
+record-right c found explain n (Ok d) h = record-flag d (sound d) refl
 
 -- a line
-orders-agree : (c : Card) (found explain : Bool) (n : ℕ) (s : List ℕ) (o : Order) → Right c found → reply_by (answer_to found c) c found explain n s o ≡ reply_by (step c) c found explain n s o
-orders-agree c found explain n s order.Nothing h = refl
-orders-agree c found explain n s (order.Fresh eid aid capacity quota used volatile) h = refl
-orders-agree c found explain n s (order.Call x room) h = ap (reply_of explain found (bytes_in s x)) (answers_agree c found (call_spelled s room x) h)
-orders-agree c found explain n s (order.Record at) h = refl
-orders-agree c found explain n s (order.Wrong reason) h = refl
+orders-agree : (c : Card) (found explain : Bool) (n : ℕ) (s : List ℕ) (o : Result Order Reason) → Right c found → reply_by (answer_to found c) c found explain n s o ≡ reply_by (step c) c found explain n s o
+orders-agree c found explain n s (Err reason) h = refl
+orders-agree c found explain n s (Ok order.Nothing) h = refl
+orders-agree c found explain n s (Ok (order.Fresh eid aid capacity quota used volatile)) h = refl
+orders-agree c found explain n s (Ok (order.Call x room)) h = ap (reply_of explain found (bytes_in s x)) (answers_agree c found (call_spelled s room x) h)
+orders-agree c found explain n s (Ok (order.Record at)) h = refl
 
-order-flag : (c : Card) (found explain : Bool) (n : ℕ) (s : List ℕ) (o : Order) → Right c found → Right (reply_by (step c) c found explain n s o).card (reply_by (step c) c found explain n s o).sound
-order-flag c found explain n s order.Nothing h = h
-order-flag c found explain n s (order.Fresh eid aid capacity quota used volatile) h = fresh-sound (spelled_bytes s eid) (spelled_bytes s aid) capacity quota used volatile
-order-flag c found explain n s (order.Call x room) h = λ z. step-sound c (call_spelled s room x) (h z)
-order-flag c found explain n s (order.Record at) h = reading-flag c found explain n (record_at s at).card (record_at s at).reading h
-order-flag c found explain n s (order.Wrong reason) h = h
+order-flag : (c : Card) (found explain : Bool) (n : ℕ) (s : List ℕ) (o : Result Order Reason) → Right c found → Right (reply_by (step c) c found explain n s o).card (reply_by (step c) c found explain n s o).sound
+order-flag c found explain n s (Err reason) h = h
+order-flag c found explain n s (Ok order.Nothing) h = h
+order-flag c found explain n s (Ok (order.Fresh eid aid capacity quota used volatile)) h = fresh-sound (spelled_bytes s eid) (spelled_bytes s aid) capacity quota used volatile
+order-flag c found explain n s (Ok (order.Call x room)) h = λ z. step-sound c (call_spelled s room x) (h z)
+order-flag c found explain n s (Ok (order.Record at)) h = record-right c found explain n (record_at s at) h
 
 -- what is said, and the card, do not depend on the flag where every call asks
 record Alike (x y : Reply) : Type 0 where
@@ -63,17 +67,16 @@ record Alike (x y : Reply) : Type 0 where
   same-goes : x.goes ≡ y.goes
   same-card : x.card ≡ y.card
 
-reading-alike : (c : Card) (found explain : Bool) (n : ℕ) (d : Card) (r : Reading)
-    → Alike (on_reading r (fault_reply c found n) (first_reply explain (record_outcome d))) (on_reading r (fault_reply c false n) (first_reply explain (record_outcome d)))
-reading-alike c found explain n d (reading.Wrong why) = record { same_text = refl; same-goes = refl; same-card = refl }
-reading-alike c found explain n d reading.Fine = record { same_text = refl; same-goes = refl; same-card = refl }
+record-alike : (c : Card) (found explain : Bool) (n : ℕ) (r : Result Card Reason) → Alike (record-reply c found explain n r) (record-reply c false explain n r)
+record-alike c found explain n (Err why) = record { same_text = refl; same-goes = refl; same-card = refl }
+record-alike c found explain n (Ok d) = record { same_text = refl; same-goes = refl; same-card = refl }
 
-order_alike : (c : Card) (found explain : Bool) (n : ℕ) (s : List ℕ) (o : Order) → Alike (reply_by (step c) c found explain n s o) (reply_by (step c) c false explain n s o)
-order_alike c found explain n s order.Nothing = record { same_text = refl; same-goes = refl; same-card = refl }
-order_alike c found explain n s (order.Fresh eid aid capacity quota used volatile) = record { same_text = refl; same-goes = refl; same-card = refl }
-order_alike c found explain n s (order.Call x room) = record { same_text = refl; same-goes = refl; same-card = refl }
-order_alike c found explain n s (order.Record at) = reading-alike c found explain n (record_at s at).card (record_at s at).reading
-order_alike c found explain n s (order.Wrong reason) = record { same_text = refl; same-goes = refl; same-card = refl }
+order_alike : (c : Card) (found explain : Bool) (n : ℕ) (s : List ℕ) (o : Result Order Reason) → Alike (reply_by (step c) c found explain n s o) (reply_by (step c) c false explain n s o)
+order_alike c found explain n s (Err reason) = record { same_text = refl; same-goes = refl; same-card = refl }
+order_alike c found explain n s (Ok order.Nothing) = record { same_text = refl; same-goes = refl; same-card = refl }
+order_alike c found explain n s (Ok (order.Fresh eid aid capacity quota used volatile)) = record { same_text = refl; same-goes = refl; same-card = refl }
+order_alike c found explain n s (Ok (order.Call x room)) = record { same_text = refl; same-goes = refl; same-card = refl }
+order_alike c found explain n s (Ok (order.Record at)) = record-alike c found explain n (record_at s at)
 
 line-alike : (c : Card) (found explain : Bool) (n : ℕ) (s : List ℕ) → Right c found → Alike (reply_to_line c found explain n s) (checked_line c explain n s)
 unfolding reply_to_line checked_line

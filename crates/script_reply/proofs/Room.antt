@@ -46,7 +46,6 @@ order-room s (order.Fresh eid aid capacity quota used volatile) h =
     (omega arith, omega arith)
 order-room s (order.Call x room) h = (call-room s x h.0, h.1)
 order-room s (order.Record at) h = tt
-order-room s (order.Wrong why) h = tt
 
 pub nothing-cut : NothingCut
 nothing-cut s o q = order-room s o (orders-fit s o q)

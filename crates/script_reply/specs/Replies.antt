@@ -1,6 +1,6 @@
 -- A session with a script: what a line makes of the card, and the text that answers it. "Each call writes SW RESPONSE NOTIFICATION
 -- TICKS"; with `explain` it writes for a person instead; a line that cannot be read is named, and the run stops there.
-use Rattle.std.specs.Prelude.{ℕ, suc, ◌+◌, ◌*◌, ◌≡◌, List, [], ◌∷◌, ◌++◌, Bool, true, false, cond, ◌&&◌}
+use Rattle.std.specs.Prelude.{ℕ, suc, ◌+◌, ◌*◌, ◌≡◌, List, [], ◌∷◌, ◌++◌, Bool, true, false, cond, ◌&&◌, Result}
 use Rattle.text_words.specs.Hex.{spelled}
 use Rattle.base_status.specs.StatusWords.{is_done}
 use Rattle.base_status.specs.declared.Status.TheVariants.{Done}
@@ -17,7 +17,8 @@ use Rattle.rule_run.specs.Step.{step, on_sound}
 use Rattle.record_door.specs.declared.Call as declared
 use Rattle.record_door.specs.declared.Call.TheVariants as code
 use Rattle.script_line.specs.Orders.{most_buffer, order_of}
-use Rattle.script_record.specs.Records.{on_reading, record_at}
+use Rattle.script_record.specs.Records.{record_at}
+use Rattle.script_words.specs.Arguments.{on_ok}
 use Rattle.script_words.specs.declared.Reason.{Reason}
 use Rattle.script_line.specs.declared.Order.{Order}
 use Rattle.script_line.specs.declared.Order.TheVariants as order
@@ -99,14 +100,17 @@ abbrev pub fault_reply : Card → Bool → ℕ → Reason → Reply
 fault_reply c found n reason = record { card = c; sound = found; text = reason_line n reason; goes = false; bytes = []; response = [] }
 
 -- what an order comes to where `answer` answers the calls on the card; `found` says whether the card is known to be sound
-abbrev pub reply_by : (Call → Outcome) → Card → Bool → Bool → ℕ → List ℕ → Order → Reply
-reply_by answer c found explain n s order.Nothing = no_reply c found
-reply_by answer c found explain n s (order.Fresh eid aid capacity quota used volatile) =
+abbrev pub ordered_by : (Call → Outcome) → Card → Bool → Bool → ℕ → List ℕ → Order → Reply
+ordered_by answer c found explain n s order.Nothing = no_reply c found
+ordered_by answer c found explain n s (order.Fresh eid aid capacity quota used volatile) =
     first_reply explain (fresh_outcome (spelled_bytes s eid) (spelled_bytes s aid) capacity quota used volatile)
-reply_by answer c found explain n s (order.Call x room) = reply_of explain found (bytes_in s x) (answer (call_spelled s room x))
-reply_by answer c found explain n s (order.Record at) =
-    on_reading (record_at s at).reading (fault_reply c found n) (first_reply explain (record_outcome (record_at s at).card))
-reply_by answer c found explain n s (order.Wrong reason) = fault_reply c found n reason
+ordered_by answer c found explain n s (order.Call x room) = reply_of explain found (bytes_in s x) (answer (call_spelled s room x))
+ordered_by answer c found explain n s (order.Record at) =
+    on_ok (record_at s at) (fault_reply c found n) λ d. first_reply explain (record_outcome d)
+
+-- the same of a line that was read, or that is wrong
+abbrev pub reply_by : (Call → Outcome) → Card → Bool → Bool → ℕ → List ℕ → Result Order Reason → Reply
+reply_by answer c found explain n s line = on_ok line (fault_reply c found n) (ordered_by answer c found explain n s)
 
 -- a call on a card known to be sound, or on one that has to be asked (decision B29)
 abbrev pub answer_to : Bool → Card → Call → Outcome

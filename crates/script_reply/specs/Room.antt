@@ -1,6 +1,6 @@
 -- Nothing of what a line spells is cut: it has room in the buffers that are lent for it. So the call that is answered is the one that
 -- the line asks for, `call_in`, which knows of no buffer.
-use Rattle.std.specs.Prelude.{ℕ, ◌≤◌, ◌≡◌, List, length}
+use Rattle.std.specs.Prelude.{ℕ, ◌≤◌, ◌≡◌, List, length, Ok}
 use Rattle.script_line.specs.Orders.{most_buffer, order_of}
 use Rattle.script_line.specs.declared.Order.{Order}
 use Rattle.script_line.specs.declared.Order.TheVariants as order
@@ -12,7 +12,6 @@ HasRoom s order.Nothing = Unit {0}
 HasRoom s (order.Fresh eid aid capacity quota used volatile) = (length (spelled_bytes s eid) ≤ most_bytes) × (length (spelled_bytes s aid) ≤ most_bytes)
 HasRoom s (order.Call x room) = (length (bytes_in s x) ≤ most_bytes) × (room ≤ most_buffer)
 HasRoom s (order.Record at) = Unit {0}
-HasRoom s (order.Wrong why) = Unit {0}
 
 abbrev pub NothingCut : Type 0
-NothingCut = (s : List ℕ) (o : Order) → o ≡ order_of s → HasRoom s o
+NothingCut = (s : List ℕ) (o : Order) → Ok o ≡ order_of s → HasRoom s o

@@ -20,10 +20,9 @@ use Rattle.card_record.specs.declared.Card.{Card}
 use Rattle.card_record.specs.declared.Step.{Step}
 use Rattle.card_record.specs.declared.Answer.{Answer}
 use Rattle.script_line.specs.Orders.{order_of}
-use Rattle.script_record.specs.Records.{on_reading}
+use Rattle.std.specs.Prelude.{Result, Ok, Err}
+use Rattle.script_words.specs.Arguments.{on_ok}
 use Rattle.script_words.specs.declared.Reason.{Reason}
-use Rattle.script_record.specs.declared.Reading.{Reading}
-use Rattle.script_record.specs.declared.Reading.TheVariants as reading
 use Rattle.script_line.specs.declared.Order.{Order}
 use Rattle.script_reply.specs.Reasons.{reason_line, most_fault}
 use Rattle.script_reply.specs.Replies.{record_outcome, answer_text, first_reply, fault_reply, answer_to, Reply, reply_by, reply_to_line, most_text}
@@ -75,16 +74,20 @@ unused bytes response x e f =
     record { left-bytes = sym (ap (put bytes 0) e ∙ put-none bytes 0); left-response = sym (ap (put response 0) f ∙ put-none response 0) }
 
 -- the same of a line of a record
-pub record-unused : (bytes response : List ℕ) (c : Card) (found explain : Bool) (n : ℕ) (d : Card) (r : Reading)
-    → Used bytes response (on_reading r (fault_reply c found n) (first_reply explain (record_outcome d))) bytes response
-record-unused bytes response c found explain n d (reading.Wrong why) = unused bytes response _ refl refl
-record-unused bytes response c found explain n d reading.Fine = unused bytes response _ refl (record-silent d)
+pub record-unused : (bytes response : List ℕ) (c : Card) (found explain : Bool) (n : ℕ) (r : Result Card Reason)
+    → Used bytes response (on_ok r (fault_reply c found n) (λ d. first_reply explain (record_outcome d))) bytes response
+record-unused bytes response c found explain n (Err why) = unused bytes response _ refl refl
+record-unused bytes response c found explain n (Ok d) = unused bytes response _ refl (record-silent d)
+
+-- the order of a line, once its case is known
+pub order-is : (s : List ℕ) {r : Result Order Reason} {o x : Order} → r ≡ Ok o → o ≡ x → r ≡ order_of s → Ok x ≡ order_of s
+order-is s e f q = ap (λ (y : Order). Ok y) (sym f) ∙ sym e ∙ q
 
 -- what `take_line` promises, read off the line's order
-pub as-ordered : {old new bytes response bytes₁ response₁ : List ℕ} {at : ℕ} {r : Turn} (c : Card) (found explain : Bool) (n : ℕ) (s : List ℕ) (o : Order) → o ≡ order_of s
+pub as-ordered : {old new bytes response bytes₁ response₁ : List ℕ} {at : ℕ} {r : Turn} (c : Card) (found explain : Bool) (n : ℕ) (s : List ℕ) (o : Result Order Reason) → o ≡ order_of s
     → Replied old at (reply_by (answer_to found c) c found explain n s o) r new × Used bytes response (reply_by (answer_to found c) c found explain n s o) bytes₁ response₁
     → Replied old at (reply_to_line c found explain n s) r new × Used bytes response (reply_to_line c found explain n s) bytes₁ response₁
 unfolding reply_to_line
 as-ordered {old} {new} {bytes} {response} {bytes₁} {response₁} {at} {r} c found explain n s o e =
-    let P : Order → Type 0 = λ x. Replied old at (reply_by (answer_to found c) c found explain n s x) r new × Used bytes response (reply_by (answer_to found c) c found explain n s x) bytes₁ response₁ in
+    let P : Result Order Reason → Type 0 = λ x. Replied old at (reply_by (answer_to found c) c found explain n s x) r new × Used bytes response (reply_by (answer_to found c) c found explain n s x) bytes₁ response₁ in
     subst P e

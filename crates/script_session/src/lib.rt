@@ -12,7 +12,8 @@ ghost use Rattle.card_record.specs.Fresh.{fresh_outcome};
 ghost use Rattle.record_door.specs.Door.{call_of};
 ghost use Rattle.record_door.specs.Door.{Served};
 ghost use Rattle.record_door.specs.declared.Call.TheVariants.{PolicyUpdate};
-ghost use Rattle.script_record.specs.Records.{on_reading, record_at};
+ghost use Rattle.script_words.specs.Arguments.{on_ok};
+ghost use Rattle.script_record.specs.Records.{record_at};
 ghost use Rattle.script_line.specs.Orders.{most_buffer};
 ghost use Rattle.script_answer.specs.Explained.{most_explained};
 ghost use Rattle.script_reply.specs.Replies.{most_bytes, spelled_bytes, bytes_in, call_spelled, record_outcome, answer_text, reply_of, first_reply, no_reply, fault_reply, answer_to, reply_to_line, most_text};
@@ -26,8 +27,7 @@ use reasons::write_reason;
 use record_door::Call;
 use script_answer::{write_answer, write_explained};
 use script_line::{MOST_ROOM, Order, read_line};
-use script_record::{Reading, record_at};
-use script_words::Reason;
+use script_record::record_at;
 use text_words::spell_hex;
 
 // Where a session stands: its card, whether that card is known to be sound, up to where the lent buffer is filled, and whether the run
@@ -74,12 +74,13 @@ fn lay_update(s: &[u8], speaker: Part, bytes: Part, out: &mut [u8]) -> Call
     ensures { LaidOut out.old s.now (PolicyUpdate speaker bytes) result out.new }
 {
     let first = spell(s, speaker, out);
-    let m = first.len;
-    let second = spell(s, bytes, &mut out[m..]);
-    let n = second.len;
+    let second = spell(s, bytes, &mut out[first.len..]);
     Call::PolicyUpdate {
         speaker: first,
-        bytes: Part { start: m, len: n },
+        bytes: Part {
+            start: first.len,
+            len: second.len,
+        },
     }
 }
 
@@ -203,16 +204,20 @@ fn call_reply(
     requires { ((length (bytes_in s.now call) ≤ most_bytes) × (room ≤ most_buffer)) × ((length bytes.old ≡ most_bytes) × (length response.old ≡ most_buffer)) }
     ensures { Replied out.old turn.filled (reply_of explain turn.sound (bytes_in s.now call) (answer_to turn.sound turn.card (call_spelled s.now room call))) result out.new × Used bytes.old response.old (reply_of explain turn.sound (bytes_in s.now call) (answer_to turn.sound turn.card (call_spelled s.now room call))) bytes.new response.new }
 {
-    let card = turn.card;
     let laid = lay(s, call, bytes);
-    let answer = answer_to(turn.sound, card, laid, bytes, &mut response[..room]);
-    let length = answer.length;
-    let filled = write_text(explain, &answer, &response[..length], out, turn.filled);
+    let answer = answer_to(turn.sound, turn.card, laid, bytes, &mut response[..room]);
+    let filled = write_text(
+        explain,
+        &answer,
+        &response[..answer.length],
+        out,
+        turn.filled,
+    );
     Turn {
         card: answer.card,
-        sound: turn.sound,
         filled,
         goes: true,
+        ..turn
     }
 }
 
@@ -220,33 +225,27 @@ fn call_reply(
 fn stopped(turn: Turn, filled: usize) -> Turn
     ensures { result ≡ record { card = turn.card; sound = turn.sound; filled = filled; goes = false } }
 {
-    let mut after = turn;
-    after.filled = filled;
-    after.goes = false;
-    after
+    Turn {
+        filled,
+        goes: false,
+        ..turn
+    }
 }
 
 // A line that asks nothing.
 fn passed_over(turn: Turn) -> Turn
     ensures { result ≡ record { card = turn.card; sound = turn.sound; filled = turn.filled; goes = true } }
 {
-    let mut after = turn;
-    after.goes = true;
-    after
+    Turn { goes: true, ..turn }
 }
 
 // A line whose words from `at` on are those of a record.
 fn record_reply(turn: Turn, explain: bool, number: u64, s: &[u8], at: usize, out: &mut [u8]) -> Turn
-    ensures { Replied out.old turn.filled (on_reading (record_at s.now at).reading (fault_reply turn.card turn.sound number) (first_reply explain (record_outcome (record_at s.now at).card))) result out.new }
+    ensures { Replied out.old turn.filled (on_ok (record_at s.now at) (fault_reply turn.card turn.sound number) (λ d. first_reply explain (record_outcome d))) result out.new }
 {
-    let record = record_at(s, at);
-    let reading = record.reading;
-    match reading {
-        Reading::Wrong(reason) => stopped(turn, write_reason(number, reason, out, turn.filled)),
-        Reading::Fine => {
-            let given = record.card;
-            first_reply(explain, hand_in(given), out, turn.filled)
-        }
+    match record_at(s, at) {
+        Ok(card) => first_reply(explain, hand_in(card), out, turn.filled),
+        Err(reason) => stopped(turn, write_reason(number, reason, out, turn.filled)),
     }
 }
 
@@ -262,26 +261,27 @@ pub fn take_line(
 ) -> Turn
     ensures { Replied out.old turn.filled (reply_to_line turn.card turn.sound explain number s.now) result out.new × Used bytes.old response.old (reply_to_line turn.card turn.sound explain number s.now) bytes.new response.new }
 {
-    let order = read_line(s);
-    match order {
-        Order::Nothing => passed_over(turn),
-        Order::Fresh {
-            eid,
-            aid,
-            capacity,
-            quota,
-            used,
-            volatile,
-        } => first_reply(
+    match read_line(s) {
+        Ok(Order::Nothing) => passed_over(turn),
+        Ok(
+            Order::Fresh {
+                eid,
+                aid,
+                capacity,
+                quota,
+                used,
+                volatile,
+            },
+        ) => first_reply(
             explain,
             fresh(s, eid, aid, capacity, quota, used, volatile),
             out,
             turn.filled,
         ),
-        Order::Call { call, room } => {
+        Ok(Order::Call { call, room }) => {
             return call_reply(turn, explain, call, room, s, bytes, response, out);
         }
-        Order::Record(at) => record_reply(turn, explain, number, s, at, out),
-        Order::Wrong(reason) => stopped(turn, write_reason(number, reason, out, turn.filled)),
+        Ok(Order::Record(at)) => record_reply(turn, explain, number, s, at, out),
+        Err(reason) => stopped(turn, write_reason(number, reason, out, turn.filled)),
     }
 }

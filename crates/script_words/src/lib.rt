@@ -2,11 +2,11 @@
 // Every function answers for every line and every place in it.
 #![tactic(auto)]
 
-ghost use Rattle.std.specs.Prelude.{◌≡◌};
+ghost use Rattle.std.specs.Prelude.{◌≡◌, ◌≤◌, IfOk};
 ghost use Rattle.script_words.specs.Arguments.{bytes_at, value_at};
 
 use base_bytes::Part;
-use text_words::{Number, Word, decimal, is_hex, next_word};
+use text_words::{Span, decimal, is_hex, next_word};
 
 // What is wrong with a line.
 #[derive(Clone, Copy)]
@@ -24,45 +24,35 @@ pub enum Reason {
 // The most that a number of a line can be.
 pub const MOST_NUMBER: u32 = 4294967295;
 
-// The part of the line that spells a byte string; `next` is the place after it.
+// What was read of a line, and the place after it.
 #[derive(Clone, Copy)]
-pub enum Bytes {
-    Is { part: Part, next: usize },
-    Wrong(Reason),
+pub struct Read<T> {
+    pub value: T,
+    pub next: usize,
 }
 
-#[derive(Clone, Copy)]
-pub enum Value {
-    Is { n: u32, next: usize },
-    Wrong(Reason),
-}
-
-pub fn next_bytes(s: &[u8], at: usize) -> Bytes
+// A byte string, by the part of the line that spells it.
+#[tactic(auto, unfolding(crate::specs::Arguments::bytes_at, base_choice::specs::Choice::pick))]
+pub fn next_bytes(s: &[u8], at: usize) -> Result<Read<Part>, Reason>
     ensures { result ≡ bytes_at s.now at }
 {
-    let Word::Span { from, to } = next_word(s, at) else {
-        return Bytes::Wrong(Reason::WordsMissing);
-    };
-    if is_hex(&s[from..to]) {
-        return Bytes::Is {
-            part: Part {
-                start: from,
-                len: to - from,
-            },
-            next: to,
-        };
+    let Span { from, to } = next_word(s, at).ok_or(Reason::WordsMissing)?;
+    if !is_hex(&s[from..to]) {
+        return Err(Reason::BadHex);
     }
-    Bytes::Wrong(Reason::BadHex)
+    let value = Part {
+        start: from,
+        len: to - from,
+    };
+    Ok(Read { value, next: to })
 }
 
-pub fn next_value(s: &[u8], at: usize, most: u32) -> Value
-    ensures { result ≡ value_at most s.now at }
+#[tactic(auto, unfolding(crate::specs::Arguments::value_at))]
+pub fn next_value(s: &[u8], at: usize, most: u32) -> Result<Read<u32>, Reason>
+    ensures value { result ≡ value_at most s.now at }
+    ensures within { IfOk result (λ v. v.value ≤ most) }
 {
-    let Word::Span { from, to } = next_word(s, at) else {
-        return Value::Wrong(Reason::WordsMissing);
-    };
-    let Number::Value(n) = decimal(&s[from..to], most) else {
-        return Value::Wrong(Reason::BadNumber);
-    };
-    Value::Is { n, next: to }
+    let Span { from, to } = next_word(s, at).ok_or(Reason::WordsMissing)?;
+    let value = decimal(&s[from..to], most).ok_or(Reason::BadNumber)?;
+    Ok(Read { value, next: to })
 }

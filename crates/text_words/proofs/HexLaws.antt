@@ -1,45 +1,43 @@
 -- Laws of hex. Those on a loop take its equation first, so that a proof finds the numbers by it; then they say which way the next
 -- pair of digits, or the end, decides.
 use mathlib.Core.Path.{◌≡◌, refl, ap, sym, ◌∙◌}
-use Prim.Native.Nat.{ℕ, ◌+◌, ◌-◌, ◌*◌, ◌/◌, ◌≤◌, ◌<◌}
+use Prim.Native.Nat.{ℕ, ◌+◌, ◌*◌, ◌/◌, ◌≤◌, ◌<◌}
 use native.Mathlib.Omega.{arith}
-use mathlib.Core.List.{List, [], ◌∷◌, ◌++◌}
-use mathlib.Core.Bool.{Bool, true, false}
-use mathlib.Core.List.{append_assoc}
+use mathlib.Core.List.{List, [], ◌∷◌, ◌++◌, append_assoc}
+use mathlib.Core.Bool.{Bool, true, false, ◌&&◌}
 use lib.ListN.{length, get_or, set, take, drop, length-drop, length-set}
 use Rattle.std.proofs.lemmas.List.{take_more, take_more_set}
-use Rattle.base_choice.specs.Choice.{pick, is_below}
+use Rattle.base_choice.specs.Choice.{pick}
 use Rattle.base_bytes.specs.Bytes.{same_bytes}
 use Rattle.text_words.specs.Hex.{nibble_of, pairs_of, is_hex, byte_of, spelled, spelled_in, hex_byte_of, hex_read_of, hex_left, glyph_of, hex_text, hex_word}
-use Rattle.text_words.specs.declared.hex.Byte.TheVariants as byte
-use Rattle.text_words.specs.declared.hex.HexRead.TheVariants.{Bytes, NoRoom, Wrong}
+use Rattle.text_words.specs.declared.hex.HexError.TheVariants.{NoRoom, Wrong}
+use Rattle.std.specs.Prelude.{Option, Some, None, is_some, is_none, ◌%◌, Ok, Err}
+use Rattle.std.specs.List.{list_all}
 use Rattle.base_bytes.specs.Put.{put}
-use Rattle.base_choice.proofs.Branches.{yes!, no!, lt!, nlt! }
+use Rattle.base_choice.proofs.Branches.{each, yes!, no!, lt!, nlt! }
 use Rattle.base_bytes.proofs.PutLaws.{put-none, put-cons}
-use Rattle.base_bytes.proofs.Rest.{rest, rest-one, rest-two, rest_end}
+use Rattle.base_bytes.proofs.Rest.{rest, rest-two}
 
-module _ (s : List ℕ) (i : ℕ) (o : Bool) (q : pairs_of (rest s i) ≡ o) where
-  pub pairs_end : length s ≤ i → true ≡ o
-  unfolding pairs_of
-  pairs_end h = rw (rest_end s i h) at q
+-- pairs of digits are an even number of digits
+digit_pair : (x y : Option ℕ) {p q : Bool} → p ≡ q → (is_some x && (is_some y && p)) ≡ pick (is_none x) false (pick (is_none y) false q)
+unfolding pick
+digit_pair None y e = refl
+digit_pair (Some a) None e = refl
+digit_pair (Some a) (Some b) e = e
 
-  pub pairs-odd : i < length s → length s - i < 2 → false ≡ o
-  unfolding pairs_of
-  pairs-odd h k = rw (← q, rest-one s i h, rest_end s (i + 1) (omega arith)) refl
+pub pairs_even : (s : List ℕ) → length s % 2 ≡ 0 → list_all (λ c. is_some (nibble_of c)) s ≡ pairs_of s
+unfolding pairs_of
+pairs_even [] h = refl
+pairs_even (a ∷ []) h = let z : ◌≡◌ {A = ℕ} 1 0 = h in absurd (omega arith)
+pairs_even (a ∷ b ∷ r) h = digit_pair (nibble_of a) (nibble_of b) (pairs_even r (omega arith))
 
-  module _ (h : i + 1 < length s) where
-    pub pairs_first : 15 < nibble_of (get_or s i 0) → false ≡ o
-    unfolding pairs_of
-    pairs_first k = rw (← q, rest-two s i h) (lt! _ k refl)
-
-    module _ (k : nibble_of (get_or s i 0) ≤ 15) where
-      pub pairs-second : 15 < nibble_of (get_or s (i + 1) 0) → false ≡ o
-      unfolding pairs_of
-      pairs-second l = rw (← q, rest-two s i h) (nlt! _ k (lt! _ l refl))
-
-      pub pairs_next : nibble_of (get_or s (i + 1) 0) ≤ 15 → pairs_of (rest s (i + 2)) ≡ o
-      unfolding pairs_of
-      pairs_next l = rw (← q, rest-two s i h) (nlt! _ k (nlt! _ l refl))
+pub pairs_odd : (s : List ℕ) → (length s % 2 ≡ 0 → ⊥) → false ≡ pairs_of s
+unfolding pairs_of
+pairs_odd [] h = absurd (h refl)
+pairs_odd (a ∷ []) h = refl
+pairs_odd (a ∷ b ∷ r) h =
+    each (λ (x : Bool). false ≡ x) (is_none (nibble_of a)) (λ e. refl)
+    (λ e. each (λ (x : Bool). false ≡ x) (is_none (nibble_of b)) (λ f. refl) (λ f. pairs_odd r (λ k. h (omega arith))))
 
 -- two digits a byte, and half a pair none
 pub spelled-length : (s : List ℕ) → length (spelled s) ≡ length s / 2
@@ -101,20 +99,33 @@ fill_turn l s i u v q e f n h =
     rw (j, a, b, append_assoc, q, e, f) (hex_next s i h)
 
 -- two digits that are a byte
-pub byte-not : (s : List ℕ) → (length s ≡ 2 → ⊥) → byte.Wrong ≡ hex_byte_of s
+pub byte-not : (s : List ℕ) → (length s ≡ 2 → ⊥) → None ≡ hex_byte_of s
 unfolding hex_byte_of
 byte-not [] h = refl
 byte-not (a ∷ []) h = refl
 byte-not (a ∷ b ∷ []) h = absurd (h refl)
 byte-not (a ∷ b ∷ c ∷ r) h = refl
 
-pub byte-two : (s : List ℕ) → length s ≡ 2
-    → hex_byte_of s ≡ pick (is_below 15 (nibble_of (get_or s 0 0))) byte.Wrong (pick (is_below 15 (nibble_of (get_or s 1 0))) byte.Wrong (byte.Value (byte_of (get_or s 0 0) (get_or s 1 0))))
+pub byte_high : (s : List ℕ) → length s ≡ 2 → None ≡ nibble_of (get_or s 0 0) → None ≡ hex_byte_of s
 unfolding hex_byte_of
-byte-two [] h = absurd (omega arith)
-byte-two (a ∷ []) h = absurd (omega arith)
-byte-two (a ∷ b ∷ []) h = refl
-byte-two (a ∷ b ∷ c ∷ r) h = absurd (omega arith)
+byte_high [] h e = refl
+byte_high (a ∷ []) h e = refl
+byte_high (a ∷ b ∷ []) h e = rw (← e) (yes! _ refl refl)
+byte_high (a ∷ b ∷ c ∷ r) h e = refl
+
+pub byte_low : (s : List ℕ) → length s ≡ 2 → None ≡ nibble_of (get_or s 1 0) → None ≡ hex_byte_of s
+unfolding hex_byte_of
+byte_low [] h e = refl
+byte_low (a ∷ []) h e = refl
+byte_low (a ∷ b ∷ []) h e = each (λ (x : Option ℕ). None ≡ x) (is_none (nibble_of a)) (λ f. refl) (λ f. rw (← e) (yes! _ refl refl))
+byte_low (a ∷ b ∷ c ∷ r) h e = refl
+
+pub byte_both : (s : List ℕ) (m n : ℕ) → length s ≡ 2 → Some m ≡ nibble_of (get_or s 0 0) → Some n ≡ nibble_of (get_or s 1 0) → Some (m * 16 + n) ≡ hex_byte_of s
+unfolding hex_byte_of byte_of
+byte_both [] m n h e f = absurd (omega arith)
+byte_both (a ∷ []) m n h e f = absurd (omega arith)
+byte_both (a ∷ b ∷ []) m n h e f = rw (← e, ← f) (no! _ refl (no! _ refl refl))
+byte_both (a ∷ b ∷ c ∷ r) m n h e f = absurd (omega arith)
 
 -- a byte string, where some text stands
 pub hex-none : (s : List ℕ) → length s ≡ 0 → false ≡ is_hex s
@@ -135,17 +146,17 @@ module _ (s : List ℕ) (room : ℕ) where
   pub in-full : room < length s / 2 → [] ≡ spelled_in s room
   in-full h = let k : room < length (spelled s) = rw (spelled-length s) h in lt! _ k refl
 
-  pub hex-fits : is_hex s ≡ true → length s / 2 ≤ room → (Bytes (length s / 2) ≡ hex_read_of s room) × (spelled s ≡ hex_left s room)
+  pub hex-fits : is_hex s ≡ true → length s / 2 ≤ room → (Ok (length s / 2) ≡ hex_read_of s room) × (spelled s ≡ hex_left s room)
   unfolding hex_read_of hex_left
   hex-fits e h =
       let k : length (spelled s) ≤ room = rw (spelled-length s) h in
-      (yes! _ e (nlt! _ k (ap Bytes (sym (spelled-length s)))), yes! _ e (nlt! _ k refl))
+      (yes! _ e (nlt! _ k (ap Ok (sym (spelled-length s)))), yes! _ e (nlt! _ k refl))
 
-  pub hex-full : is_hex s ≡ true → room < length s / 2 → (NoRoom ≡ hex_read_of s room) × ([] ≡ hex_left s room)
+  pub hex-full : is_hex s ≡ true → room < length s / 2 → (Err NoRoom ≡ hex_read_of s room) × ([] ≡ hex_left s room)
   unfolding hex_read_of hex_left
   hex-full e h = let k : room < length (spelled s) = rw (spelled-length s) h in (yes! _ e (lt! _ k refl), yes! _ e (lt! _ k refl))
 
-  pub hex-wrong : is_hex s ≡ false → (Wrong ≡ hex_read_of s room) × ([] ≡ hex_left s room)
+  pub hex-wrong : is_hex s ≡ false → (Err Wrong ≡ hex_read_of s room) × ([] ≡ hex_left s room)
   unfolding hex_read_of hex_left
   hex-wrong e = (no! _ e refl, no! _ e refl)
 

@@ -6,12 +6,11 @@ use native.Mathlib.Omega.{arith}
 use mathlib.Core.List.{List, [], ◌∷◌, ◌++◌}
 use lib.ListN.{length, get_or}
 use Rattle.text_words.specs.Numbers.{digits_on, decimal_of, digits_text, decimal_text}
-use Rattle.text_words.specs.declared.numbers.Number.{Number}
-use Rattle.text_words.specs.declared.numbers.Number.TheVariants.{Value, Wrong}
+use Rattle.std.specs.Prelude.{Option, Some, None}
 use Rattle.base_choice.proofs.Branches.{by-lt, lt!, nlt! }
 use Rattle.base_bytes.proofs.Rest.{rest, rest-one, rest_end}
 
-pub decimal-none : (most : ℕ) (s : List ℕ) → length s ≡ 0 → Wrong ≡ decimal_of most s
+pub decimal-none : (most : ℕ) (s : List ℕ) → length s ≡ 0 → None ≡ decimal_of most s
 unfolding decimal_of
 decimal-none most [] h = refl
 decimal-none most (c ∷ cs) h = absurd (omega arith)
@@ -21,22 +20,22 @@ unfolding decimal_of
 decimal-some most [] h = absurd (h refl)
 decimal-some most (c ∷ cs) h = refl
 
-module _ (most v : ℕ) (s : List ℕ) (i : ℕ) (o : Number) (q : digits_on most v (rest s i) ≡ o) where
-  pub digits-end : length s ≤ i → Value v ≡ o
+module _ (most v : ℕ) (s : List ℕ) (i : ℕ) (o : Option ℕ) (q : digits_on most v (rest s i) ≡ o) where
+  pub digits-end : length s ≤ i → Some v ≡ o
   unfolding digits_on
   digits-end h = rw (rest_end s i h) at q
 
   module _ (h : i < length s) where
-    pub digits_low : get_or s i 0 < 48 → Wrong ≡ o
+    pub digits_low : get_or s i 0 < 48 → None ≡ o
     unfolding digits_on
     digits_low k = rw (← q, rest-one s i h) (lt! _ k refl)
 
-    pub digits-high : 48 ≤ get_or s i 0 → 57 < get_or s i 0 → Wrong ≡ o
+    pub digits-high : 48 ≤ get_or s i 0 → 57 < get_or s i 0 → None ≡ o
     unfolding digits_on
     digits-high k l = rw (← q, rest-one s i h) (nlt! _ k (lt! _ l refl))
 
     module _ (k : 48 ≤ get_or s i 0) (l : get_or s i 0 ≤ 57) where
-      pub digits-much : most < v * 10 + (get_or s i 0 - 48) → Wrong ≡ o
+      pub digits-much : most < v * 10 + (get_or s i 0 - 48) → None ≡ o
       unfolding digits_on
       digits-much m = rw (← q, rest-one s i h) (nlt! _ k (nlt! _ l (lt! _ m refl)))
 
@@ -87,22 +86,22 @@ text-next n h k =
     ap (λ (l : List ℕ). l ++ ((48 + n % 10) ∷ [])) (sym e) ∙ text-more 19 n h (λ f. absurd (omega arith))
 
 -- what was read is at most what is allowed
-digits-within : (most v n : ℕ) (s : List ℕ) → v ≤ most → Value n ≡ digits_on most v s → n ≤ most
+digits-within : (most v n : ℕ) (s : List ℕ) → v ≤ most → Some n ≡ digits_on most v s → n ≤ most
 unfolding digits_on
 digits-within most v n [] h q = let z : n ≡ v = cc in omega arith
 digits-within most v n (c ∷ cs) h q =
-    by-lt (λ (x : Number). Value n ≡ x → n ≤ most) c 48
+    by-lt (λ (x : Option ℕ). Some n ≡ x → n ≤ most) c 48
     (λ k p. let z : ◌≡◌ {A = ℕ} 0 1 = cc in absurd (omega arith))
     (λ k.
-    by-lt (λ (x : Number). Value n ≡ x → n ≤ most) 57 c
+    by-lt (λ (x : Option ℕ). Some n ≡ x → n ≤ most) 57 c
     (λ l p. let z : ◌≡◌ {A = ℕ} 0 1 = cc in absurd (omega arith))
     (λ l.
-    by-lt (λ (x : Number). Value n ≡ x → n ≤ most) most (v * 10 + (c - 48))
+    by-lt (λ (x : Option ℕ). Some n ≡ x → n ≤ most) most (v * 10 + (c - 48))
     (λ m p. let z : ◌≡◌ {A = ℕ} 0 1 = cc in absurd (omega arith))
     (λ m p. digits-within most (v * 10 + (c - 48)) n cs m p)))
     q
 
-pub decimal-within : (most n : ℕ) (s : List ℕ) → Value n ≡ decimal_of most s → n ≤ most
+pub decimal-within : (most n : ℕ) (s : List ℕ) → Some n ≡ decimal_of most s → n ≤ most
 unfolding decimal_of
 decimal-within most n [] q = let z : ◌≡◌ {A = ℕ} 0 1 = cc in absurd (omega arith)
 decimal-within most n (c ∷ cs) q = digits-within most 0 n (c ∷ cs) (omega arith) q

@@ -11,22 +11,22 @@ use lib.Dec.{eqb}
 use Rattle.base_bytes.specs.Bytes.{same_bytes}
 use Rattle.text_words.specs.Hex.{nibble_of, pairs_of, is_hex, byte_of, spelled, hex_read_of, hex_left, glyph_of, hex_text, hex_word}
 use Rattle.text_words.specs.Numbers.{digits_on, digits_text, decimal_text}
-use Rattle.text_words.specs.declared.hex.HexRead.TheVariants.{Bytes}
+use Rattle.std.specs.Prelude.{Some, Ok}
 use Rattle.text_words.specs.RoundTrips.{Octets, none, one, HexAgain, DecimalAgain}
 use Rattle.base_choice.proofs.Branches.{by-lt, yes!, no!, le!, nle!, nlt! }
 use Rattle.text_words.proofs.NumberLaws.{decimal-some}
 
-nibble-glyph : (n : ℕ) → nibble_of (glyph_of n) ≡ n % 16
+nibble-glyph : (n : ℕ) → nibble_of (glyph_of n) ≡ Some (n % 16)
 unfolding glyph_of nibble_of
 nibble-glyph n =
     let h : n % 16 < 16 = omega arith in
-    by-lt (λ (g : ℕ). nibble_of g ≡ n % 16) (n % 16) 10
-    (λ l. sym (nlt! _ (omega arith) (le! _ (omega arith) (omega arith))))
-    (λ l. sym (nlt! _ (omega arith) (nle! _ (omega arith) (nlt! _ (omega arith) (le! _ (omega arith) (omega arith))))))
+    by-lt (λ (g : ℕ). nibble_of g ≡ Some (n % 16)) (n % 16) 10
+    (λ l. sym (nlt! _ (omega arith) (le! _ (omega arith) (ap Some (omega arith)))))
+    (λ l. sym (nlt! _ (omega arith) (nle! _ (omega arith) (nlt! _ (omega arith) (le! _ (omega arith) (ap Some (omega arith)))))))
 
 byte-glyphs : (b : ℕ) → b < 256 → byte_of (glyph_of (b / 16)) (glyph_of b) ≡ b
 unfolding byte_of
-byte-glyphs b h = let x = nibble-glyph (b / 16) in let y = nibble-glyph b in omega arith
+byte-glyphs b h = rw (nibble-glyph (b / 16), nibble-glyph b) (omega arith)
 
 spelled-text : {bs : List ℕ} → Octets bs → spelled (hex_text bs) ≡ bs
 unfolding spelled hex_text
@@ -37,9 +37,7 @@ pairs-text : (bs : List ℕ) → pairs_of (hex_text bs) ≡ true
 unfolding pairs_of hex_text
 pairs-text [] = refl
 pairs-text (b ∷ bs) =
-    let x = nibble-glyph (b / 16) in
-    let y = nibble-glyph b in
-    sym (nlt! _ (omega arith) (nlt! _ (omega arith) (sym (pairs-text bs))))
+    rw (nibble-glyph (b / 16), nibble-glyph b) (sym (no! _ refl (no! _ refl (sym (pairs-text bs)))))
 
 word-is-hex : (bs : List ℕ) → is_hex (hex_word bs) ≡ true
 unfolding is_hex hex_word hex_text same_bytes
@@ -60,7 +58,7 @@ unfolding hex_read_of hex_left
 hex-again bs room o h =
     let e = word-spelled o in
     let k : length (spelled (hex_word bs)) ≤ room = rw e h in
-    (sym (yes! _ (word-is-hex bs) (nlt! _ k (ap (λ (x : List ℕ). Bytes (length x)) (sym e)))), sym (yes! _ (word-is-hex bs) (nlt! _ k (sym e))))
+    (sym (yes! _ (word-is-hex bs) (nlt! _ k (ap (λ (x : List ℕ). Ok (length x)) (sym e)))), sym (yes! _ (word-is-hex bs) (nlt! _ k (sym e))))
 
 -- a digit is read
 digit-again : (most value d : ℕ) (rest : List ℕ) → d < 10 → value * 10 + d ≤ most → digits_on most value ((48 + d) ∷ rest) ≡ digits_on most (value * 10 + d) rest

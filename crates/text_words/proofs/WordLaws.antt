@@ -1,34 +1,32 @@
--- Laws of words: for each search what it finds at a place, for a turn and for the end of its loop.
-use mathlib.Core.Path.{◌≡◌, refl, sym}
-use Prim.Native.Nat.{ℕ, suc, ◌+◌, ◌≤◌, ◌<◌}
-use native.Mathlib.Numerals.{add-one}
-use mathlib.Core.List.{List}
-use lib.ListN.{length, get_or, drop, drop_of_length-le}
-use lib.Seq.{drop-cons}
+-- `before` and `leading` count what the library's `take_while` takes.
+use mathlib.Core.Path.{◌≡◌, refl, sym, ◌∙◌}
+use mathlib.Core.Bool.{not}
+use mathlib.Core.List.{List, [], ◌∷◌}
+use Prim.Native.Nat.{ℕ}
+use native.Mathlib.Omega.{arith}
+use borrow.Author.Tests.{eq-eqb, ne_eqb}
+use lib.Dec.{eqb}
+use lib.ListN.{length}
+use Rattle.std.specs.Prelude.{take_while}
+use Rattle.std.specs.List.{prefix_len}
+use Rattle.std.proofs.lemmas.List.Folds.{length-prefix_len}
+use Rattle.base_choice.specs.Choice.{pick, is_same}
+use Rattle.base_choice.proofs.Branches.{on-eq}
 use Rattle.text_words.specs.Words.{before, leading}
-use Rattle.base_choice.proofs.Branches.{eq!, ne! }
 
-module _ (b : ℕ) (s : List ℕ) (i : ℕ) where
-  pub before-hit : i < length s → get_or s i 0 ≡ b → before b (drop i s) ≡ 0
-  unfolding before
-  before-hit h e = rw (drop-cons s i 0 h) (sym (eq! _ e refl))
+module _ (b : ℕ) where
+  before_len : (t : List ℕ) → before b t ≡ prefix_len (λ c. not (eqb c b)) t
+  unfolding before pick is_same
+  before_len [] = refl
+  before_len (c ∷ cs) = on-eq c b (λ e. rw (eq-eqb c b e) refl) (λ e. rw (ne_eqb c b e, before_len cs) (omega arith))
 
-  pub before-miss : i < length s → (get_or s i 0 ≡ b → ⊥) → before b (drop i s) ≡ suc (before b (drop (i + 1) s))
-  unfolding before
-  before-miss h e = rw (drop-cons s i 0 h, add-one) (sym (ne! _ e refl))
+  leading_len : (t : List ℕ) → leading b t ≡ prefix_len (λ c. eqb c b) t
+  unfolding leading pick is_same
+  leading_len [] = refl
+  leading_len (c ∷ cs) = on-eq c b (λ e. rw (eq-eqb c b e, leading_len cs) (omega arith)) (λ e. rw (ne_eqb c b e) refl)
 
-  pub before-end : length s ≤ i → before b (drop i s) ≡ 0
-  unfolding before
-  before-end h = rw (drop_of_length-le s h)
+  pub before_taken : (t : List ℕ) → before b t ≡ length (take_while (λ c. not (eqb c b)) t)
+  before_taken t = before_len t ∙ sym (length-prefix_len (λ c. not (eqb c b)) t)
 
-  pub leading-hit : i < length s → get_or s i 0 ≡ b → leading b (drop i s) ≡ suc (leading b (drop (i + 1) s))
-  unfolding leading
-  leading-hit h e = rw (drop-cons s i 0 h, add-one) (sym (eq! _ e refl))
-
-  pub leading-miss : i < length s → (get_or s i 0 ≡ b → ⊥) → leading b (drop i s) ≡ 0
-  unfolding leading
-  leading-miss h e = rw (drop-cons s i 0 h) (sym (ne! _ e refl))
-
-  pub leading_end : length s ≤ i → leading b (drop i s) ≡ 0
-  unfolding leading
-  leading_end h = rw (drop_of_length-le s h)
+  pub leading_taken : (t : List ℕ) → leading b t ≡ length (take_while (λ c. eqb c b) t)
+  leading_taken t = leading_len t ∙ sym (length-prefix_len (λ c. eqb c b) t)

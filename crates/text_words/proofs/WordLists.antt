@@ -6,9 +6,9 @@ use mathlib.Core.List.{List, [], ◌∷◌, ◌++◌, append-nil, append_assoc}
 use native.Mathlib.Omega.{arith}
 use lib.ListN.{length, take, drop, length-drop, drop_of_length-le}
 use lib.Seq.{drop-drop, length-take-le}
-use Rattle.text_words.specs.Words.{before, leading, part, word_closed, words_on, words_of, word_at, word_from, field_at, on_word}
-use Rattle.text_words.specs.declared.words.Word.{Word}
-use Rattle.text_words.specs.declared.words.Word.TheVariants.{Span, End}
+use Rattle.text_words.specs.Words.{before, leading, part, span, word_closed, words_on, words_of, word_at, word_from, field_at, on_word}
+use Rattle.text_words.specs.declared.words.Span.{Span}
+use Rattle.std.specs.Prelude.{Option, None}
 use Rattle.base_choice.proofs.Branches.{on-eq, by-eq, by_le, by-lt, eq!, ne! }
 
 module _ (b : ℕ) where
@@ -109,7 +109,7 @@ words-at s at =
     let skip : words_of (drop at s) ≡ words_of (drop a s) = sym (words-skip (drop at s)) ∙ ap words_of d₂ in
     let z : leading 32 (drop a s) ≡ 0 = ap (leading 32) (sym d₂) ∙ leading-past 32 (drop at s) in
     let e : n ≡ a + n - a = omega arith in
-    by_le (λ (w : Word). words_of (drop at s) ≡ on_word w [] (λ a e. part s a e ∷ words_of (drop e s))) (length s) a
+    by_le (λ (w : Option Span). words_of (drop at s) ≡ on_word w [] (λ a e. part s a e ∷ words_of (drop e s))) (length s) a
     (λ h. skip ∙ ap words_of (drop_of_length-le s h) ∙ words-none)
     (λ h.
     skip
@@ -117,14 +117,14 @@ words-at s at =
     ∙ ap (λ (l : List ℕ). take n (drop a s) ∷ words_of l) (drop-drop n a s)
     ∙ ap (λ (k : ℕ). take k (drop a s) ∷ words_of (drop (a + n) s)) e)
 
-pub word_next : (s : List ℕ) (at a e : ℕ) → Span a e ≡ word_at s at → words_of (drop at s) ≡ part s a e ∷ words_of (drop e s)
-word_next s at a e h = words-at s at ∙ ap (λ (w : Word). on_word w [] (λ a e. part s a e ∷ words_of (drop e s))) (sym h)
+pub word_next : (s : List ℕ) (at a e : ℕ) → span a e ≡ word_at s at → words_of (drop at s) ≡ part s a e ∷ words_of (drop e s)
+word_next s at a e h = words-at s at ∙ ap (λ (w : Option Span). on_word w [] (λ a e. part s a e ∷ words_of (drop e s))) (sym h)
 
-pub word_none : (s : List ℕ) (at : ℕ) → End ≡ word_at s at → words_of (drop at s) ≡ []
-word_none s at h = words-at s at ∙ ap (λ (w : Word). on_word w [] (λ a e. part s a e ∷ words_of (drop e s))) (sym h)
+pub word_none : (s : List ℕ) (at : ℕ) → None ≡ word_at s at → words_of (drop at s) ≡ []
+word_none s at h = words-at s at ∙ ap (λ (w : Option Span). on_word w [] (λ a e. part s a e ∷ words_of (drop e s))) (sym h)
 
 -- a word lies inside the line and is not empty; a field lies inside the word
-pub word-inside : (s : List ℕ) (at a e : ℕ) → Span a e ≡ word_at s at → (at ≤ a) × ((a < e) × (e ≤ length s))
+pub word-inside : (s : List ℕ) (at a e : ℕ) → span a e ≡ word_at s at → (at ≤ a) × ((a < e) × (e ≤ length s))
 unfolding word_at word_from
 word-inside s at a e h =
     let b : ℕ = at + leading 32 (drop at s) in
@@ -132,25 +132,25 @@ word-inside s at a e h =
     let d = length-drop b s in
     let d₂ : drop (leading 32 (drop at s)) (drop at s) ≡ drop b s = drop-drop (leading 32 (drop at s)) at s in
     let z : leading 32 (drop b s) ≡ 0 = ap (leading 32) (sym d₂) ∙ leading-past 32 (drop at s) in
-    by_le (λ (w : Word). Span a e ≡ w → (at ≤ a) × ((a < e) × (e ≤ length s))) (length s) b
+    by_le (λ (w : Option Span). span a e ≡ w → (at ≤ a) × ((a < e) × (e ≤ length s))) (length s) b
     (λ k q. let o : ◌≡◌ {A = ℕ} 0 1 = cc in absurd (omega arith))
     (λ k q.
-    let i : a ≡ b = cc in
-    let j : e ≡ b + n = cc in
+    let i : a ≡ b = ap (λ (w : Option Span). on_word w 0 (λ a e. a)) q in
+    let j : e ≡ b + n = ap (λ (w : Option Span). on_word w 0 (λ a e. e)) q in
     let p = before-some 32 (drop b s) z (omega arith) in
     let r = before-le 32 (drop b s) in
     (omega arith, (omega arith, omega arith)))
     h
 
-pub field-inside : (by : ℕ) (s : List ℕ) (at a e : ℕ) → Span a e ≡ field_at by s at → (at ≡ a) × ((a ≤ e) × (e ≤ length s))
+pub field-inside : (by : ℕ) (s : List ℕ) (at a e : ℕ) → span a e ≡ field_at by s at → (at ≡ a) × ((a ≤ e) × (e ≤ length s))
 unfolding field_at
 field-inside by s at a e h =
     let d = length-drop at s in
     let r = before-le by (drop at s) in
-    by-lt (λ (w : Word). Span a e ≡ w → (at ≡ a) × ((a ≤ e) × (e ≤ length s))) (length s) at
+    by-lt (λ (w : Option Span). span a e ≡ w → (at ≡ a) × ((a ≤ e) × (e ≤ length s))) (length s) at
     (λ k q. let o : ◌≡◌ {A = ℕ} 0 1 = cc in absurd (omega arith))
     (λ k q.
-    let i : a ≡ at = cc in
-    let j : e ≡ at + before by (drop at s) = cc in
+    let i : a ≡ at = ap (λ (w : Option Span). on_word w 0 (λ a e. a)) q in
+    let j : e ≡ at + before by (drop at s) = ap (λ (w : Option Span). on_word w 0 (λ a e. e)) q in
     (sym i, (omega arith, omega arith)))
     h

@@ -1,36 +1,34 @@
 -- Byte strings in hex, in ASCII. A text is read in either case and written in upper case; `-` (45) is the byte string of no bytes.
-use Rattle.std.specs.Prelude.{ℕ, ◌+◌, ◌-◌, ◌*◌, ◌/◌, ◌%◌, List, [], ◌∷◌, Bool, true, false, length}
+use Rattle.std.specs.Prelude.{is_none, unwrap_or, ℕ, ◌+◌, ◌-◌, ◌*◌, ◌/◌, ◌%◌, List, [], ◌∷◌, Bool, true, false, length, Option, Some, None, Result, Ok, Err}
 use Rattle.base_choice.specs.Choice.{pick, at_most, is_below}
 use Rattle.base_bytes.specs.Bytes.{same_bytes}
-use Rattle.text_words.specs.declared.hex.Byte.{Byte}
-use Rattle.text_words.specs.declared.hex.Byte.TheVariants as byte
-use Rattle.text_words.specs.declared.hex.HexRead.{HexRead}
-use Rattle.text_words.specs.declared.hex.HexRead.TheVariants.{Bytes, NoRoom, Wrong}
+use Rattle.text_words.specs.declared.hex.HexError.{HexError}
+use Rattle.text_words.specs.declared.hex.HexError.TheVariants.{NoRoom, Wrong}
 
--- the value of a digit, or 16
-unfoldable pub nibble_of : ℕ → ℕ
+-- the value of a digit
+unfoldable pub nibble_of : ℕ → Option ℕ
 nibble_of c =
-    pick (is_below c 48) 16
-    (pick (at_most c 57) (c - 48)
-    (pick (is_below c 65) 16
-    (pick (at_most c 70) (c - 55)
-    (pick (is_below c 97) 16
-    (pick (at_most c 102) (c - 87) 16)))))
+    pick (is_below c 48) None
+    (pick (at_most c 57) (Some (c - 48))
+    (pick (is_below c 65) None
+    (pick (at_most c 70) (Some (c - 55))
+    (pick (is_below c 97) None
+    (pick (at_most c 102) (Some (c - 87)) None)))))
 
 -- the text is pairs of digits
 unfoldable pub pairs_of : List ℕ → Bool
 pairs_of [] = true
 pairs_of (a ∷ []) = false
-pairs_of (a ∷ b ∷ r) = pick (is_below 15 (nibble_of a)) false (pick (is_below 15 (nibble_of b)) false (pairs_of r))
+pairs_of (a ∷ b ∷ r) = pick (is_none (nibble_of a)) false (pick (is_none (nibble_of b)) false (pairs_of r))
 
 -- it is a byte string; the empty text is none: `-` stands for no bytes
 unfoldable pub is_hex : List ℕ → Bool
 is_hex [] = false
 is_hex (c ∷ cs) = pick (same_bytes (c ∷ cs) (45 ∷ [])) true (pairs_of (c ∷ cs))
 
--- the byte that two digits spell. (A digit's value is below 16.)
+-- the byte that two digits spell; what is no digit counts as 0
 unfoldable pub byte_of : ℕ → ℕ → ℕ
-byte_of a b = nibble_of a % 16 * 16 + nibble_of b % 16
+byte_of a b = unwrap_or (nibble_of a) 0 * 16 + unwrap_or (nibble_of b) 0
 
 -- the bytes that pairs of digits spell, and `-` none
 unfoldable pub spelled : List ℕ → List ℕ
@@ -39,15 +37,15 @@ spelled (a ∷ []) = []
 spelled (a ∷ b ∷ r) = byte_of a b ∷ spelled r
 
 -- two digits are a byte
-unfoldable pub hex_byte_of : List ℕ → Byte
-hex_byte_of [] = byte.Wrong
-hex_byte_of (a ∷ []) = byte.Wrong
-hex_byte_of (a ∷ b ∷ []) = pick (is_below 15 (nibble_of a)) byte.Wrong (pick (is_below 15 (nibble_of b)) byte.Wrong (byte.Value (byte_of a b)))
-hex_byte_of (a ∷ b ∷ c ∷ r) = byte.Wrong
+unfoldable pub hex_byte_of : List ℕ → Option ℕ
+hex_byte_of [] = None
+hex_byte_of (a ∷ []) = None
+hex_byte_of (a ∷ b ∷ []) = pick (is_none (nibble_of a)) None (pick (is_none (nibble_of b)) None (Some (byte_of a b)))
+hex_byte_of (a ∷ b ∷ c ∷ r) = None
 
 -- how many bytes a text gives, where `room` of them fit
-unfoldable pub hex_read_of : List ℕ → ℕ → HexRead
-hex_read_of s room = pick (is_hex s) (pick (is_below room (length (spelled s))) NoRoom (Bytes (length (spelled s)))) Wrong
+unfoldable pub hex_read_of : List ℕ → ℕ → Result ℕ HexError
+hex_read_of s room = pick (is_hex s) (pick (is_below room (length (spelled s))) (Err NoRoom) (Ok (length (spelled s)))) (Err Wrong)
 
 -- the bytes, where `room` of them fit; else none
 abbrev pub spelled_in : List ℕ → ℕ → List ℕ

@@ -1,21 +1,19 @@
 -- Decimal numbers as text, in ASCII.
-use Rattle.std.specs.Prelude.{ℕ, zero, suc, ◌+◌, ◌-◌, ◌*◌, ◌/◌, ◌%◌, List, [], ◌∷◌, ◌++◌}
+use Rattle.std.specs.Prelude.{ℕ, zero, suc, ◌+◌, ◌-◌, ◌*◌, ◌/◌, ◌%◌, List, [], ◌∷◌, ◌++◌, Option, Some, None}
 use Rattle.base_choice.specs.Choice.{pick, is_below}
-use Rattle.text_words.specs.declared.numbers.Number.{Number}
-use Rattle.text_words.specs.declared.numbers.Number.TheVariants.{Value, Wrong}
 
 -- what the digits spell after `value`; what is no digit is wrong, and so is more than `most`
-unfoldable pub digits_on : ℕ → ℕ → List ℕ → Number
-digits_on most value [] = Value value
+unfoldable pub digits_on : ℕ → ℕ → List ℕ → Option ℕ
+digits_on most value [] = Some value
 digits_on most value (c ∷ cs) =
-    pick (is_below c 48) Wrong
-    (pick (is_below 57 c) Wrong
-    (pick (is_below most (value * 10 + (c - 48))) Wrong
+    pick (is_below c 48) None
+    (pick (is_below 57 c) None
+    (pick (is_below most (value * 10 + (c - 48))) None
     (digits_on most (value * 10 + (c - 48)) cs)))
 
 -- no digits are no number; zeros may stand in front (decision B25)
-unfoldable pub decimal_of : ℕ → List ℕ → Number
-decimal_of most [] = Wrong
+unfoldable pub decimal_of : ℕ → List ℕ → Option ℕ
+decimal_of most [] = None
 decimal_of most (c ∷ cs) = digits_on most 0 (c ∷ cs)
 
 -- the last k + 1 digits of n at the most, with no zeros in front

@@ -15,7 +15,7 @@ pub mod out {
     pub use crate::writing::{put_decimal, put_hex, put_hex_8, put_hex_16, put_hex_word};
 }
 
-pub use hex::{Byte, HexRead, hex_byte, is_hex, read_hex, spell_hex};
-pub use numbers::{Number, decimal};
+pub use hex::{HexError, hex_byte, is_hex, read_hex, spell_hex};
+pub use numbers::decimal;
 pub use old::{put_column, put_decimal, put_hex, put_hex_8, put_hex_16, put_hex_word, put_spaces};
-pub use words::{Word, count_words, next_field, next_word, past, until};
+pub use words::{Span, count_words, next_field, next_word, past, until};

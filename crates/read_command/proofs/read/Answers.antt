@@ -1,34 +1,23 @@
--- `read` meets its contract: each exit is the first row that holds.
-use Rattle.read_command.specs.Reading.{read_of}
-use Rattle.read_command.specs.Requests.{data_wrong}
-use Rattle.base_status.specs.Rows.{word_of}
-use mathlib.Core.Path.{refl}
+-- `read` meets its contract: the rows before the data field, and then what the data field makes.
+use Rattle.std.proofs.lemmas.Result.{err_from_is_err_and}
+use mathlib.Core.Path.{sym, ◌∙◌}
+use Rattle.read_frame.proofs.Rows.{framing-refused, framing-passed}
+use Rattle.read_command.specs.Requests.{field_of, data_wrong}
+use Rattle.read_command.specs.Reading.{request_read, read_of}
+use Rattle.read_command.proofs.Answers.{request-wrong}
 use Rattle.read_command.proofs.read.Goals as goal
 
-pub returns-then-length_wrong : goal.returns-then-length_wrong
-unfolding read_of word_of
-returns-then-length_wrong c = rw (← c.length_wrong.ensures) (rw c.if-length_wrong.true refl)
-
-pub returns-then-class_wrong : goal.returns-then-class_wrong
-unfolding read_of word_of
-returns-then-class_wrong c = rw (← c.length_wrong.ensures) (rw c.if-length_wrong.false (rw (← c.class_wrong.ensures) (rw c.if-class_wrong.true refl)))
-
-pub returns-then-instruction_wrong : goal.returns-then-instruction_wrong
-unfolding read_of word_of
-returns-then-instruction_wrong c = rw (← c.length_wrong.ensures) (rw c.if-length_wrong.false (rw (← c.class_wrong.ensures) (rw c.if-class_wrong.false (rw (← c.instruction_wrong.ensures) (rw c.if-instruction_wrong.true refl)))))
-
-pub returns-then-parameters_wrong : goal.returns-then-parameters_wrong
-unfolding read_of word_of
-returns-then-parameters_wrong c = rw (← c.length_wrong.ensures) (rw c.if-length_wrong.false (rw (← c.class_wrong.ensures) (rw c.if-class_wrong.false (rw (← c.instruction_wrong.ensures) (rw c.if-instruction_wrong.false (rw (← c.parameters_wrong.ensures) (rw c.if-parameters_wrong.true refl)))))))
-
-pub returns-then-shape_wrong : goal.returns-then-shape_wrong
-unfolding read_of word_of
-returns-then-shape_wrong c = rw (← c.length_wrong.ensures) (rw c.if-length_wrong.false (rw (← c.class_wrong.ensures) (rw c.if-class_wrong.false (rw (← c.instruction_wrong.ensures) (rw c.if-instruction_wrong.false (rw (← c.parameters_wrong.ensures) (rw c.if-parameters_wrong.false (rw (← c.shape_wrong.ensures) (rw c.if-shape_wrong.true refl)))))))))
-
-pub returns-in_default : goal.returns-in_default
-unfolding read_of word_of data_wrong
-returns-in_default c = rw (← c.length_wrong.ensures) (rw c.if-length_wrong.false (rw (← c.class_wrong.ensures) (rw c.if-class_wrong.false (rw (← c.instruction_wrong.ensures) (rw c.if-instruction_wrong.false (rw (← c.parameters_wrong.ensures) (rw c.if-parameters_wrong.false (rw (← c.shape_wrong.ensures) (rw c.if-shape_wrong.false (rw (← c.read_field.ensures) (rw c.in_default.is refl)))))))))))
+pub returns-in_err-framing : goal.returns-in_err-framing
+unfolding read_of
+returns-in_err-framing c = let s = c.args.bytes.now in
+    let f = field_of s c.args.capacity in
+    let p = err_from_is_err_and c.from_residual.result c.from_residual.ensures.1 in
+    let e = sym c.in_err-framing.was ∙ c.framing.ensures in
+    rw (p.1, p.2) (framing-refused _ _ _ _ _ (data_wrong s c.args.capacity) (request_read f) _ (rw c.instruction_wrong.ensures at e))
 
 pub returns : goal.returns
-unfolding read_of word_of data_wrong
-returns c = rw (← c.length_wrong.ensures) (rw c.if-length_wrong.false (rw (← c.class_wrong.ensures) (rw c.if-class_wrong.false (rw (← c.instruction_wrong.ensures) (rw c.if-instruction_wrong.false (rw (← c.parameters_wrong.ensures) (rw c.if-parameters_wrong.false (rw (← c.shape_wrong.ensures) (rw c.if-shape_wrong.false (rw (← c.read_field.ensures) (rw c.in-Found.is refl)))))))))))
+unfolding read_of data_wrong
+returns c = let s = c.args.bytes.now in
+    let f = field_of s c.args.capacity in
+    let e = sym c.in_ok-framing.was ∙ c.framing.ensures in
+    rw (c.ok_or.ensures.value, c.read_field.ensures) (framing-passed _ _ _ _ _ _ (request_read f) (request-wrong f) (rw c.instruction_wrong.ensures at e))

@@ -2,20 +2,22 @@
 use Rattle.read_install.proofs.Listing.{left-start, left_end, left-wrong, left-next}
 use Rattle.read_tlv.proofs.Inside.{expect-inside}
 use native.Mathlib.Omega.{arith}
-use mathlib.Core.Path.{sym, ◌∙◌}
 use Rattle.read_install.proofs.read_protocols.Goals as goal
 
-pub loop-from-init : goal.loop-from-init
-loop-from-init c = left-start _ _ _
+pub loop-value-init : goal.loop-value-init
+loop-value-init c = left-start _ _ _
 
-pub returns-in_default : goal.returns-in_default
-returns-in_default c = left-wrong _ _ _ _ (omega arith) (sym c.in_default.is ∙ c.next_element.ensures) c.loop-from.invariant
+pub loop-value-smaller : goal.loop-value-smaller
+loop-value-smaller c =
+    let e = c.in_ok-next.ensures in let i = expect-inside _ _ _ _ _ _ _ _ e.found in rw e.moved (omega arith)
 
-pub loop-from-smaller : goal.loop-from-smaller
-loop-from-smaller c = let e = sym c.in-Found.is ∙ c.next_element.ensures in let i = expect-inside _ _ _ _ _ _ c.in-Found.start c.in-Found.stop e in omega arith
+pub loop-value-preserved : goal.loop-value-preserved
+loop-value-preserved c =
+    let e = c.in_ok-next.ensures in let i = expect-inside _ _ _ _ _ _ _ _ e.found in
+    rw e.moved (left-next _ _ _ _ _ _ (omega arith) e.found (omega arith) c.loop-value.invariant)
 
-pub loop-from-preserved : goal.loop-from-preserved
-loop-from-preserved c = let e = sym c.in-Found.is ∙ c.next_element.ensures in let i = expect-inside _ _ _ _ _ _ c.in-Found.start c.in-Found.stop e in left-next _ _ _ _ c.in-Found.start c.in-Found.stop (omega arith) e (omega arith) c.loop-from.invariant
+pub returns-in_err-next : goal.returns-in_err-next
+returns-in_err-next c = rw c.from_residual.ensures (left-wrong _ _ _ _ (omega arith) c.in_err-next.ensures.found c.loop-value.invariant)
 
 pub returns : goal.returns
-returns c = left_end _ _ _ _ (omega arith) c.loop-from.invariant
+returns c = left_end _ _ _ _ (omega arith) c.loop-value.invariant

@@ -4,8 +4,8 @@ use Rattle.read_install.specs.Parameters.{protocols_at}
 use Prim.Native.Nat.{◌-◌}
 use Rattle.read_install.proofs.read_protocols.Given as goal
 
-abbrev pub invariant-loop-from : goal.invariant-loop-from
-invariant-loop-from l = Left (protocols_at l.s l.at l.end) l.s l.from l.end
+abbrev pub invariant-loop-value : goal.invariant-loop-value
+invariant-loop-value l = Left (protocols_at l.fn.value.bytes.now l.fn.value.at l.fn.value.end) l.value.bytes.now l.value.at l.value.end
 
-abbrev pub decreases-loop-from : goal.decreases-loop-from
-decreases-loop-from l = l.end - l.from
+abbrev pub decreases-loop-value : goal.decreases-loop-value
+decreases-loop-value l = l.value.end - l.value.at

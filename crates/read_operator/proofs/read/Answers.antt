@@ -1,33 +1,21 @@
--- `read` meets its contract: each exit is the first row that holds.
-use mathlib.Core.Path.{refl}
-use Rattle.base_status.specs.Rows.{word_of}
-use Rattle.read_operator.specs.Reading.{policy_wrong, update_of}
+-- `read` meets its contract: the rows before the data field, and then what the data field makes.
+use Rattle.std.proofs.lemmas.Result.{err_from_is_err_and}
+use mathlib.Core.Path.{sym, ◌∙◌}
+use Rattle.read_frame.proofs.Rows.{framing-refused, framing-passed}
+use Rattle.read_operator.specs.Field.{policy_of}
+use Rattle.read_operator.specs.Reading.{policy_wrong, update_read, update_of}
+use Rattle.read_operator.proofs.Answers.{policy-refused}
 use Rattle.read_operator.proofs.read.Goals as goal
 
-pub returns-then-length_wrong : goal.returns-then-length_wrong
-unfolding update_of word_of
-returns-then-length_wrong c = rw (← c.length_wrong.ensures, c.if-length_wrong.true) refl
-
-pub returns-then-class_wrong : goal.returns-then-class_wrong
-unfolding update_of word_of
-returns-then-class_wrong c = rw (← c.length_wrong.ensures, c.if-length_wrong.false, ← c.class_wrong.ensures, c.if-class_wrong.true) refl
-
-pub returns-then-not_store_data : goal.returns-then-not_store_data
-unfolding update_of word_of
-returns-then-not_store_data c = rw (← c.length_wrong.ensures, c.if-length_wrong.false, ← c.class_wrong.ensures, c.if-class_wrong.false, ← c.not_store_data.ensures, c.if-not_store_data.true) refl
-
-pub returns-then-parameters_wrong : goal.returns-then-parameters_wrong
-unfolding update_of word_of
-returns-then-parameters_wrong c = rw (← c.length_wrong.ensures, c.if-length_wrong.false, ← c.class_wrong.ensures, c.if-class_wrong.false, ← c.not_store_data.ensures, c.if-not_store_data.false, ← c.parameters_wrong.ensures, c.if-parameters_wrong.true) refl
-
-pub returns-then-shape_wrong : goal.returns-then-shape_wrong
-unfolding update_of word_of
-returns-then-shape_wrong c = rw (← c.length_wrong.ensures, c.if-length_wrong.false, ← c.class_wrong.ensures, c.if-class_wrong.false, ← c.not_store_data.ensures, c.if-not_store_data.false, ← c.parameters_wrong.ensures, c.if-parameters_wrong.false, ← c.shape_wrong.ensures, c.if-shape_wrong.true) refl
-
-pub returns-in_default : goal.returns-in_default
-unfolding update_of word_of policy_wrong
-returns-in_default c = rw (← c.length_wrong.ensures, c.if-length_wrong.false, ← c.class_wrong.ensures, c.if-class_wrong.false, ← c.not_store_data.ensures, c.if-not_store_data.false, ← c.parameters_wrong.ensures, c.if-parameters_wrong.false, ← c.shape_wrong.ensures, c.if-shape_wrong.false, ← c.read_policy.ensures, c.in_default.is) refl
+pub returns-in_err-framing : goal.returns-in_err-framing
+unfolding update_of
+returns-in_err-framing c = let s = c.args.bytes.now in
+    let p = err_from_is_err_and c.from_residual.result c.from_residual.ensures.1 in
+    let e = sym c.in_err-framing.was ∙ c.framing.ensures in
+    rw (p.1, p.2) (framing-refused _ _ _ _ _ (policy_wrong s) (update_read (policy_of s)) _ (rw c.not_store_data.ensures at e))
 
 pub returns : goal.returns
-unfolding update_of word_of policy_wrong
-returns c = rw (← c.length_wrong.ensures, c.if-length_wrong.false, ← c.class_wrong.ensures, c.if-class_wrong.false, ← c.not_store_data.ensures, c.if-not_store_data.false, ← c.parameters_wrong.ensures, c.if-parameters_wrong.false, ← c.shape_wrong.ensures, c.if-shape_wrong.false, ← c.read_policy.ensures, c.in-Found.is) refl
+unfolding update_of policy_wrong
+returns c = let f = policy_of c.args.bytes.now in
+    let e = sym c.in_ok-framing.was ∙ c.framing.ensures in
+    rw (c.ok_or.ensures.value, c.read_policy.ensures) (framing-passed _ _ _ _ _ _ (update_read f) (policy-refused f) (rw c.not_store_data.ensures at e))

@@ -22,4 +22,4 @@ returns-in_default c = let e = refused-read c.args.card c.args.verdict c.args.by
     rw e (kept _ refl (rw w at c.refused-in_default.ensures))
 
 pub returns : goal.returns
-returns c = rw (known_read c.args.card c.args.verdict c.args.bytes.now (length c.args.buf.now) (omega arith) _ (sym c.in-Read.is ∙ c.read-reading.ensures)) c.serve.ensures
+returns c = rw (known_read c.args.card c.args.verdict c.args.bytes.now (length c.args.buf.now) (omega arith) _ (sym c.in-Ok.is ∙ c.read-reading.ensures)) c.serve.ensures

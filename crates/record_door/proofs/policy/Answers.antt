@@ -26,5 +26,5 @@ returns-in_default c = let s = c.args in
 
 pub returns : goal.returns
 returns c = let s = c.args in
-    rw (known-update s.card s.speaker.now s.bytes.now (length s.buf.now) (omega arith) _ (sym c.in-Read.is ∙ c.read-update.ensures))
-    (none-served s.card (inner_work s.card s.speaker.now (set_policy c.in-Read.policy)) _ refl c.set_policy.ensures)
+    rw (known-update s.card s.speaker.now s.bytes.now (length s.buf.now) (omega arith) _ (sym c.in-Ok.is ∙ c.read-update.ensures))
+    (none-served s.card (inner_work s.card s.speaker.now (set_policy c.in-Ok.policy)) _ refl c.set_policy.ensures)

@@ -1,34 +1,34 @@
--- `hex::nibble` meets its contract. Each exit names the tests that lead to it.
+-- `hex::nibble` meets its contract. Each arm names the tests that lead to it.
 use native.Mathlib.Omega.{arith}
 use Rattle.base_choice.proofs.Branches.{le!, nle!, lt!, nlt! }
 use mathlib.Core.Path.{refl}
 use Rattle.text_words.specs.Hex.{nibble_of}
 use Rattle.text_words.proofs.hex.nibble.Goals as goal
 
-pub returns-then-c-lt48 : goal.returns-then-c-lt48
+pub returns-in-48-to-57-clause-value : goal.returns-in-48-to-57-clause-value
 unfolding nibble_of
-returns-then-c-lt48 c = lt! _ (omega arith) refl
+returns-in-48-to-57-clause-value c = nlt! _ (omega arith) (le! _ (omega arith) refl)
 
-pub returns-then-c-le57 : goal.returns-then-c-le57
+pub returns-in-65-to-70-clause-value : goal.returns-in-65-to-70-clause-value
 unfolding nibble_of
-returns-then-c-le57 c = nlt! _ (omega arith) (le! _ (omega arith) refl)
+returns-in-65-to-70-clause-value c = nlt! _ (omega arith) (nle! _ (omega arith) (nlt! _ (omega arith) (le! _ (omega arith) refl)))
 
-pub returns-then-c-lt65 : goal.returns-then-c-lt65
+pub returns-in-97-to-102-clause-value : goal.returns-in-97-to-102-clause-value
 unfolding nibble_of
-returns-then-c-lt65 c = nlt! _ (omega arith) (nle! _ (omega arith) (lt! _ (omega arith) refl))
+returns-in-97-to-102-clause-value c = nlt! _ (omega arith) (nle! _ (omega arith) (nlt! _ (omega arith) (nle! _ (omega arith) (nlt! _ (omega arith) (le! _ (omega arith) refl)))))
 
-pub returns-then-c-le70 : goal.returns-then-c-le70
+pub returns-in_default-clause-value : goal.returns-in_default-clause-value
 unfolding nibble_of
-returns-then-c-le70 c = nlt! _ (omega arith) (nle! _ (omega arith) (nlt! _ (omega arith) (le! _ (omega arith) refl)))
+returns-in_default-clause-value c = lt! _ (omega arith) refl
 
-pub returns-then-c-lt97 : goal.returns-then-c-lt97
+pub returns-in_default-2-clause-value : goal.returns-in_default-2-clause-value
 unfolding nibble_of
-returns-then-c-lt97 c = nlt! _ (omega arith) (nle! _ (omega arith) (nlt! _ (omega arith) (nle! _ (omega arith) (lt! _ (omega arith) refl))))
+returns-in_default-2-clause-value c = nlt! _ (omega arith) (nle! _ (omega arith) (lt! _ (omega arith) refl))
 
-pub returns-then-c-le102 : goal.returns-then-c-le102
+pub returns-in_default-3-clause-value : goal.returns-in_default-3-clause-value
 unfolding nibble_of
-returns-then-c-le102 c = nlt! _ (omega arith) (nle! _ (omega arith) (nlt! _ (omega arith) (nle! _ (omega arith) (nlt! _ (omega arith) (le! _ (omega arith) refl)))))
+returns-in_default-3-clause-value c = nlt! _ (omega arith) (nle! _ (omega arith) (nlt! _ (omega arith) (nle! _ (omega arith) (lt! _ (omega arith) refl))))
 
-pub returns : goal.returns
+pub returns-in_default-4-clause-value : goal.returns-in_default-4-clause-value
 unfolding nibble_of
-returns c = nlt! _ (omega arith) (nle! _ (omega arith) (nlt! _ (omega arith) (nle! _ (omega arith) (nlt! _ (omega arith) (nle! _ (omega arith) refl)))))
+returns-in_default-4-clause-value c = nlt! _ (omega arith) (nle! _ (omega arith) (nlt! _ (omega arith) (nle! _ (omega arith) (nlt! _ (omega arith) (nle! _ (omega arith) refl)))))

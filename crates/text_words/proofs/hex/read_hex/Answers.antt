@@ -6,16 +6,16 @@ use Rattle.base_bytes.proofs.PutLaws.{put_as, put-kept}
 use Rattle.text_words.proofs.HexLaws.{hex-fits, hex-full, hex-wrong}
 use Rattle.text_words.proofs.hex.read_hex.Goals as goal
 
+pub returns-then-not-is_hex : goal.returns-then-not-is_hex
+returns-then-not-is_hex c = let e = hex-wrong _ _ (sym c.is_hex.ensures ∙ c.if-not-is_hex.true) in
+    (e.0, put-kept _ _ e.1)
+
 pub returns-then-out-n : goal.returns-then-out-n
 returns-then-out-n c = let room = length c.args.out.now in
-    let e = hex-full _ room (sym c.is_hex.ensures ∙ c.if-is_hex.true) (omega arith) in
+    let e = hex-full _ room (sym c.is_hex.ensures ∙ c.if-not-is_hex.false) (omega arith) in
     (e.0, put-kept _ _ e.1)
-
-pub returns-then-is_hex : goal.returns-then-is_hex
-returns-then-is_hex c = let room = length c.args.out.now in
-    let e = hex-fits _ room (sym c.is_hex.ensures ∙ c.if-is_hex.true) (omega arith) in
-    (e.0, put_as _ _ e.1 c.spell.ensures)
 
 pub returns : goal.returns
-returns c = let e = hex-wrong _ _ (sym c.is_hex.ensures ∙ c.if-is_hex.false) in
-    (e.0, put-kept _ _ e.1)
+returns c = let room = length c.args.out.now in
+    let e = hex-fits _ room (sym c.is_hex.ensures ∙ c.if-not-is_hex.false) (omega arith) in
+    (e.0, put_as _ _ e.1 c.spell.ensures)
