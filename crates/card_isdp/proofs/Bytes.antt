@@ -1,15 +1,15 @@
--- Laws on byte strings as the loops go over them: a turn, and the end, of the test for zeros and of the padding.
+-- Laws on byte strings as the loops go over them: a turn, and the end, of the test for zeros.
 -- Each turn takes `drop i` apart once. Assumes nothing.
 use mathlib.Core.Path.{◌≡◌, refl, ap, sym}
-use Prim.Native.Nat.{ℕ, zero, suc, ◌+◌, ◌-◌, ◌≤◌, ◌<◌}
+use Prim.Native.Nat.{ℕ, zero, suc, ◌+◌, ◌≤◌, ◌<◌}
 use native.Mathlib.Numerals.{add-one}
 use native.Mathlib.Omega.{arith}
-use mathlib.Core.List.{List, [], ◌∷◌, ◌++◌, append-nil}
+use mathlib.Core.List.{List, [], ◌∷◌, append-nil}
 use mathlib.Core.Bool.{Bool, true, false, ◌&&◌}
-use lib.ListN.{length, get_or, take, drop, set, replicate, drop_of_length-le}
-use lib.Seq.{drop-cons, set_at, take-suc, take_all, append_snoc, length-take-le}
-use lib.Dec.{leb, eqb}
-use borrow.Author.Tests.{le-leb, lt-leb, leb-true, leb-false, eq-eqb, ne_eqb, eqb-true, eqb-false}
+use lib.ListN.{length, get_or, take, drop, drop_of_length-le}
+use lib.Seq.{drop-cons, take_all}
+use lib.Dec.{eqb}
+use borrow.Author.Tests.{eq-eqb, ne_eqb, eqb-true, eqb-false}
 use Rattle.card_isdp.specs.Aids.{padded}
 use Rattle.card_isdp.specs.Place.{zeros}
 
@@ -21,33 +21,7 @@ pub zeros-end : (l : List ℕ) (i : ℕ) → length l ≤ i → zeros (drop i l)
 unfolding zeros
 zeros-end l i h = rw (drop_of_length-le l h)
 
--- one byte more of an AID with zeros after it
-pub pad-step : (s : List ℕ) (i : ℕ) → i < length s → i < 16 → set (take i s ++ replicate (16 - i) 0) i (get_or s i 0) ≡ take (i + 1) s ++ replicate (16 - (i + 1)) 0
-pad-step s i h k =
-    let e : 16 - i ≡ suc (16 - (i + 1)) = omega arith in
-    rw (e, set_at (take i s) 0 (replicate (16 - (i + 1)) 0) (get_or s i 0) i (length-take-le i s (omega arith)), add-one, take-suc s i 0, append_snoc)
-
--- the AID came to its end
-pub pad-short : (s : List ℕ) (i : ℕ) → i ≡ length s → length s ≤ 16 → take i s ++ replicate (16 - i) 0 ≡ padded s
-unfolding padded
-pad-short s i e h = rw (e, take_all (length s) s (omega arith), take_all 16 s h)
-
--- the sixteen bytes are full
-pub pad-full : (s : List ℕ) (i : ℕ) → i ≡ 16 → 16 ≤ length s → take i s ++ replicate (16 - i) 0 ≡ padded s
-unfolding padded
-pad-full s i e h =
-    let z : 16 - length s ≡ 0 = omega arith in
-    rw (e, z)
-
--- two orders that hold together have one test
-leb-at : (a b x y : ℕ) (t : Bool) → leb a b ≡ t → (a ≤ b → x ≤ y) → (b < a → y < x) → t ≡ leb x y
-leb-at a b x y true e f g = sym (le-leb x y (f (leb-true a b e)))
-leb-at a b x y false e f g = sym (lt-leb x y (g (leb-false a b e)))
-
-pub leb-same : (a b x y : ℕ) → (a ≤ b → x ≤ y) → (b < a → y < x) → leb a b ≡ leb x y
-leb-same a b x y f g = leb-at a b x y (leb a b) refl f g
-
--- and so two equations
+-- two equations that hold together have one test
 eqb-at : (a b x y : ℕ) (t : Bool) → eqb a b ≡ t → (a ≡ b → x ≡ y) → (x ≡ y → a ≡ b) → t ≡ eqb x y
 eqb-at a b x y true e f g = sym (eq-eqb x y (f (eqb-true a b e)))
 eqb-at a b x y false e f g = sym (ne_eqb x y (λ h. eqb-false a b e (g h)))

@@ -1,5 +1,5 @@
 -- Document 01, 'The card': what one place keeps in a sound card, and when two places bear one AID.
-use Rattle.std.specs.Prelude.{ℕ, List, [], ◌∷◌, Bool, true, false, not, cond, ◌&&◌, ◌||◌, length, drop, leb, eqb}
+use Rattle.std.specs.Prelude.{ℕ, List, [], ◌∷◌, Bool, true, not, cond, ◌&&◌, ◌||◌, length, drop, leb, eqb}
 use Rattle.base_bytes.specs.Bytes.{same_bytes}
 use Rattle.card_isdp.specs.Sizes.{least_aid, most_aid}
 use Rattle.card_isdp.specs.Aids.{named, no_aid, aid_of}

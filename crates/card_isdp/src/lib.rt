@@ -2,7 +2,7 @@
 // A place that is not held is the record of zeros; every function answers for every record, sound or not.
 #![tactic(auto)]
 
-ghost use Rattle.std.specs.Prelude.{◌≡◌, cond, ◌&&◌, ◌+◌, ◌≤◌, length, drop, leb, ltb, eqb};
+ghost use Rattle.std.specs.Prelude.{◌≡◌, cond, ◌&&◌, ◌+◌, ◌/◌, ◌%◌, ◌≤◌, length, drop, leb, ltb, eqb};
 ghost use Rattle.card_isdp.specs.Sizes.{most_aid};
 ghost use Rattle.card_isdp.specs.Aids.{aid_ok, padded, named, no_aid, bytes_of};
 ghost use Rattle.card_isdp.specs.Policy.{policy_ok, forbids_disabling, forbids_deletion, once_disabled};
@@ -49,18 +49,13 @@ pub fn aid_ok(aid: &[u8]) -> bool
 }
 
 // The first sixteen bytes of the AID, with zeros after them where it is shorter.
+#[tactic(auto, unfolding(crate::specs::Aids::padded))]
 pub fn pad(aid: &[u8]) -> [u8; 16]
     ensures { result ≡ padded aid.now }
 {
-    let mut bytes = [0u8; 16];
-    let mut i = 0;
-    while i < 16 {
-        if i == aid.len() {
-            return bytes;
-        }
-        bytes[i] = aid[i];
-        i += 1;
-    }
+    let mut bytes = [0; 16];
+    let n = aid.len().min(16);
+    bytes[..n].copy_from_slice(&aid[..n]);
     bytes
 }
 
@@ -68,21 +63,19 @@ impl Aid {
     pub fn none() -> Aid
         ensures { result ≡ no_aid }
     {
-        let bytes = [0u8; 16];
-        Aid { bytes, len: 0 }
+        Aid {
+            bytes: [0; 16],
+            len: 0,
+        }
     }
 
     // The AID as it is kept; of one that is too long, the first sixteen bytes.
     pub fn of(aid: &[u8]) -> Aid
         ensures { result ≡ named aid.now }
     {
-        let bytes = pad(aid);
-        if aid.len() > 16 {
-            return Aid { bytes, len: 16 };
-        }
         Aid {
-            bytes,
-            len: aid.len() as u8,
+            bytes: pad(aid),
+            len: aid.len().min(16) as u8,
         }
     }
 
@@ -90,11 +83,14 @@ impl Aid {
     pub fn size(self) -> usize
         ensures { (result ≡ length (bytes_of self)) × (result ≤ most_aid) }
     {
-        let n = self.len as usize;
-        if n > 16 {
-            return 16;
-        }
-        n
+        (self.len as usize).min(16)
+    }
+
+    // The bytes that are the AID.
+    pub fn as_slice(&self) -> &[u8]
+        ensures { result.now ≡ bytes_of self.now }
+    {
+        &self.bytes[..self.size()]
     }
 
     // The bytes that are the AID.
@@ -113,22 +109,30 @@ pub fn policy_ok(policy: u8) -> bool
     policy <= 4
 }
 
+// Is the bit of this weight set?
+fn bit<const WEIGHT: u8>(policy: u8) -> bool
+    requires { 1 ≤ WEIGHT }
+    ensures { result ≡ eqb (policy / WEIGHT % 2) 1 }
+{
+    policy / WEIGHT % 2 == 1
+}
+
 pub fn forbids_disabling(policy: u8) -> bool
     ensures { result ≡ forbids_disabling policy }
 {
-    policy % 2 == 1
+    bit::<1>(policy)
 }
 
 pub fn forbids_deletion(policy: u8) -> bool
     ensures { result ≡ forbids_deletion policy }
 {
-    policy / 2 % 2 == 1
+    bit::<2>(policy)
 }
 
 pub fn once_disabled(policy: u8) -> bool
     ensures { result ≡ once_disabled policy }
 {
-    policy / 4 % 2 == 1
+    bit::<4>(policy)
 }
 
 // Is the mark of provisioning capability legal?
@@ -143,17 +147,15 @@ fn zeros_from(bytes: [u8; 16], n: usize) -> bool
     ensures { result ≡ zeros (drop n bytes) }
 {
     let mut all = true;
-    let mut i = n;
-    while i < 16 {
+    for i in n..16 {
         all = all & (bytes[i] == 0);
-        i += 1;
     }
     all
 }
 
 // A place that is not held has zeros only.
-fn empty_ok(p: Isdp) -> bool
-    ensures { result ≡ empty_ok p }
+fn empty_ok(p: &Isdp) -> bool
+    ensures { result ≡ empty_ok p.now }
 {
     (p.life == 0) & ((p.quota == 0) & ((p.used == 0) & ((p.policy == 0) & (p.mark == 0))))
 }
@@ -166,54 +168,42 @@ fn life_ok(life: u8) -> bool
 }
 
 // The sizes and codings of a held place, its life cycle apart.
-fn held_ok(p: Isdp, capacity: u32) -> bool
-    ensures { result ≡ held_ok capacity p }
+fn held_ok(p: &Isdp, capacity: u32) -> bool
+    ensures { result ≡ held_ok capacity p.now }
 {
-    let aid = p.aid;
-    (5 <= aid.len)
-        & ((aid.len <= 16)
+    (5 <= p.aid.len)
+        & ((p.aid.len <= 16)
             & ((1 <= p.quota)
                 & ((p.quota <= capacity)
                     & ((p.used <= p.quota) & (policy_ok(p.policy) & mark_ok(p.mark))))))
 }
 
 // The sizes and codings of one place.
-pub fn place_ok(p: Isdp, capacity: u32) -> bool
-    ensures { result ≡ place_ok capacity p }
+#[tactic(auto, unfolding(crate::specs::Place::place_ok))]
+pub fn place_ok(p: &Isdp, capacity: u32) -> bool
+    ensures { result ≡ place_ok capacity p.now }
 {
-    let aid = p.aid;
-    let bytes = aid.bytes;
-    let rest = zeros_from(bytes, aid.len as usize);
-    if aid.len == 0 {
+    let rest = zeros_from(p.aid.bytes, p.aid.len as usize);
+    if p.aid.len == 0 {
         return empty_ok(p) & rest;
     }
     life_ok(p.life) & (held_ok(p, capacity) & rest)
 }
 
 // Is the place held, with this AID?
-pub fn is_for(p: Isdp, aid: &[u8]) -> bool
-    ensures { result ≡ is_for aid.now p }
+#[tactic(auto, unfolding(crate::specs::Place::is_for))]
+pub fn is_for(p: &Isdp, aid: &[u8]) -> bool
+    ensures { result ≡ is_for aid.now p.now }
 {
-    let name = p.aid;
-    if name.len == 0 {
-        return false;
-    }
-    let n = name.size();
-    let bytes = name.bytes;
-    same(&bytes[..n], aid)
+    p.aid.len != 0 && same(p.aid.as_slice(), aid)
 }
 
 // Are the two places held with one AID?
-pub fn clashes(p: Isdp, q: Isdp) -> bool
-    ensures { result ≡ clash p q }
+#[tactic(auto, unfolding(crate::specs::Place::clash))]
+pub fn clashes(p: &Isdp, q: &Isdp) -> bool
+    ensures { result ≡ clash p.now q.now }
 {
-    let name = p.aid;
-    if name.len == 0 {
-        return false;
-    }
-    let n = name.size();
-    let bytes = name.bytes;
-    is_for(q, &bytes[..n])
+    p.aid.len != 0 && is_for(q, p.aid.as_slice())
 }
 
 impl Isdp {
@@ -221,14 +211,13 @@ impl Isdp {
     pub fn none() -> Isdp
         ensures { result ≡ vacant }
     {
-        let aid = Aid::none();
         Isdp {
             quota: 0,
             used: 0,
             life: 0,
             policy: 0,
             mark: 0,
-            aid,
+            aid: Aid::none(),
         }
     }
 
@@ -236,67 +225,59 @@ impl Isdp {
     pub fn made(aid: &[u8], life: u8, quota: u32, used: u32) -> Isdp
         ensures { result ≡ made aid.now life quota used }
     {
-        let name = Aid::of(aid);
-        let mut p = Isdp::none();
-        p.aid = name;
-        p.life = life;
-        p.quota = quota;
-        p.used = used;
-        p
+        Isdp {
+            aid: Aid::of(aid),
+            life,
+            quota,
+            used,
+            ..Isdp::none()
+        }
     }
 
     pub fn with_life(self, life: u8) -> Isdp
         ensures { result ≡ with_life self life }
     {
-        let mut p = self;
-        p.life = life;
-        p
+        Isdp { life, ..self }
     }
 
     pub fn with_used(self, used: u32) -> Isdp
         ensures { result ≡ with_used self used }
     {
-        let mut p = self;
-        p.used = used;
-        p
+        Isdp { used, ..self }
     }
 
     pub fn with_policy(self, policy: u8) -> Isdp
         ensures { result ≡ with_policy self policy }
     {
-        let mut p = self;
-        p.policy = policy;
-        p
+        Isdp { policy, ..self }
     }
 
     pub fn with_mark(self, mark: u8) -> Isdp
         ensures { result ≡ with_mark self mark }
     {
-        let mut p = self;
-        p.mark = mark;
-        p
+        Isdp { mark, ..self }
     }
 
     // DISABLED, with this policy and this mark.
     pub fn finish(self, policy: u8, mark: u8) -> Isdp
         ensures { result ≡ finish self policy mark }
     {
-        let mut p = self;
-        p.life = Isdp::DISABLED;
-        p.policy = policy;
-        p.mark = mark;
-        p
+        Isdp {
+            life: Isdp::DISABLED,
+            policy,
+            mark,
+            ..self
+        }
     }
 
     // An ENABLED place is DISABLED, any other stays.
     pub fn off(self) -> Isdp
         ensures { result ≡ off self }
     {
-        let mut p = self;
         if self.life == Isdp::ENABLED {
-            p.life = Isdp::DISABLED;
+            return self.with_life(Isdp::DISABLED);
         }
-        p
+        self
     }
 
     // May the profile be the fall-back?
@@ -310,9 +291,6 @@ impl Isdp {
     pub fn has_room(self, n: u32) -> bool
         ensures { result ≡ leb (self.used + n) self.quota }
     {
-        if self.quota < self.used {
-            return false;
-        }
-        n <= self.quota - self.used
+        self.used <= self.quota && n <= self.quota - self.used
     }
 }

@@ -14,6 +14,7 @@ use Rattle.card_isdp.specs.declared.Isdp.{Isdp}
 use Rattle.card_isdp.proofs.Bools.{and_l}
 use Rattle.card_places.specs.Places.{at, seek, found_of, any_of, count_of}
 use Rattle.std.specs.Prelude.{Option, Some, None}
+use Rattle.std.specs.Option.{unwrap_or}
 
 seek-case : (t : Isdp → Bool) (p : Isdp) (ps : List Isdp) (b : Bool) → t p ≡ b → t vacant ≡ false → t (at ps (seek t ps)) ≡ any_of t ps → t (at (p ∷ ps) (cond b 0 (suc (seek t ps)))) ≡ (b || any_of t ps)
 seek-case t p ps true e n r = e
@@ -89,3 +90,11 @@ pub held-some : (l : List Isdp) (aid : List ℕ) (t : ℕ) → length l ≡ most
 held-some l aid t n e =
     let m = found-hit (seek (is_for aid) l) t e in
     (m.0, bears aid (at l (seek (is_for aid) l)) (seek-below (is_for aid) l (let k = m.1 in omega arith)))
+
+-- what was found, or the number of places
+or-case : (n : ℕ) (b : Bool) → ltb n most_places ≡ b → n ≤ most_places → unwrap_or (cond b (Some n) None) most_places ≡ n
+or-case n true q h = refl
+or-case n false q h = omega (arith, ltb-false n most_places q)
+
+pub or_places : (t : Isdp → Bool) (l : List Isdp) → length l ≡ most_places → unwrap_or (found_of (seek t l)) most_places ≡ seek t l
+or_places t l e = let h = seek-most t l in or-case (seek t l) (ltb (seek t l) most_places) refl (omega arith)

@@ -4,7 +4,6 @@
 
 ghost use Rattle.std.specs.Prelude.{◌≡◌, ◌&&◌, ◌+◌, ◌<◌, IfSome, set, drop, eqb};
 ghost use Rattle.card_isdp.specs.Sizes.{most_places};
-ghost use Rattle.card_isdp.specs.Aids.{aid_of};
 ghost use Rattle.card_isdp.specs.LifeCycle.{is_enabled};
 ghost use Rattle.card_isdp.specs.Place.{is_for, place_ok, clash};
 ghost use Rattle.card_places.specs.Hashes.{hashes, hash_of};
@@ -52,7 +51,7 @@ fn number(i: Option<usize>) -> Option<u8>
 pub fn find(places: &[Isdp; PLACES], aid: &[u8]) -> Option<u8>
     ensures { result ≡ found_of (seek (is_for aid.now) places.now) }
 {
-    number(places.iter().position(|p| is_for(*p, aid)))
+    number(places.iter().position(|p| is_for(p, aid)))
 }
 
 // The place that is enabled.
@@ -96,15 +95,15 @@ pub fn leave(places: &[Isdp; PLACES], capacity: u32, free: u32) -> bool
 pub fn all_ok(places: &[Isdp; PLACES], capacity: u32) -> bool
     ensures { result ≡ all_of (place_ok capacity) places.now }
 {
-    places.iter().all(|p| place_ok(*p, capacity))
+    places.iter().all(|p| place_ok(p, capacity))
 }
 
 // Does a place from `from` on bear the AID of `p`?
 #[tactic(auto, unfolding(crate::specs::Places::any_of))]
-fn again(places: &[Isdp; PLACES], p: Isdp, from: usize) -> bool
-    ensures { result ≡ any_of (clash p) (drop from places.now) }
+fn again(places: &[Isdp; PLACES], p: &Isdp, from: usize) -> bool
+    ensures { result ≡ any_of (clash p.now) (drop from places.now) }
 {
-    places.iter().skip(from).any(|q| clashes(p, *q))
+    places.iter().skip(from).any(|q| clashes(p, q))
 }
 
 // The hash of an AID.
@@ -118,25 +117,15 @@ fn hash_of(aid: &[u8]) -> usize
     (*a as usize + (29 * *b as usize + 7 * *c as usize)) % HASHES
 }
 
-// The hash of the AID that a place bears.
-fn hash_at(p: Isdp) -> usize
-    ensures { (result ≡ hash_of (aid_of p)) × (result < hashes) }
-{
-    let aid = p.aid;
-    let n = aid.size();
-    let bytes = aid.bytes;
-    hash_of(&bytes[..n])
-}
-
 // From the last place down, so that a place is held against the later ones, as in the definition; only where the hash of its AID was seen before.
 pub fn all_distinct(places: &[Isdp; PLACES]) -> bool
     ensures { result ≡ distinct places.now }
 {
     let mut seen = [false; HASHES];
     for i in (0..PLACES).rev() {
-        let p = places[i];
+        let p = &places[i];
         if p.aid.len != 0 {
-            let h = hash_at(p);
+            let h = hash_of(p.aid.as_slice());
             if seen[h] && again(places, p, i + 1) {
                 return false;
             }

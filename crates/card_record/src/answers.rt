@@ -14,14 +14,12 @@ impl Card {
     pub fn silently(self, word: Status, length: usize) -> Answer
         ensures { result ≡ silent_with (ticks_by_phase self) word self length }
     {
-        let notification = Notification::silent();
-        let ticks = self.ticks_by_phase();
         Answer {
             status: word,
             card: self,
             length,
-            notification,
-            ticks,
+            notification: Notification::silent(),
+            ticks: self.ticks_by_phase(),
         }
     }
 
@@ -36,8 +34,7 @@ impl Card {
     pub fn ticked(self) -> Answer
         ensures { result ≡ answer_with (ticks_by_phase (tick_step self).card) Done (tick_step self) 0 }
     {
-        let phase = self.phase;
-        if phase.waits() {
+        if self.phase.waits() {
             return self.waited().silently(Status::Done, 0);
         }
         // copied where the phase runs out, and not where the tick comes in (decision B42)
@@ -49,12 +46,11 @@ impl Card {
     pub fn unsound(self) -> Answer
         ensures { result ≡ as_answer (refused_with 0 self Unsound) }
     {
-        let notification = Notification::silent();
         Answer {
             status: Status::Unsound,
             card: self,
             length: 0,
-            notification,
+            notification: Notification::silent(),
             ticks: 0,
         }
     }
@@ -65,15 +61,12 @@ impl Step {
     pub fn answer(self, word: Status, length: usize) -> Answer
         ensures { result ≡ answer_with (ticks_by_phase self.card) word self length }
     {
-        let card = self.card;
-        let notification = self.notification;
-        let ticks = card.ticks_by_phase();
         Answer {
             status: word,
-            card,
+            card: self.card,
             length,
-            notification,
-            ticks,
+            notification: self.notification,
+            ticks: self.card.ticks_by_phase(),
         }
     }
 }

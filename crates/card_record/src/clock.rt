@@ -23,13 +23,9 @@ impl Phase {
     {
         match self {
             Phase::Quiet => true,
-            Phase::Trial {
-                previous: _,
-                left,
-                number: _,
-            } => left > 1,
-            Phase::Back { left, number: _ } => left > 1,
-            Phase::Fallen { left, number: _ } => left > 1,
+            Phase::Trial { left, .. } | Phase::Back { left, .. } | Phase::Fallen { left, .. } => {
+                left > 1
+            }
         }
     }
 
@@ -66,13 +62,9 @@ impl Phase {
     {
         match self {
             Phase::Quiet => false,
-            Phase::Trial {
-                previous: _,
-                left: _,
-                number,
-            } => n == number,
-            Phase::Back { left: _, number } => n == number,
-            Phase::Fallen { left: _, number } => n == number,
+            Phase::Trial { number, .. }
+            | Phase::Back { number, .. }
+            | Phase::Fallen { number, .. } => n == number,
         }
     }
 }
@@ -82,116 +74,101 @@ impl Card {
     fn switched(self, i: u8, phase: Phase) -> Card
         ensures { result ≡ switched self i phase }
     {
-        let before = self.places;
-        let places = card_places::enable_at(before, i);
-        let mut after = self;
-        after.last = next_number(self.last);
-        after.places = places;
-        after.with_phase(phase)
+        Card {
+            last: next_number(self.last),
+            places: card_places::enable_at(self.places, i),
+            ..self.with_phase(phase)
+        }
     }
 
     // The change to the profile at a place is opened: Trial.
     pub fn opened(self, t: u8) -> Card
         ensures { result ≡ opened self t }
     {
-        let e = self.enabled_place();
-        let n = next_number(self.last);
-        self.switched(
-            t,
-            Phase::Trial {
-                previous: e,
-                left: Card::WAIT,
-                number: n,
-            },
-        )
+        let phase = Phase::Trial {
+            previous: self.enabled_place(),
+            left: Card::WAIT,
+            number: next_number(self.last),
+        };
+        self.switched(t, phase)
+    }
+
+    // Is the fall-back enabled?
+    pub(crate) fn on_fallback(&self) -> bool
+        ensures { result ≡ on_fallback self.now }
+    {
+        self.profile(self.fallback).life == Isdp::ENABLED
     }
 
     // The fall-back is enabled.
     fn fallen(self) -> Card
         ensures { result ≡ fallen self }
     {
-        let n = next_number(self.last);
-        self.switched(
-            self.fallback,
-            Phase::Fallen {
-                left: Card::WAIT,
-                number: n,
-            },
-        )
+        let phase = Phase::Fallen {
+            left: Card::WAIT,
+            number: next_number(self.last),
+        };
+        self.switched(self.fallback, phase)
     }
 
     // Trial has run out.
     fn trial_over(self, previous: u8) -> Card
         ensures { result ≡ switched self previous (Back wait (next_number self.last)) }
     {
-        let n = next_number(self.last);
-        self.switched(
-            previous,
-            Phase::Back {
-                left: Card::WAIT,
-                number: n,
-            },
-        )
+        let phase = Phase::Back {
+            left: Card::WAIT,
+            number: next_number(self.last),
+        };
+        self.switched(previous, phase)
     }
 
     // Back has run out.
     fn back_over(self) -> Card
         ensures { result ≡ cond (on_fallback self) (with_phase self Quiet) (fallen self) }
     {
-        let p = self.profile(self.fallback);
-        if p.life == Isdp::ENABLED {
+        if self.on_fallback() {
             return self.with_phase(Phase::Quiet);
         }
         self.fallen()
     }
 
     // The card after a tick that leaves its phase open.
+    #[tactic(auto, unfolding(crate::specs::Clock::tick_of))]
     pub(crate) fn waited(self) -> Card
         requires { waits self.phase ≡ true }
         ensures { result ≡ tick_of self }
     {
-        let phase = self.phase;
-        self.with_phase(phase.shorter())
+        self.with_phase(self.phase.shorter())
     }
 
     // The card after a tick that its phase runs out with.
+    #[tactic(auto, unfolding(crate::specs::Clock::tick_of))]
     pub(crate) fn run_out(self) -> Card
         requires { waits self.phase ≡ false }
         ensures { result ≡ tick_of self }
     {
-        let phase = self.phase;
-        match phase {
-            Phase::Quiet => self.with_phase(Phase::Quiet),
-            Phase::Trial {
-                previous,
-                left: _,
-                number: _,
-            } => self.trial_over(previous),
+        match self.phase {
+            Phase::Trial { previous, .. } => self.trial_over(previous),
             Phase::Back { .. } => self.back_over(),
-            Phase::Fallen { .. } => self.with_phase(Phase::Quiet),
+            Phase::Quiet | Phase::Fallen { .. } => self.with_phase(Phase::Quiet),
         }
     }
 
     // The card after the network was lost.
+    #[tactic(auto, unfolding(crate::specs::Clock::without_network))]
     pub(crate) fn without_network(self) -> Card
         ensures { result ≡ without_network self }
     {
-        let phase = self.phase;
-        if !phase.is_quiet() {
-            return self.forgotten();
-        }
-        let p = self.profile(self.fallback);
-        if p.life == Isdp::ENABLED {
+        if !self.phase.is_quiet() || self.on_fallback() {
             return self.forgotten();
         }
         self.fallen()
     }
 
     // Does the confirmation delete the profile at a place?
-    pub(crate) fn dropped(self, i: u8) -> bool
-        ensures { result ≡ dropped self i }
+    pub(crate) fn dropped(&self, i: u8) -> bool
+        ensures { result ≡ dropped self.now i }
     {
-        let p = self.profile(i);
-        once_disabled(p.policy) & (i != self.fallback)
+        once_disabled(self.profile(i).policy) & (i != self.fallback)
     }
 }

@@ -4,7 +4,6 @@ ghost use Rattle.std.specs.Prelude.{◌≡◌, length};
 ghost use Rattle.card_record.specs.Answers.{as_answer};
 ghost use Rattle.card_record.specs.Fresh.{zero_card, fresh_ok, fresh_card, fresh_outcome};
 
-use crate::cards::less;
 use crate::{Answer, Card, Phase};
 use base_status::Status;
 use card_isdp::{Aid, Isdp, aid_ok, pad};
@@ -14,10 +13,8 @@ impl Card {
     pub fn zero() -> Card
         ensures { result ≡ zero_card }
     {
-        let eid = [0u8; 16];
-        let none = Isdp::none();
-        let places = [none; Card::PLACES];
-        Card::with(eid, 0, 0, 0, 0, 0, Phase::Quiet, Card::NO_PLACE, places)
+        let places = [Isdp::none(); Card::PLACES];
+        Card::with([0; 16], 0, 0, 0, 0, 0, Phase::Quiet, Card::NO_PLACE, places)
     }
 
     // Are the inputs of a fresh card within the sizes?
@@ -44,10 +41,9 @@ impl Card {
         ensures { result ≡ fresh_card eid.now aid.now capacity quota used volatile }
     {
         let bytes = pad(eid);
-        let none = Isdp::none();
-        let mut places = [none; Card::PLACES];
+        let mut places = [Isdp::none(); Card::PLACES];
         places[0] = Isdp::made(aid, Isdp::ENABLED, quota, used).with_mark(1);
-        let free = less(capacity, quota);
+        let free = capacity.saturating_sub(quota);
         Card::with(
             bytes,
             capacity,

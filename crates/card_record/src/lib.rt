@@ -38,12 +38,13 @@ pub struct Card {
     pub eid: [u8; 16],
 }
 
+// With the number that document 01 gives each.
 #[derive(Clone, Copy)]
 pub enum Kind {
-    Silent,
-    Changed,
-    RolledBack,
-    FallenBack,
+    Silent = 0,
+    Changed = 2,
+    RolledBack = 3,
+    FallenBack = 5,
 }
 
 // A notification as values; kind Silent with zeros is the one value for 'no notification'.

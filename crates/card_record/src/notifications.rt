@@ -1,21 +1,16 @@
 // Document 01, 'The card': notifications, handed out as values.
 // One is made from the card after a step, where its last number is a new one.
 ghost use Rattle.std.specs.Prelude.{◌≡◌};
-ghost use Rattle.card_record.specs.Notifications.{silent, code_of, issued_as};
+ghost use Rattle.card_record.specs.Notifications.{silent, code_of, notice_kind, notice_since};
 
-use crate::{Card, Kind, Notification};
+use crate::{Card, Kind, Notification, Phase};
 use card_isdp::Aid;
 
 impl Kind {
     pub fn code(self) -> u8
         ensures { result ≡ code_of self }
     {
-        match self {
-            Kind::Silent => 0,
-            Kind::Changed => 2,
-            Kind::RolledBack => 3,
-            Kind::FallenBack => 5,
-        }
+        self as u8
     }
 }
 
@@ -24,30 +19,43 @@ impl Notification {
     pub fn silent() -> Notification
         ensures { result ≡ silent }
     {
-        let eid = [0u8; 16];
-        let aid = Aid::none();
         Notification {
             kind: Kind::Silent,
             number: 0,
-            eid,
-            aid,
+            eid: [0; 16],
+            aid: Aid::none(),
+        }
+    }
+}
+
+impl Phase {
+    // The kind of the notification that goes with a number issued.
+    fn notice_kind(self) -> Kind
+        ensures { result ≡ notice_kind self }
+    {
+        match self {
+            Phase::Quiet => Kind::Silent,
+            Phase::Trial { .. } => Kind::Changed,
+            Phase::Back { .. } => Kind::RolledBack,
+            Phase::Fallen { .. } => Kind::FallenBack,
         }
     }
 }
 
 impl Card {
-    // The notification of the number last issued.
-    pub(crate) fn issued(self, kind: Kind) -> Notification
-        ensures { result ≡ issued_as kind self }
+    // The notification that a card hands out after one whose last number was `last`: none where no number was issued.
+    #[tactic(auto, unfolding(crate::specs::Notifications::notice_since))]
+    pub(crate) fn notice_since(&self, last: u16) -> Notification
+        ensures { result ≡ notice_since last self.now }
     {
-        let eid = self.eid;
-        let p = self.profile(self.enabled_place());
-        let aid = p.aid;
+        if self.last == last {
+            return Notification::silent();
+        }
         Notification {
-            kind,
+            kind: self.phase.notice_kind(),
             number: self.last,
-            eid,
-            aid,
+            eid: self.eid,
+            aid: self.profile(self.enabled_place()).aid,
         }
     }
 }

@@ -13,15 +13,16 @@ fn open_ok(left: u8, number: u16, last: u16) -> bool
 }
 
 impl Card {
-    // The other sizes hold of every record by its types.
-    fn sizes_ok(self) -> bool
-        ensures { result ≡ sizes_ok self }
+    // The other sizes hold of every record by its types, and so does that of the last number.
+    fn sizes_ok(&self) -> bool
+        ensures { result ≡ sizes_ok self.now }
     {
-        (1 <= self.capacity) & (self.capacity <= Card::CAPACITY)
+        (self.last <= Card::LAST_NUMBER)
+            & ((1 <= self.capacity) & (self.capacity <= Card::CAPACITY))
     }
 
-    fn places_ok(self) -> bool
-        ensures { result ≡ places_ok self }
+    fn places_ok(&self) -> bool
+        ensures { result ≡ places_ok self.now }
     {
         card_places::all_ok(&self.places, self.capacity)
             & (card_places::all_distinct(&self.places)
@@ -29,44 +30,42 @@ impl Card {
     }
 
     // Is no place kept, or a held one?
-    fn kept_ok(self) -> bool
-        ensures { result ≡ kept_ok self }
+    fn kept_ok(&self) -> bool
+        ensures { result ≡ kept_ok self.now }
     {
-        let p = self.profile(self.kept);
-        (self.kept == Card::NO_PLACE) | (p.aid.len != 0)
+        (self.kept == Card::NO_PLACE) | (self.profile(self.kept).aid.len != 0)
     }
 
-    fn roles_ok(self) -> bool
-        ensures { result ≡ roles_ok self }
+    fn roles_ok(&self) -> bool
+        ensures { result ≡ roles_ok self.now }
     {
         let p = self.profile(self.fallback);
         (card_places::count_enabled(&self.places) == 1) & (p.may_be_fall_back() & self.kept_ok())
     }
 
-    fn phase_ok(self) -> bool
-        ensures { result ≡ phase_ok self }
+    #[tactic(auto, unfolding(crate::specs::Sound::phase_ok))]
+    fn phase_ok(&self) -> bool
+        ensures { result ≡ phase_ok self.now }
     {
-        let phase = self.phase;
-        match phase {
+        match self.phase {
             Phase::Quiet => true,
             Phase::Trial {
                 previous,
                 left,
                 number,
             } => {
-                let p = self.profile(previous);
-                open_ok(left, number, self.last) & (p.life == Isdp::DISABLED)
+                open_ok(left, number, self.last) & (self.profile(previous).life == Isdp::DISABLED)
             }
             Phase::Back { left, number } => open_ok(left, number, self.last),
             Phase::Fallen { left, number } => {
-                let p = self.profile(self.fallback);
-                open_ok(left, number, self.last) & (p.life == Isdp::ENABLED)
+                open_ok(left, number, self.last) & self.on_fallback()
             }
         }
     }
 
-    pub fn is_sound(self) -> bool
-        ensures { result ≡ sound self }
+    #[tactic(auto, unfolding(crate::specs::Sound::sound))]
+    pub fn is_sound(&self) -> bool
+        ensures { result ≡ sound self.now }
     {
         self.sizes_ok() & (self.places_ok() & (self.roles_ok() & self.phase_ok()))
     }

@@ -2,9 +2,9 @@
 // Every step of the product is made by `step_since`.
 ghost use Rattle.std.specs.Prelude.{◌≡◌};
 ghost use Rattle.card_record.specs.Clock.{trial_closed};
-ghost use Rattle.card_record.specs.Steps.{step_since, step_notified, step_to, tick_step, lost_step, trial_gone, confirm_step};
+ghost use Rattle.card_record.specs.Steps.{step_since, step_to, tick_step, lost_step, trial_gone, confirm_step};
 
-use crate::{Card, Kind, Notification, Phase, Step};
+use crate::{Card, Phase, Step};
 use card_isdp::Aid;
 
 impl Card {
@@ -13,45 +13,24 @@ impl Card {
     pub fn step_since(self, last: u16, deleted: Aid) -> Step
         ensures { result ≡ step_since last self deleted }
     {
-        if self.last == last {
-            let notification = Notification::silent();
-            return Step {
-                card: self,
-                notification,
-                deleted,
-            };
-        }
-        let phase = self.phase;
-        match phase {
-            Phase::Quiet => self.step_notified(Kind::Silent, deleted),
-            Phase::Trial { .. } => self.step_notified(Kind::Changed, deleted),
-            Phase::Back { .. } => self.step_notified(Kind::RolledBack, deleted),
-            Phase::Fallen { .. } => self.step_notified(Kind::FallenBack, deleted),
-        }
-    }
-
-    // A step that issued a number: its notification goes with it.
-    fn step_notified(self, kind: Kind, deleted: Aid) -> Step
-        ensures { result ≡ step_notified kind self deleted }
-    {
-        let notification = self.issued(kind);
         Step {
+            notification: self.notice_since(last),
             card: self,
-            notification,
             deleted,
         }
     }
 
+    #[tactic(auto, unfolding(crate::specs::Steps::tick_step))]
     pub fn tick(self) -> Step
         ensures { result ≡ tick_step self }
     {
-        let phase = self.phase;
-        if phase.waits() {
+        if self.phase.waits() {
             return self.waited().step_since(self.last, Aid::none());
         }
         self.run_out().step_since(self.last, Aid::none())
     }
 
+    #[tactic(auto, unfolding(crate::specs::Steps::lost_step))]
     pub fn lost(self) -> Step
         ensures { result ≡ lost_step self }
     {
@@ -64,28 +43,21 @@ impl Card {
     {
         let quiet = self.with_phase(Phase::Quiet);
         if self.dropped(previous) {
-            let p = self.profile(previous);
-            let after = quiet.cleared(previous);
-            return after.step_since(self.last, p.aid);
+            let deleted = self.profile(previous).aid;
+            return quiet.cleared(previous).step_since(self.last, deleted);
         }
         quiet.step_since(self.last, Aid::none())
     }
 
     // The change is closed by its confirmation.
+    #[tactic(auto, unfolding(crate::specs::Steps::confirm_step, crate::specs::Clock::confirm_of))]
     pub fn confirmed(self) -> Step
         ensures { result ≡ confirm_step self }
     {
-        let phase = self.phase;
-        let quiet = self.with_phase(Phase::Quiet);
-        match phase {
-            Phase::Quiet => quiet.step_since(self.last, Aid::none()),
-            Phase::Trial {
-                previous,
-                left: _,
-                number: _,
-            } => self.trial_confirmed(previous),
-            Phase::Back { .. } => quiet.step_since(self.last, Aid::none()),
-            Phase::Fallen { .. } => quiet.step_since(self.last, Aid::none()),
+        if let Phase::Trial { previous, .. } = self.phase {
+            return self.trial_confirmed(previous);
         }
+        self.with_phase(Phase::Quiet)
+            .step_since(self.last, Aid::none())
     }
 }

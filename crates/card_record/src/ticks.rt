@@ -4,34 +4,28 @@ ghost use Rattle.std.specs.Prelude.{◌≡◌};
 ghost use Rattle.card_record.specs.Ticks.{ticks_by_phase};
 
 use crate::{Card, Phase};
-use card_isdp::Isdp;
 
 impl Card {
     // The ticks still to come, by the phase; the definitions count them step by step.
-    pub fn ticks_by_phase(self) -> u32
-        ensures { result ≡ ticks_by_phase self }
+    #[tactic(auto, unfolding(crate::specs::Ticks::ticks_by_phase))]
+    pub fn ticks_by_phase(&self) -> u32
+        ensures { result ≡ ticks_by_phase self.now }
     {
-        let phase = self.phase;
-        match phase {
+        match self.phase {
             Phase::Quiet => 0,
-            Phase::Trial {
-                previous,
-                left,
-                number: _,
-            } => {
+            Phase::Trial { previous, left, .. } => {
                 if previous == self.fallback {
                     return left as u32 + Card::WAIT as u32;
                 }
                 left as u32 + Card::WAIT as u32 + Card::WAIT as u32
             }
-            Phase::Back { left, number: _ } => {
-                let p = self.profile(self.fallback);
-                if p.life == Isdp::ENABLED {
+            Phase::Back { left, .. } => {
+                if self.on_fallback() {
                     return left as u32;
                 }
                 left as u32 + Card::WAIT as u32
             }
-            Phase::Fallen { left, number: _ } => left as u32,
+            Phase::Fallen { left, .. } => left as u32,
         }
     }
 }

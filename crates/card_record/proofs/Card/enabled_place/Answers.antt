@@ -1,20 +1,16 @@
--- `Card::enabled_place`: what the search found is its number; where it found nothing, that is the number of places.
-use mathlib.Core.Path.{sym, ◌∙◌}
-use native.Mathlib.Omega.{arith}
+-- `Card::enabled_place`: what the search found, or the number of places.
+use mathlib.Core.Path.{◌≡◌, ◌∙◌, ap}
+use Prim.Native.Nat.{ℕ}
+use lib.ListN.{length}
+use borrow.Author.Rules.{rules}
+use Rattle.std.specs.Prelude.{Option}
+use Rattle.std.specs.Option.{unwrap_or}
+use Rattle.card_isdp.specs.Sizes.{most_places}
 use Rattle.card_isdp.specs.LifeCycle.{is_enabled}
-use Rattle.card_places.specs.Places.{seek}
-use Rattle.card_places.proofs.Seeks.{found-hit, found-miss, seek-most}
-use Rattle.card_record.proofs.Records.{full}
+use Rattle.card_places.proofs.Seeks.{or_places}
 use Rattle.card_record.proofs.Card.enabled_place.Goals as goal
 
-pub returns-in_default : goal.returns-in_default
-returns-in_default c = let l = c.args.self.places in
-    let n = full c.args.self _ c.well_formed.0 in
-    let m = found-miss (seek is_enabled l) (sym c.enabled.ensures ∙ c.in_default.is) in
-    let w = seek-most is_enabled l in
-    omega arith
-
 pub returns : goal.returns
-returns c = let l = c.args.self.places in
-    let h = found-hit (seek is_enabled l) _ (sym c.enabled.ensures ∙ c.in-Some.is) in
-    sym h.0
+returns c = let l = c.args.self.now.places in
+    let n : length l ≡ most_places = search rules in
+    c.unwrap_or.ensures ∙ ap (λ (o : Option ℕ). unwrap_or o most_places) c.enabled.ensures ∙ or_places is_enabled l n

@@ -1,9 +1,11 @@
 -- `Card::sizes_ok`: the sizes that it does not ask hold of every record by its types.
-use borrow.Author.Tests.{le-leb}
-use Rattle.card_isdp.specs.Sizes.{last_number}
-use Rattle.card_record.proofs.Records.{full, named, numbered}
+use mathlib.Core.Path.{◌≡◌}
+use lib.ListN.{length}
+use borrow.Author.Rules.{rules}
 use Rattle.card_record.proofs.Card.sizes_ok.Goals as goal
 
 pub returns : goal.returns
-returns c = let card = c.args.self in
-    rw (named card _ c.well_formed.0, full card _ c.well_formed.0, le-leb card.last last_number (numbered card _ c.well_formed.0))
+returns c = let card = c.args.self.now in
+    let n : length card.eid ≡ 16 = search rules in
+    let m : length card.places ≡ 32 = search rules in
+    rw (n, m)

@@ -6,12 +6,6 @@ use Rattle.card_record.proofs.Noticed.{unissued}
 use Rattle.card_record.proofs.Waits.{waited-last}
 use Rattle.card_record.proofs.Card.ticked.Goals as goal
 
-pub waited-requires : goal.waited-requires
-waited-requires c = sym c.waits.ensures ∙ c.if-waits.true
-
 pub returns-then-waits : goal.returns-then-waits
 unfolding tick_step
 returns-then-waits c = rw (c.silently.ensures, c.waited.ensures, unissued c.args.self.last (tick_of c.args.self) (waited-last c.args.self (sym c.waits.ensures ∙ c.if-waits.true)))
-
-pub returns : goal.returns
-returns c = rw (c.answer.ensures, c.tick.ensures)
