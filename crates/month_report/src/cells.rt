@@ -4,7 +4,7 @@ ghost use Rattle.base_bytes.specs.Put.{Written};
 ghost use Rattle.month_report.specs.Report.{figure_text, share_lead, percent_text, share_text, plain_text, minutes_text, total_text};
 
 use base_bytes::Writer;
-use text_words::out::{put_column, put_decimal, put_spaces};
+use text_words::{put_column, put_decimal, put_spaces};
 
 // The letters of the column of names.
 const NAME_COLUMN: usize = 32;

@@ -13,7 +13,7 @@ use base_bytes::Writer;
 use card_isdp::Aid;
 use cells::{put_minutes, put_total};
 use month_tally::{LINES, MINUTES, Names, Tally};
-use text_aid::out::put_aid;
+use text_aid::put_aid;
 
 fn put_line(out: &mut Writer, explain: bool, ticks: u32, aid: Aid, minutes: u32)
     ensures { Written out.old (aid_line explain ticks aid minutes) out.new × (length (aid_line explain ticks aid minutes) ≤ most_report_line) }

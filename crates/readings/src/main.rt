@@ -8,7 +8,7 @@ use base_bytes::{Part, Writer, part_of};
 use read_command::{Request, Tags};
 use std::io::Read;
 use text_input::{count, fail, read_some};
-use text_words::out::{put_decimal, put_hex, put_hex_16};
+use text_words::{put_decimal, put_hex, put_hex_16};
 use text_words::{read_hex, until};
 
 const CAPACITY: u32 = 1000;

@@ -8,8 +8,8 @@ use base_bytes::Writer;
 use base_status::Status;
 use card_record::{Answer, Card, Kind, Notification, Phase};
 use script_table::put_table;
-use text_aid::out::put_aid;
-use text_words::out::{put_decimal, put_hex, put_hex_8};
+use text_aid::put_aid;
+use text_words::{put_decimal, put_hex, put_hex_8};
 
 // What a status word means.
 fn meaning(status: Status) -> &'static [u8]

@@ -5,8 +5,8 @@ ghost use Rattle.script_answer.specs.Lines.{issued_word, notice_word, answer_lin
 
 use base_bytes::Writer;
 use card_record::{Answer, Kind, Notification};
-use text_aid::out::put_aid;
-use text_words::out::{put_decimal, put_hex_8, put_hex_16, put_hex_word};
+use text_aid::put_aid;
+use text_words::{put_decimal, put_hex_8, put_hex_16, put_hex_word};
 
 fn put_issued(out: &mut Writer, notification: Notification)
     ensures { Written out.old (issued_word notification) out.new }

@@ -5,7 +5,7 @@ ghost use Rattle.script_reply.specs.Reasons.{reason_text, reason_line, most_faul
 
 use base_bytes::Writer;
 use script_words::Reason;
-use text_words::out::put_decimal;
+use text_words::put_decimal;
 
 fn words(reason: Reason) -> &'static [u8]
     ensures { result.now ≡ reason_text reason }

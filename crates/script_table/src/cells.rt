@@ -6,7 +6,7 @@ ghost use Rattle.script_table.specs.Profiles.{state_text, yes_text, provisioning
 
 use base_bytes::Writer;
 use card_isdp::Isdp;
-use text_words::out::{put_hex_8, put_spaces};
+use text_words::{put_hex_8, put_spaces};
 
 #[tactic(auto, unfolding(crate::specs::Profiles::state_text, base_choice::specs::Choice::pick, base_choice::specs::Choice::is_same))]
 pub fn put_state(out: &mut Writer, life: u8)

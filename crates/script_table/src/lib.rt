@@ -14,8 +14,8 @@ use card_isdp::Isdp;
 use card_places::PLACES;
 use card_record::Card;
 use cells::{aid_size, put_policy, put_provisioning, put_state, put_yes};
-use text_aid::out::put_aid;
-use text_words::out::{put_column, put_spaces};
+use text_aid::put_aid;
+use text_words::{put_column, put_spaces};
 
 // The AID stands in a column as wide as the widest.
 fn put_name_cells(out: &mut Writer, p: &Isdp, place: usize, widest: u8)
