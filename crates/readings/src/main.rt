@@ -2,14 +2,10 @@
 // the word of its refusal. Empty lines and lines that begin with `#` are passed over.
 #![tactic(auto)]
 
-ghost use Rattle.std.specs.Prelude.{◌≤◌, length};
-
 use base_bytes::{Part, Writer, part_of};
 use read_command::{Request, Tags};
-use std::io::Read;
-use text_input::{count, fail, read_some};
-use text_words::{put_decimal, put_hex, put_hex_16};
-use text_words::{read_hex, until};
+use text_input::{put_out, read_full};
+use text_words::{put_decimal, put_hex, put_hex_16, read_hex};
 
 const CAPACITY: u32 = 1000;
 
@@ -68,13 +64,6 @@ fn put_reading(out: &mut Writer, bytes: &[u8]) {
     }
 }
 
-// Bytes written to standard output; where they could not be, all of them, that is told on standard error.
-fn put_out(rt: &HostRuntime, bytes: &[u8]) {
-    if let Err(error) = rt.write_all(bytes) {
-        fail(rt, b"standard output", error);
-    }
-}
-
 // What was written, as a line on standard output.
 fn write_line(rt: &HostRuntime, out: &mut Writer) {
     out.byte(b'\n');
@@ -91,10 +80,7 @@ fn answer(rt: &HostRuntime, out: &mut [u8], bytes: &[u8]) {
 }
 
 fn answer_line(rt: &HostRuntime, line: &[u8], bytes: &mut [u8], out: &mut [u8]) {
-    if line.len() == 0 {
-        return;
-    }
-    if line[0] == b'#' {
+    if line.is_empty() || line[0] == b'#' {
         return;
     }
     let Ok(count) = read_hex(line, bytes) else {
@@ -110,38 +96,15 @@ fn answer_line(rt: &HostRuntime, line: &[u8], bytes: &mut [u8], out: &mut [u8]) 
 }
 
 fn answer_lines(rt: &HostRuntime, text: &[u8], bytes: &mut [u8], out: &mut [u8]) {
-    let mut at = 0;
-    while at < text.len() {
-        let end = until(text, at, b'\n');
-        if text.len() < end {
-            return;
-        }
-        answer_line(rt, &text[at..end], bytes, out);
-        at = end + 1;
+    for line in text.split(|c| *c == b'\n') {
+        answer_line(rt, line, bytes, out);
     }
-}
-
-// The input's bytes, until it ends, a read fails or the buffer is full; how many there are.
-fn read_full<R: Read>(input: &mut R, buf: &mut [u8]) -> usize
-    ensures { result ≤ length buf.new }
-{
-    let mut done = 0;
-    while done < buf.len() {
-        let part = &mut buf[done..];
-        let got = read_some(input, part);
-        let n = count(got, part);
-        if n == 0 {
-            break;
-        }
-        done += n;
-    }
-    done
 }
 
 fn main(rt: HostRuntime) {
     let mut input = [0u8; 262144];
     let mut bytes = [0u8; 131072];
     let mut out = [0u8; 4096];
-    let count = read_full(&mut rt.stdin(), &mut input);
+    let (count, _) = read_full(&mut rt.stdin(), &mut input);
     answer_lines(&rt, &input[..count], &mut bytes, &mut out);
 }
