@@ -40,6 +40,13 @@ impl Isdp {
     pub const ENABLED: u8 = 0x3F;
 }
 
+// Which of the two optional tags a row of GET STATUS shows of an ISD-P: 9F70, its life cycle, and 53, the Fall-back Attribute.
+#[derive(Clone, Copy)]
+pub struct Tags {
+    pub life: bool,
+    pub fall_back: bool,
+}
+
 // Has the AID 5 to 16 bytes?
 pub fn aid_ok(aid: &[u8]) -> bool
     ensures { result ≡ aid_ok aid.now }
@@ -91,14 +98,6 @@ impl Aid {
         ensures { result.now ≡ bytes_of self.now }
     {
         &self.bytes[..self.size()]
-    }
-
-    // The bytes that are the AID.
-    pub fn as_bytes(&self) -> &[u8]
-        ensures { result.now ≡ bytes_of self.now }
-    {
-        let n = self.size();
-        &self.bytes[..n]
     }
 }
 

@@ -3,14 +3,11 @@
 // What a file means and what is written of it is proved below, in `month_account`; here only bytes are moved.
 #![tactic(auto)]
 
-ghost use Rattle.std.specs.Prelude.{◌≤◌, length};
-
 use base_bytes::same;
 use month_account::write_month;
 use month_contents::MOST_FILE;
 use std::env::Env;
-use std::io::Read;
-use text_input::{Arrival, arrival_of, count, fail, open, read_some};
+use text_input::{Input, fail, open, put_out, read_full};
 
 // A file of so many bytes is refused whatever they are, so no more are read (decision B44).
 const FILE: usize = MOST_FILE + 1;
@@ -18,60 +15,15 @@ const FILE: usize = MOST_FILE + 1;
 // The longest text has room.
 const OUT: usize = 8192;
 
-// How many bytes were read, and whether no read failed.
-#[derive(Clone, Copy)]
-struct Taken {
-    filled: usize,
-    whole: bool,
-}
-
-// A file's bytes, to its end or to the buffer's.
-fn take_file<R: Read>(input: &mut R, buf: &mut [u8]) -> Taken
-    ensures { result.filled ≤ length buf.new }
-{
-    let mut filled: usize = 0;
-    while filled < buf.len() {
-        let part = &mut buf[filled..];
-        let got = read_some(input, part);
-        let count = count(got, part);
-        let arrival = arrival_of(got);
-        if let Arrival::Failed = arrival {
-            return Taken {
-                filled,
-                whole: false,
-            };
-        }
-        if count == 0 {
-            return Taken {
-                filled,
-                whole: true,
-            };
-        }
-        filled += count;
-    }
-    Taken {
-        filled,
-        whole: true,
-    }
-}
-
-// Bytes written to standard output; where they could not be, all of them, that is told on standard error.
-fn put_out(rt: &HostRuntime, bytes: &[u8]) {
-    if let Err(error) = rt.write_all(bytes) {
-        fail(rt, b"standard output", error);
-    }
-}
-
 // One file, read and reported by one write; a read that fails is told instead.
-fn tell<R: Read>(rt: &HostRuntime, input: &mut R, explain: bool) {
+fn tell(rt: &HostRuntime, input: &mut Input, explain: bool) {
     let mut file = [0u8; FILE];
     let mut out = [0u8; OUT];
-    let taken = take_file(input, &mut file);
-    if !taken.whole {
+    let (n, read) = read_full(input, &mut file);
+    if read.is_err() {
         put_out(rt, b"the read failed\n");
         return;
     }
-    let n = taken.filled;
     let end = write_month(&file[..n], explain, &mut out, 0);
     put_out(rt, &out[..end]);
 }
@@ -85,12 +37,8 @@ struct Options {
 
 // The file that a word names.
 fn start(rt: &HostRuntime, word: &[u8], explain: bool) {
-    if same(word, b"-") {
-        tell(rt, &mut rt.stdin(), explain);
-        return;
-    }
     match open(rt, word) {
-        Ok(mut file) => tell(rt, &mut file, explain),
+        Ok(mut input) => tell(rt, &mut input, explain),
         Err(error) => fail(rt, word, error),
     }
 }
@@ -113,16 +61,13 @@ fn main(rt: HostRuntime) {
         named: false,
     };
     let mut word = [0u8; 4096];
-    let mut place: usize = 1;
-    while place < 18446744073709551615 {
-        let n = rt.arg(place, &mut word).unwrap_or(0);
-        if n == 0 {
+    for place in 1..usize::MAX {
+        let Ok(n @ 1..) = rt.arg(place, &mut word) else {
             break;
-        }
+        };
         options = take_word(&rt, &word[..n], options);
-        place += 1;
     }
     if !options.named {
-        tell(&rt, &mut rt.stdin(), options.explain);
+        start(&rt, b"-", options.explain);
     }
 }

@@ -11,7 +11,7 @@ use Rattle.read_tlv.specs.Grammar.{LegalTag, marks_list}
 use Rattle.std.specs.Prelude.{Option, None}
 use Rattle.read_tlv.specs.declared.Element.{Element}
 use Rattle.read_tlv.proofs.Branches.{each-found}
-use Rattle.read_tlv.proofs.Parts.{element-start, element-stop}
+use Rattle.read_tlv.proofs.Parts.{nothing, element-start, element-stop}
 use Rattle.read_tlv.proofs.Inside.{Expected, expect-parts}
 use Rattle.read_tlv.proofs.Windows.{window-length}
 use Rattle.read_tlv.proofs.Written.{element-written}
@@ -27,7 +27,7 @@ module _ (s : List ℕ) (at end t low high start stop : ℕ) where
   unfolding alone_at
   alone-parts =
       let P : Option Element → Type 0 = λ z. element_read start stop ≡ z → Alone s at end t low high start stop in
-      let none : P None = λ q. let z : ◌≡◌ {A = ℕ} 0 1 = cc in absurd (omega arith) in
+      let none : P None = nothing in
       each-found P (expect_at s at end t low high) none λ k e g.
       each-eq P (λ h q. let i = element-start q in let j = element-stop q in record { fills = j ∙ h; found = ap (λ x. element_read x stop) i ∙ ap (element_read k) j ∙ g }) (λ _. none)
 

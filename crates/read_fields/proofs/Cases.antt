@@ -9,7 +9,7 @@ use Rattle.std.specs.Prelude.{Option, Some, None}
 use Rattle.read_tlv.specs.declared.Tag.{Tag}
 use Rattle.read_tlv.specs.Tlv.{tag_read}
 use Rattle.read_fields.specs.declared.Dgi.{Dgi}
-use Rattle.read_fields.specs.declared.request.Tags.{Tags}
+use Rattle.card_isdp.specs.declared.Tags.{Tags}
 use Rattle.read_fields.specs.StoreData.{dgi_read, on_dgi}
 use Rattle.read_fields.specs.Delete.{on_filled}
 use Rattle.read_fields.specs.GetStatus.{tags_read, on_tag, on_shown}

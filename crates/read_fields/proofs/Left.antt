@@ -7,7 +7,7 @@ use native.Mathlib.Omega.{arith}
 use Rattle.std.specs.Prelude.{Option, None}
 use Rattle.base_choice.proofs.Branches.{le!, nle! }
 use Rattle.read_tlv.specs.Tlv.{tag_read, tag_at}
-use Rattle.read_fields.specs.declared.request.Tags.{Tags}
+use Rattle.card_isdp.specs.declared.Tags.{Tags}
 use Rattle.read_fields.specs.GetStatus.{tags_read, tag_noted, listed_within, listed_at}
 
 unfoldable pub Left : Option Tags → List ℕ → ℕ → ℕ → Bool → Bool → Type 0

@@ -15,7 +15,7 @@ use Rattle.read_tlv.proofs.Windows.{window-none, window-length, window-cut}
 use Rattle.read_tlv.proofs.Written.{tag-written}
 use Rattle.read_tlv.specs.Grammar.{LegalTag, one, two}
 use Rattle.read_tlv.proofs.ReadBack.{tag_back}
-use Rattle.read_fields.specs.declared.request.Tags.{Tags}
+use Rattle.card_isdp.specs.declared.Tags.{Tags}
 use Rattle.read_fields.specs.GetStatus.{tags_read, tag_noted, on_tag, on_shown, listed_within, listed_at}
 use Rattle.read_fields.specs.Grammar.{ListedTag, aid, life_cycle, fall_back, tag_number, encode_tags, lists_life, lists_fall_back}
 use Rattle.read_fields.proofs.Cases.{each-tag}

@@ -20,7 +20,7 @@ use Rattle.read_tlv.proofs.Windows.{window-none, window-length, window-part}
 use Rattle.read_tlv.proofs.Fills.{right-filled, filled-right, first-level}
 use Rattle.read_tlv.proofs.ReadBack.{element-back}
 use Rattle.read_tlv.specs.Grammar as legal
-use Rattle.read_fields.specs.declared.request.Tags.{Tags}
+use Rattle.card_isdp.specs.declared.Tags.{Tags}
 use Rattle.read_fields.specs.declared.request.Request.TheVariants as request
 use Rattle.read_fields.specs.Found.{Field}
 use Rattle.read_elements.specs.Reader.{alone_at}

@@ -8,7 +8,7 @@ use Rattle.read_tlv.specs.Tlv.{tag_at, expect_at, on_found}
 use Rattle.read_tlv.specs.declared.Tag.{Tag}
 use Rattle.read_tlv.specs.Lists.{list_wrong}
 use Rattle.read_elements.specs.Reader.{alone_at}
-use Rattle.read_fields.specs.declared.request.Tags.{Tags}
+use Rattle.card_isdp.specs.declared.Tags.{Tags}
 use Rattle.read_fields.specs.declared.request.Request.TheVariants as request
 use Rattle.read_fields.specs.Found.{Field}
 

@@ -1,6 +1,6 @@
-// The data fields of STORE DATA, DELETE and GET STATUS. Every function reads a window of the whole command, from `at` up to `end`;
-// one that does not lie in it is wrong. A data field is first read as a list of elements, then in the table's order; an AID is handed on
-// as its place in the command.
+// The data fields of STORE DATA, DELETE and GET STATUS. Every function takes a reader of a window of the whole command; one that does
+// not lie in it is wrong. A data field is first read as a list of elements, then in the table's order; an AID is handed on as its place
+// in the command.
 #![tactic(auto, unfolding(crate::proofs::Opened::readers))]
 
 mod request;
@@ -11,9 +11,10 @@ ghost use Rattle.read_fields.specs.Delete.{verification_at, deletion_at};
 ghost use Rattle.read_fields.specs.GetStatus.{tag_noted, listed_at, tags_at, listing_at};
 
 use base_bytes::read_pair;
+pub use card_isdp::Tags;
 use read_elements::Reader;
 use read_tlv::read_tag;
-pub use request::{Request, Tags};
+pub use request::Request;
 
 // A DGI that fills the window: its number, and where its contents start.
 #[derive(Clone, Copy)]
@@ -88,7 +89,7 @@ pub fn read_store_data(field: Reader<'_>) -> Option<Request>
     }
 }
 
-// Is what B6 holds in a master delete right: 42, 45, 5F20 and 93?
+// What B6 holds in a master delete: 42, 45, 5F20 and 93.
 fn read_verification(mut value: Reader<'_>) -> Option<()>
     ensures { is_some result ≡ verification_at value.entry.bytes.now value.entry.at value.entry.end }
 {
@@ -119,19 +120,15 @@ pub fn read_deletion(mut field: Reader<'_>) -> Option<Request>
 fn tag_noted(tag: u16, tags: Tags) -> Option<Tags>
     ensures { result ≡ tag_noted tag tags.life tags.fall_back }
 {
-    if tag == 0x4F {
-        return Some(tags);
-    }
-    if tag == 0x9F70 {
-        return Some(Tags { life: true, ..tags });
-    }
-    if tag == 0x53 {
-        return Some(Tags {
+    match tag {
+        0x4F => Some(tags),
+        0x9F70 => Some(Tags { life: true, ..tags }),
+        0x53 => Some(Tags {
             fall_back: true,
             ..tags
-        });
+        }),
+        _ => None,
     }
-    None
 }
 
 fn read_listed(mut list: Reader<'_>) -> Option<Tags>
@@ -141,6 +138,7 @@ fn read_listed(mut list: Reader<'_>) -> Option<Tags>
         life: false,
         fall_back: false,
     };
+    // No `for`: how far a turn goes is known when its tag is read.
     while list.at < list.end {
         let tag = read_tag(list.bytes, list.at, list.end)?;
         tags = tag_noted(tag.tag, tags)?;

@@ -1,5 +1,6 @@
 // What a command asks for. An AID is handed on as its place in the command.
 use base_bytes::Part;
+use card_isdp::Tags;
 
 #[derive(Clone, Copy)]
 pub enum Request {
@@ -15,11 +16,4 @@ pub enum Request {
     GetStatusOfAll { next: bool, tags: Tags },
     GetStatusOfOne { aid: Part, tags: Tags },
     GetData,
-}
-
-// Which of the two optional tags a row of the answer shows.
-#[derive(Clone, Copy)]
-pub struct Tags {
-    pub life: bool,
-    pub fall_back: bool,
 }

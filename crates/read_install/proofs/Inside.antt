@@ -11,7 +11,7 @@ use Rattle.read_tlv.specs.declared.Length.{Length}
 use Rattle.read_tlv.specs.declared.Element.{Element}
 use Rattle.base_choice.proofs.Branches.{each, each-lt, each-eq}
 use Rattle.read_tlv.proofs.Branches.{each-found}
-use Rattle.read_tlv.proofs.Parts.{element-start, element-stop}
+use Rattle.read_tlv.proofs.Parts.{nothing, element-start, element-stop}
 use Rattle.read_tlv.proofs.Inside.{Inside, length-inside}
 use Rattle.read_fields.specs.Places.{FieldIn}
 use Rattle.read_tlv.specs.Tlv.{expect_at}
@@ -32,10 +32,10 @@ pub record Prefixed (s : List ℕ) (at end low high start stop : ℕ) : Type 0 w
 module _ (s : List ℕ) (at end low high start stop : ℕ) where
   prefixed-of : (r : Option Length) → r ≡ length_at s at end → element_read start stop ≡ prefixed_of end low high r → Prefixed s at end low high start stop
   unfolding prefixed_of
-  prefixed-of None g = λ q. let z : ◌≡◌ {A = ℕ} 0 1 = cc in absurd (omega arith)
+  prefixed-of None g = nothing
   prefixed-of (Some m) g =
       let P : Option Element → Type 0 = λ z. element_read start stop ≡ z → Prefixed s at end low high start stop in
-      let none : P None = λ q. let z : ◌≡◌ {A = ℕ} 0 1 = cc in absurd (omega arith) in
+      let none : P None = nothing in
       each-lt P (λ _. none) (λ h. each-lt P (λ _. none) (λ i. each-lt P (λ _. none) (λ j q.
       let e₁ : start ≡ m.next = element-start q in let e₂ : stop ≡ m.next + m.count = element-stop q in
       let l : length_read m.count start ≡ length_at s at end = ap (length_read m.count) e₁ ∙ g in
@@ -64,7 +64,7 @@ pub names-inside : (s : List ℕ) (end start stop at : ℕ) → element_read sta
 unfolding names_at
 names-inside s end start stop at =
     let P : Option Element → Type 0 = λ z. element_read start stop ≡ z → (own : ℕ) × Prefixed s own end 5 16 start stop in
-    let none : P None = λ q. let z : ◌≡◌ {A = ℕ} 0 1 = cc in absurd (omega arith) in
+    let none : P None = nothing in
     each-found P (prefixed_at s at end 5 16) none λ _ next _. each-found P (prefixed_at s next end 5 16) none λ _ own _ q.
     (own, prefixed-parts s own end 5 16 start stop q)
 

@@ -7,8 +7,8 @@ use mathlib.Core.Option.{some}
 use native.Mathlib.Omega.{arith}
 use lib.ListN.{length}
 use Rattle.std.specs.Prelude.{Option, Some, None}
-use Rattle.read_tlv.proofs.Parts.{element-start, element-stop}
-use mathlib.Core.Bool.{Bool, true, false}
+use Rattle.read_tlv.proofs.Parts.{nothing, element-start, element-stop}
+use mathlib.Core.Bool.{Bool, true, false, false≢true}
 use Rattle.base_bytes.specs.Bytes.{between, part_of}
 use Rattle.read_tlv.specs.Tlv.{element_read, expect_at}
 use Rattle.read_tlv.specs.Lists.{list_wrong}
@@ -24,7 +24,7 @@ use Rattle.read_tlv.specs.Filled.{Filled}
 use Rattle.read_tlv.proofs.Fills.{right-filled}
 use Rattle.read_fields.specs.Grammar.{Created, Wanted, create, found_as, ReadFrom}
 use Rattle.read_fields.specs.Found.{Field}
-use Rattle.read_fields.proofs.Cases.{same-value}
+use Rattle.read_fields.proofs.Cases.{same-value, no_value}
 use Rattle.read_install.specs.Parameters.{protocols_within, protocols_at, number_at, grant_of, memory_at, parameters_at}
 use Rattle.read_install.specs.Install.{prefixed_at, names_at, rights_at, install_of}
 use Rattle.read_install.specs.Grammar.{Free, encode_prefixed, encode_protocols, encode_parameters, encode_names, encode_rights, encode_install, high_first, Sized, OrTwoMore, AllPairs, EncodesInstall, EncodesCreated, InstallWritten, ParametersFilled}
@@ -66,7 +66,7 @@ unfolding protocols_within encode_protocols
 protocols-within zero s at end b h o l = λ _. no-protocols s at end o (omega arith)
 protocols-within (suc n) s at end b h o l =
     let P : Bool → Type 0 = λ z. true ≡ z → ProtocolsWritten s at end in
-    let none : P false = λ q. let z : ◌≡◌ {A = ℕ} 0 1 = cc in absurd (omega arith) in
+    let none : P false = λ q. absurd (false≢true (sym q)) in
     each-le P (λ i _. no-protocols s at end o i) (λ i. each-found P (expect_at s at end 0x81 2 2) none (λ k e f q.
     let x = expect-parts s at end 0x81 2 2 k e f in let j = x.inside in let y = x.least in let z = x.most in
     let r = protocols-within n s e end b (omega arith) (omega arith) l q in
@@ -96,7 +96,7 @@ memory-written : (s : List ℕ) (at end capacity number : ℕ) → Bytes s → S
 unfolding memory_at grant_of
 memory-written s at end capacity number b =
     let P : Option ℕ → Type 0 = λ z. Some number ≡ z → MemoryWritten s at end capacity number in
-    let none : P None = λ q. let z : ◌≡◌ {A = ℕ} 0 1 = cc in absurd (omega arith) in
+    let none : P None = nothing in
     each-found P (alone_at s at end 0x83 2 4) none λ k e f. each-eq P (λ _. none) (λ t. each-eq P (λ _. none) (λ u. each-lt P (λ _. none) (λ v q.
     let x = alone-expected s at end 0x83 2 4 k e f in let j = x.inside in let y = x.least in let z = x.most in
     let m : number ≡ number_at s k (e - k) = cc in
@@ -128,7 +128,7 @@ module _ (s : List ℕ) (at end capacity number : ℕ) where
   unfolding parameters_at
   parameters-written b =
       let P : Option ℕ → Type 0 = λ z. Some number ≡ z → ParametersWritten in
-      let none : P None = λ q. let z : ◌≡◌ {A = ℕ} 0 1 = cc in absurd (omega arith) in
+      let none : P None = nothing in
       each P (list_wrong s at end) (λ _. none) λ _.
       each-found P (expect_at s at end 0xC9 1 255) none λ k e c. each-listed P (protocols_at s k e) none λ l.
       each-found P (alone_at s e end 0xEF 0 255) none λ f t d q.
@@ -172,7 +172,7 @@ module _ (s : List ℕ) (at end start stop : ℕ) where
   unfolding names_at
   names-written =
       let P : Option Element → Type 0 = λ z. element_read start stop ≡ z → NamesWritten in
-      let none : P None = λ q. let z : ◌≡◌ {A = ℕ} 0 1 = cc in absurd (omega arith) in
+      let none : P None = nothing in
       each-found P (prefixed_at s at end 5 16) none λ k next c. each-found P (prefixed_at s next end 5 16) none λ l own d q.
       let i = (prefixed-parts s at end 5 16 k next c).inside in
       let j = (prefixed-parts s next end 5 16 l own d).inside in
@@ -212,7 +212,7 @@ module _ (s : List ℕ) (at end from to : ℕ) where
   unfolding rights_at
   rights-written =
       let P : Option Element → Type 0 = λ z. element_read from to ≡ z → RightsWritten in
-      let none : P None = λ q. let z : ◌≡◌ {A = ℕ} 0 1 = cc in absurd (omega arith) in
+      let none : P None = nothing in
       each-found P (prefixed_at s at end 1 3) none λ k e c. each-eq P (λ _. none) (λ t. each-found P (prefixed_at s e end 0 255) none λ f g d.
       each-found P (prefixed_at s g end 0 0) none λ h last u. each-eq P (λ v q.
       let a₁ : f ≡ from = sym (element-start q) in let a₂ : g ≡ to = sym (element-stop q) in
@@ -274,7 +274,7 @@ unfolding install_of
 install-written s at end capacity w b =
     let Encoded : Wanted → Type 0 = λ z. ReadFrom create (EncodesCreated capacity) s at end z in
     let P : Field → Type 0 = λ z. found_as s z ≡ some w → Encoded w in
-    let none : P None = λ q. let z : ◌≡◌ {A = ℕ} 0 1 = cc in absurd (omega arith) in
+    let none : P None = no_value (Encoded w) w in
     each-found P (names_at s at end) none λ start stop c. each-found P (rights_at s stop end) none λ from to d.
     each-granted P (parameters_at s from to capacity) none λ number g.
     let n = names-written s at end start stop c in
@@ -294,4 +294,4 @@ install-written s at end capacity w b =
 pub parameters-filled : ParametersFilled
 unfolding parameters_at
 parameters-filled s at end capacity number = each (λ (z : Option ℕ). Some number ≡ z → Filled s 1 at end) (list_wrong s at end)
-    (λ _ q. let z : ◌≡◌ {A = ℕ} 0 1 = cc in absurd (omega arith)) (λ e _. right-filled s at end e)
+    (λ _. nothing) (λ e _. right-filled s at end e)

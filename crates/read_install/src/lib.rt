@@ -16,6 +16,7 @@ use read_tlv::{Element, read_length};
 fn read_protocols(mut value: Reader<'_>) -> Option<()>
     ensures { is_some result ≡ protocols_at value.entry.bytes.now value.entry.at value.entry.end }
 {
+    // No `for`: how far a turn goes is known when its element is read.
     while value.at < value.end {
         value.next(0x81, 2, 2)?;
     }

@@ -19,14 +19,14 @@ use Rattle.read_tlv.proofs.Counts.{list-onward}
 closed-both : (rest : ℕ → Bool) (stop : ℕ) (r : Bool) → true ≡ rest_after rest (element_closed stop r) → (true ≡ r) × (true ≡ rest stop)
 unfolding element_closed rest_after
 closed-both rest stop true q = (refl, q)
-closed-both rest stop false q = let z : ◌≡◌ {A = ℕ} 0 1 = cc in absurd (omega arith)
+closed-both rest stop false q = absurd (false≢true (sym q))
 
 module _ (s : List ℕ) (at end level : ℕ) (l : Level level) (rest : ℕ → Bool) (inner : ℕ → ℕ → Bool)
     (goes : (next : ℕ) → true ≡ rest next → Filled s level next end)
     (holds : (start stop : ℕ) → true ≡ inner start stop → Filled s (level + 1) start stop) where
   element-fills : (r : Option Head) → r ≡ head_at s at end → true ≡ rest_after rest (element_of inner r) → Filled s level at end
   unfolding element_of rest_after
-  element-fills None g = λ q. let z : ◌≡◌ {A = ℕ} 0 1 = cc in absurd (omega arith)
+  element-fills None g = λ q. absurd (false≢true (sym q))
   element-fills (Some h) g = each (λ z. true ≡ rest_after rest z → Filled s level at end) h.constructed
       (λ e q. let b = closed-both rest h.stop (inner h.start h.stop) q in
       constructed l (sym (ap (λ c. head_read h.tag c h.start h.stop) e) ∙ g) (holds h.start h.stop b.0) (goes h.stop b.1))
@@ -37,14 +37,14 @@ list-of-fills : (s : List ℕ) (at end level : ℕ) (r : Bool) → (Level level 
 unfolding list_of
 list-of-fills s at end level r f =
     let P : Bool → Type 0 = λ z. true ≡ z → Filled s level at end in
-    let none : P false = λ q. let z : ◌≡◌ {A = ℕ} 0 1 = cc in absurd (omega arith) in
+    let none : P false = λ q. absurd (false≢true (sym q)) in
     each-lt P (λ _. none) (λ a. each-lt P (λ _. none) (λ b. each-lt P (λ _. none) (λ c. each-lt P (λ _. none) (λ d.
     let l : Level level = record { outermost = omega arith; deepest = omega arith } in
     each-eq P (λ e q. rw (← e) (ended {at = at} l (omega arith))) (λ e. f l)))))
 
 within-fills : (f : ℕ) (s : List ℕ) (at end level : ℕ) → true ≡ list_within f s at end level → Filled s level at end
 unfolding list_within
-within-fills zero s at end level = list-of-fills s at end level false (λ l q. let z : ◌≡◌ {A = ℕ} 0 1 = cc in absurd (omega arith))
+within-fills zero s at end level = list-of-fills s at end level false (λ l q. absurd (false≢true (sym q)))
 within-fills (suc f) s at end level = list-of-fills s at end level _ (λ l. element-fills s at end level l _ _
     (λ next. within-fills f s next end level) (λ start stop. within-fills f s start stop (level + 1)) (head_at s at end) refl)
 

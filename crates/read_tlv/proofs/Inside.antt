@@ -13,7 +13,7 @@ use Rattle.read_tlv.specs.declared.Head.{Head}
 use Rattle.read_tlv.specs.declared.Element.{Element}
 use Rattle.read_tlv.specs.Tlv.{tag_read, length_read, head_read, element_read, tag_at, length_at, head_at, after_tag, after_length, expect_at, expect_of}
 use Rattle.read_tlv.specs.Lists.{element_of, element_closed, element_at}
-use Rattle.read_tlv.proofs.Parts.{tag-next, length-next, head-tag, head-constructed, head-start, head-stop, element-start, element-stop}
+use Rattle.read_tlv.proofs.Parts.{nothing, tag-next, length-next, head-tag, head-constructed, head-start, head-stop, element-start, element-stop}
 use Rattle.base_choice.proofs.Branches.{each, each-le, each-lt, each-eq}
 
 -- something read from `at` on, with the next place `next`
@@ -34,7 +34,7 @@ module _ (s : List ℕ) (at end : ℕ) where
   unfolding tag_at
   tag-inside t b next =
       let P : Option Tag → Type 0 = λ z. tag_read t b next ≡ z → Passed s at next end in
-      let none : P None = λ q. let z : ◌≡◌ {A = ℕ} 0 1 = cc in absurd (omega arith) in
+      let none : P None = nothing in
       each-lt P (λ _. none) (λ h. each-le P (λ _. none) (λ i. each-eq P
       (λ _. each-le P (λ _. none) (λ j. each-le P (λ _. none) (λ _ q.
       let e = tag-next q in record { past = omega arith; within = omega arith; held = omega arith })))
@@ -44,7 +44,7 @@ module _ (s : List ℕ) (at end : ℕ) where
   unfolding length_at
   length-inside count next =
       let P : Option Length → Type 0 = λ z. length_read count next ≡ z → Passed s at next end in
-      let none : P None = λ q. let z : ◌≡◌ {A = ℕ} 0 1 = cc in absurd (omega arith) in
+      let none : P None = nothing in
       each-lt P (λ _. none) (λ h. each-le P (λ _. none) (λ i. each-lt P
       (λ _ q. let e = length-next q in record { past = omega arith; within = omega arith; held = omega arith })
       (λ _. each-eq P (λ _. each-le P (λ _. none) (λ j. each-lt P (λ _. none) (λ _ q.
@@ -63,10 +63,10 @@ module _ (s : List ℕ) (at end t : ℕ) (b : Bool) (start stop : ℕ) where
   after-length-parts : (u : ℕ) (v : Bool) (next : ℕ) (r : Option Length) → tag_read u v next ≡ tag_at s at end → r ≡ length_at s next end
       → head_read t b start stop ≡ after_length end u v r → HeadParts s at end t b start stop
   unfolding after_length
-  after-length-parts u v next None g l = λ q. let z : ◌≡◌ {A = ℕ} 0 1 = cc in absurd (omega arith)
+  after-length-parts u v next None g l = nothing
   after-length-parts u v next (Some m) g l =
       let P : Option Head → Type 0 = λ z. head_read t b start stop ≡ z → HeadParts s at end t b start stop in
-      let none : P None = λ q. let z : ◌≡◌ {A = ℕ} 0 1 = cc in absurd (omega arith) in
+      let none : P None = nothing in
       each-le P (λ h q.
       let e₀ = head-tag q in let e₁ = head-constructed q in let e₂ = head-start q in let e₃ = head-stop q in
       record {
@@ -81,7 +81,7 @@ module _ (s : List ℕ) (at end t : ℕ) (b : Bool) (start stop : ℕ) where
 
   after-tag-parts : (r : Option Tag) → r ≡ tag_at s at end → head_read t b start stop ≡ after_tag s end r → HeadParts s at end t b start stop
   unfolding after_tag
-  after-tag-parts None g q = let z : ◌≡◌ {A = ℕ} 0 1 = cc in absurd (omega arith)
+  after-tag-parts None g q = nothing q
   after-tag-parts (Some u) g q = after-length-parts u.tag u.constructed u.next (length_at s u.next end) g refl q
 
   pub head-parts : head_read t b start stop ≡ head_at s at end → HeadParts s at end t b start stop
@@ -106,10 +106,10 @@ pub record Expected (s : List ℕ) (at end t low high start stop : ℕ) : Type 0
 module _ (s : List ℕ) (at end t low high start stop : ℕ) where
   expect-of : (r : Option Head) → r ≡ head_at s at end → element_read start stop ≡ expect_of t low high r → Expected s at end t low high start stop
   unfolding expect_of
-  expect-of None g = λ q. let z : ◌≡◌ {A = ℕ} 0 1 = cc in absurd (omega arith)
+  expect-of None g = nothing
   expect-of (Some h) g =
       let P : Option Element → Type 0 = λ z. element_read start stop ≡ z → Expected s at end t low high start stop in
-      let none : P None = λ q. let z : ◌≡◌ {A = ℕ} 0 1 = cc in absurd (omega arith) in
+      let none : P None = nothing in
       each-eq P (λ m. each-lt P (λ _. none) (λ i. each-lt P (λ _. none) (λ j q.
       let e₁ = element-start q in let e₂ = element-stop q in
       let l : head_read t h.constructed start stop ≡ head_at s at end =
@@ -127,13 +127,13 @@ module _ (s : List ℕ) (at end t low high start stop : ℕ) where
 closed-next : (next stop : ℕ) (r : Bool) → Some next ≡ element_closed stop r → Some next ≡ Some stop
 unfolding element_closed
 closed-next next stop true q = q
-closed-next next stop false q = let z : ◌≡◌ {A = ℕ} 0 1 = cc in absurd (omega arith)
+closed-next next stop false q = nothing q
 
 -- an element with all that it holds stops where its head does
 pub element-of : (s : List ℕ) (at end : ℕ) (inner : ℕ → ℕ → Bool) (next : ℕ) (r : Option Head) → r ≡ head_at s at end
     → Some next ≡ element_of inner r → Passed s at next end
 unfolding element_of
-element-of s at end inner next None g = λ q. let z : ◌≡◌ {A = ℕ} 0 1 = cc in absurd (omega arith)
+element-of s at end inner next None g = nothing
 element-of s at end inner next (Some h) g =
     let P : Option ℕ → Type 0 = λ z. Some next ≡ z → Passed s at next end in
     let i = head-inside s at end h.tag h.constructed h.start h.stop g in

@@ -1,13 +1,17 @@
--- Two things read that are equal are equal part by part.
+-- Two things read that are equal are equal part by part, and something read is not nothing.
 use Prim.Native.Nat.{ℕ}
-use mathlib.Core.Path.{◌≡◌, ap}
+use mathlib.Core.Path.{◌≡◌, sym, ap}
 use mathlib.Core.Bool.{Bool}
-use Rattle.std.proofs.lemmas.Option.{same_Some}
+use Rattle.std.specs.Prelude.{Some, None}
+use Rattle.std.proofs.lemmas.Option.{none-some, same_Some}
 use Rattle.read_tlv.specs.declared.Tag.{Tag}
 use Rattle.read_tlv.specs.declared.Length.{Length}
 use Rattle.read_tlv.specs.declared.Head.{Head}
 use Rattle.read_tlv.specs.declared.Element.{Element}
 use Rattle.read_tlv.specs.Tlv.{tag_read, length_read, head_read, element_read}
+
+pub nothing : {A G : Type 0} {x : A} → Some x ≡ None → G
+nothing {x = x} q = absurd (none-some x (sym q))
 
 module _ {t u : ℕ} {b c : Bool} {next onward : ℕ} (q : tag_read t b next ≡ tag_read u c onward) where
   pub tag-number : t ≡ u

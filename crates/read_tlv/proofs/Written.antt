@@ -13,7 +13,7 @@ use Rattle.read_tlv.specs.Tlv.{tag_read, length_read, element_read, tag_at, leng
 use Rattle.read_tlv.specs.Grammar.{ElementWritten}
 use Rattle.read_tlv.specs.Encoding.{window, Bytes, encode_tag, encode_length, encode_element}
 use Rattle.base_choice.proofs.Branches.{each-le, each-lt, each-eq, lt!, nlt! }
-use Rattle.read_tlv.proofs.Parts.{tag-number, tag-next, length-count, length-next}
+use Rattle.read_tlv.proofs.Parts.{nothing, tag-number, tag-next, length-count, length-next}
 use Rattle.read_tlv.proofs.Inside.{expect-parts, expect-inside, head-parts, tag-inside, length-inside}
 use Rattle.read_tlv.proofs.Windows.{window-none, window-first, window-cut, window-length}
 
@@ -30,7 +30,7 @@ module _ (s : List ℕ) (at : ℕ) where
   unfolding tag_at encode_tag
   tag-written end t c next b =
       let P : Option Tag → Type 0 = λ z. tag_read t c next ≡ z → window s at next ≡ encode_tag t in
-      let none : P None = λ q. let z : ◌≡◌ {A = ℕ} 0 1 = cc in absurd (omega arith) in
+      let none : P None = nothing in
       each-lt P (λ _. none) (λ h. each-le P (λ _. none) (λ i. each-eq P
       (λ j. each-le P (λ _. none) (λ k. each-le P (λ _. none) (λ m q.
       let e : t ≡ byte s at * 256 + byte s (at + 1) = tag-number q in
@@ -48,7 +48,7 @@ module _ (s : List ℕ) (at : ℕ) where
   unfolding length_at encode_length
   length-written end n next =
       let P : Option Length → Type 0 = λ z. length_read n next ≡ z → window s at next ≡ encode_length n in
-      let none : P None = λ q. let z : ◌≡◌ {A = ℕ} 0 1 = cc in absurd (omega arith) in
+      let none : P None = nothing in
       each-lt P (λ _. none) (λ h. each-le P (λ _. none) (λ i. each-lt P
       (λ j q.
       let e : n ≡ byte s at = length-count q in

@@ -1,5 +1,6 @@
 // Document 01, 'Reading a command': tags, lengths, elements and lists of elements, read in a window of a slice.
-// A window is the bytes from `at` up to `end`; one that does not lie in the slice holds nothing, and nothing is read there.
+// A window is the bytes from `at` up to `end`; one that does not lie in the slice holds nothing, and nothing is read there. It goes in as
+// its numbers, since document 01 has a reader of slice and number under the reader struct (`read_elements`).
 #![tactic(auto, unfolding(crate::proofs::Opened::readers))]
 
 ghost use Rattle.std.specs.Prelude.{◌≡◌, ℕ, ◌≤◌, ◌-◌};

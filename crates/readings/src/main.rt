@@ -2,44 +2,35 @@
 // the word of its refusal. Empty lines and lines that begin with `#` are passed over.
 #![tactic(auto)]
 
-ghost use Rattle.std.specs.Prelude.{◌≤◌, length};
-
-use base_bytes::{Part, part_of, put_byte, put_bytes};
+use base_bytes::{Part, Writer, part_of};
 use read_command::{Request, Tags};
-use std::io::Read;
-use text_input::{count, fail, read_some};
-use text_words::{put_decimal, put_hex, put_hex_16, read_hex, until};
+use text_input::{put_out, read_full};
+use text_words::out::{put_decimal, put_hex, put_hex_16};
+use text_words::read_hex;
 
 const CAPACITY: u32 = 1000;
 
-fn put_named(out: &mut [u8], name: &[u8], bytes: &[u8], aid: Part) -> usize {
-    let at = put_bytes(out, 0, name);
-    put_hex(out, at, part_of(bytes, aid))
+fn put_named(out: &mut Writer, name: &[u8], bytes: &[u8], aid: Part) {
+    out.bytes(name);
+    put_hex(out, part_of(bytes, aid));
 }
 
-fn put_tags(out: &mut [u8], at: usize, tags: Tags) -> usize {
+fn put_tags(out: &mut Writer, tags: Tags) {
     let listed: &[u8] = match (tags.life, tags.fall_back) {
         (true, true) => b" 4F,9F70,53",
         (true, false) => b" 4F,9F70",
         (false, true) => b" 4F,53",
         (false, false) => b" 4F",
     };
-    put_bytes(out, at, listed)
+    out.bytes(listed);
 }
 
-fn put_listing(out: &mut [u8], next: bool) -> usize {
-    if next {
-        return put_bytes(out, 0, b"get-status next");
-    }
-    put_bytes(out, 0, b"get-status all")
-}
-
-fn put_request(out: &mut [u8], bytes: &[u8], request: Request) -> usize {
+fn put_request(out: &mut Writer, bytes: &[u8], request: Request) {
     match request {
         Request::Create { aid, quota } => {
-            let at = put_named(out, b"create ", bytes, aid);
-            let end = put_byte(out, at, b' ');
-            put_decimal(out, end, quota as u64)
+            put_named(out, b"create ", bytes, aid);
+            out.byte(b' ');
+            put_decimal(out, quota as u64);
         }
         Request::Enable(aid) => put_named(out, b"enable ", bytes, aid),
         Request::Disable(aid) => put_named(out, b"disable ", bytes, aid),
@@ -47,58 +38,56 @@ fn put_request(out: &mut [u8], bytes: &[u8], request: Request) -> usize {
         Request::Delete(aid) => put_named(out, b"delete ", bytes, aid),
         Request::MasterDelete(aid) => put_named(out, b"master-delete ", bytes, aid),
         Request::Confirm(number) => {
-            let at = put_bytes(out, 0, b"confirm ");
-            put_decimal(out, at, number as u64)
+            out.bytes(b"confirm ");
+            put_decimal(out, number as u64);
         }
         Request::GetStatusOfAll { next, tags } => {
-            let at = put_listing(out, next);
-            put_tags(out, at, tags)
+            let listing: &[u8] = if next {
+                b"get-status next"
+            } else {
+                b"get-status all"
+            };
+            out.bytes(listing);
+            put_tags(out, tags);
         }
         Request::GetStatusOfOne { aid, tags } => {
-            let at = put_named(out, b"get-status ", bytes, aid);
-            put_tags(out, at, tags)
+            put_named(out, b"get-status ", bytes, aid);
+            put_tags(out, tags);
         }
-        Request::GetData => put_bytes(out, 0, b"get-data"),
+        Request::GetData => out.bytes(b"get-data"),
     }
 }
 
-fn put_reading(out: &mut [u8], bytes: &[u8]) -> usize {
+fn put_reading(out: &mut Writer, bytes: &[u8]) {
     match read_command::read(bytes, CAPACITY) {
         Ok(request) => put_request(out, bytes, request),
-        Err(status) => put_hex_16(out, 0, status.number()),
+        Err(status) => put_hex_16(out, status.number()),
     }
 }
 
-// Bytes written to standard output; where they could not be, all of them, that is told on standard error.
-fn put_out(rt: &HostRuntime, bytes: &[u8]) {
-    if let Err(error) = rt.write_all(bytes) {
-        fail(rt, b"standard output", error);
+// What was written, as a line on standard output.
+fn write_line(rt: &HostRuntime, out: &mut Writer) {
+    out.byte(b'\n');
+    let end = out.at;
+    if let Some(line) = out.buf.get(..end) {
+        put_out(rt, line);
     }
-}
-
-fn write_line(rt: &HostRuntime, out: &mut [u8], at: usize) {
-    let end = put_byte(out, at, b'\n');
-    if out.len() < end {
-        return;
-    }
-    put_out(rt, &out[..end]);
 }
 
 fn answer(rt: &HostRuntime, out: &mut [u8], bytes: &[u8]) {
-    let at = put_reading(out, bytes);
-    write_line(rt, out, at);
+    let mut line = Writer::new(out, 0);
+    put_reading(&mut line, bytes);
+    write_line(rt, &mut line);
 }
 
 fn answer_line(rt: &HostRuntime, line: &[u8], bytes: &mut [u8], out: &mut [u8]) {
-    if line.len() == 0 {
-        return;
-    }
-    if line[0] == b'#' {
+    if line.is_empty() || line[0] == b'#' {
         return;
     }
     let Ok(count) = read_hex(line, bytes) else {
-        let at = put_bytes(out, 0, b"no hex word");
-        write_line(rt, out, at);
+        let mut line = Writer::new(out, 0);
+        line.bytes(b"no hex word");
+        write_line(rt, &mut line);
         return;
     };
     if bytes.len() < count {
@@ -108,38 +97,15 @@ fn answer_line(rt: &HostRuntime, line: &[u8], bytes: &mut [u8], out: &mut [u8]) 
 }
 
 fn answer_lines(rt: &HostRuntime, text: &[u8], bytes: &mut [u8], out: &mut [u8]) {
-    let mut at = 0;
-    while at < text.len() {
-        let end = until(text, at, b'\n');
-        if text.len() < end {
-            return;
-        }
-        answer_line(rt, &text[at..end], bytes, out);
-        at = end + 1;
+    for line in text.split(|c| *c == b'\n') {
+        answer_line(rt, line, bytes, out);
     }
-}
-
-// The input's bytes, until it ends, a read fails or the buffer is full; how many there are.
-fn read_full<R: Read>(input: &mut R, buf: &mut [u8]) -> usize
-    ensures { result ≤ length buf.new }
-{
-    let mut done = 0;
-    while done < buf.len() {
-        let part = &mut buf[done..];
-        let got = read_some(input, part);
-        let n = count(got, part);
-        if n == 0 {
-            break;
-        }
-        done += n;
-    }
-    done
 }
 
 fn main(rt: HostRuntime) {
     let mut input = [0u8; 262144];
     let mut bytes = [0u8; 131072];
     let mut out = [0u8; 4096];
-    let count = read_full(&mut rt.stdin(), &mut input);
+    let (count, _) = read_full(&mut rt.stdin(), &mut input);
     answer_lines(&rt, &input[..count], &mut bytes, &mut out);
 }

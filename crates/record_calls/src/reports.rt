@@ -8,8 +8,9 @@ ghost use Rattle.record_calls.specs.Into.{AnsweredInto};
 
 use base_bytes::Writer;
 use base_status::Status;
+use card_isdp::Tags;
 use card_record::{Answer, Card};
-use record_responses::{Listed, write_data, write_one_status, write_part};
+use record_responses::{write_data, write_one_status, write_part};
 
 // Where a listing begins: at the lowest place, or where it goes on.
 fn begins_at(kept: u8, next: bool) -> u8
@@ -31,27 +32,25 @@ fn part_word(left: u8) -> Status
     Status::More
 }
 
-pub fn status_of_all(card: Card, next: bool, life: bool, fallback: bool, buf: &mut [u8]) -> Answer
-    ensures { AnsweredInto buf.old (outcome_on_sound card (asked_work card (status_of_all next life fallback))) result buf.new }
+pub fn status_of_all(card: Card, next: bool, tags: Tags, buf: &mut [u8]) -> Answer
+    ensures { AnsweredInto buf.old (outcome_on_sound card (asked_work card (status_of_all next tags.life tags.fall_back))) result buf.new }
 {
     if next & (card.kept == Card::NO_PLACE) {
         return card.refused(Status::NotHeld);
     }
-    let listed = Listed { life, fallback };
     let mut out = Writer::new(buf, 0);
-    let left = write_part(&mut out, &card, begins_at(card.kept, next), listed);
+    let left = write_part(&mut out, &card, begins_at(card.kept, next), tags);
     card.keeping(left).silently(part_word(left), out.at)
 }
 
-pub fn status_of_one(card: Card, aid: &[u8], life: bool, fallback: bool, buf: &mut [u8]) -> Answer
-    ensures { AnsweredInto buf.old (outcome_on_sound card (asked_work card (on aid.now (status life fallback)))) result buf.new }
+pub fn status_of_one(card: Card, aid: &[u8], tags: Tags, buf: &mut [u8]) -> Answer
+    ensures { AnsweredInto buf.old (outcome_on_sound card (asked_work card (on aid.now (status tags.life tags.fall_back)))) result buf.new }
 {
     let Some(t) = card.place_of(aid) else {
         return card.refused(Status::NotHeld);
     };
-    let listed = Listed { life, fallback };
     let mut out = Writer::new(buf, 0);
-    write_one_status(&mut out, &card, t, listed);
+    write_one_status(&mut out, &card, t, tags);
     card.forgotten().silently(Status::Done, out.at)
 }
 

@@ -53,10 +53,10 @@ fn serve(card: Card, verdict: u8, request: Request, bytes: &[u8], buf: &mut [u8]
         }
         Request::Confirm(number) => record_calls::confirm(card, number, buf),
         Request::GetStatusOfAll { next, tags } => {
-            record_calls::status_of_all(card, next, tags.life, tags.fall_back, buf)
+            record_calls::status_of_all(card, next, tags, buf)
         }
         Request::GetStatusOfOne { aid, tags } => {
-            record_calls::status_of_one(card, part_of(bytes, aid), tags.life, tags.fall_back, buf)
+            record_calls::status_of_one(card, part_of(bytes, aid), tags, buf)
         }
         Request::GetData => record_calls::get_data(card, buf),
     }

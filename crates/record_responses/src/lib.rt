@@ -10,7 +10,7 @@ ghost use Rattle.card_places.specs.Places.{count_of};
 ghost use Rattle.rule_responses.specs.Responses.{most_row, aid_element, attribute_of, listed, status_row, row_of, row_size, most_response, part_from, next_row_from, part_given, next_row_after, one_status, data_response, deleted_response};
 
 use base_bytes::Writer;
-use card_isdp::{Aid, Isdp};
+use card_isdp::{Aid, Isdp, Tags};
 use card_places::PLACES;
 use card_record::Card;
 
@@ -28,25 +28,16 @@ fn write_aid(out: &mut Writer, aid: &Aid)
     ensures { Written out.old (aid_element (bytes_of aid.now)) out.new }
 {
     out.bytes(&[0x4F, aid.size() as u8]);
-    out.bytes(aid.as_bytes());
+    out.bytes(aid.as_slice());
 }
 
-// The elements that a row has beside the AID, where they are asked for: the life cycle and the Fall-back Attribute.
-#[derive(Clone, Copy)]
-pub struct Listed {
-    pub life: bool,
-    pub fallback: bool,
-}
-
-impl Listed {
-    // The bytes that they take.
-    fn size(self) -> u8
-        ensures { result ≡ cond self.life 4 0 + cond self.fallback 3 0 }
-    {
-        let life = if self.life { 4 } else { 0 };
-        let fallback = if self.fallback { 3 } else { 0 };
-        life + fallback
-    }
+// The bytes that the elements asked for take.
+fn listed_size(tags: Tags) -> u8
+    ensures { result ≡ cond tags.life 4 0 + cond tags.fall_back 3 0 }
+{
+    let life = if tags.life { 4 } else { 0 };
+    let fall_back = if tags.fall_back { 3 } else { 0 };
+    life + fall_back
 }
 
 // An element that is written only where it is asked for.
@@ -64,67 +55,67 @@ fn attribute_of(holder: u8, place: u8) -> u8
     u8::from(place == holder)
 }
 
-fn write_row(out: &mut Writer, p: Isdp, attribute: u8, listed: Listed)
-    ensures { Written out.old (status_row p attribute listed.life listed.fallback) out.new }
+fn write_row(out: &mut Writer, p: Isdp, attribute: u8, tags: Tags)
+    ensures { Written out.old (status_row p attribute tags.life tags.fall_back) out.new }
 {
-    out.bytes(&[0xE3, p.aid.size() as u8 + 2 + listed.size()]);
+    out.bytes(&[0xE3, p.aid.size() as u8 + 2 + listed_size(tags)]);
     write_aid(out, &p.aid);
-    write_listed(out, listed.life, &[0x9F, 0x70, 1, p.life]);
-    write_listed(out, listed.fallback, &[0x53, 1, attribute]);
+    write_listed(out, tags.life, &[0x9F, 0x70, 1, p.life]);
+    write_listed(out, tags.fall_back, &[0x53, 1, attribute]);
 }
 
 // A place that is not held has no row.
-fn write_place(out: &mut Writer, p: Isdp, attribute: u8, listed: Listed)
-    ensures { Written out.old (row_of p attribute listed.life listed.fallback) out.new × (length (row_of p attribute listed.life listed.fallback) ≤ most_row) }
+fn write_place(out: &mut Writer, p: Isdp, attribute: u8, tags: Tags)
+    ensures { Written out.old (row_of p attribute tags.life tags.fall_back) out.new × (length (row_of p attribute tags.life tags.fall_back) ≤ most_row) }
 {
     if p.aid.len == 0 {
         return;
     }
-    write_row(out, p, attribute, listed);
+    write_row(out, p, attribute, tags);
 }
 
 // The bytes that a place's row takes.
-fn row_size(p: Isdp, listed: Listed) -> usize
-    ensures { result ≡ row_size p listed.life listed.fallback }
+fn row_size(p: Isdp, tags: Tags) -> usize
+    ensures { result ≡ row_size p tags.life tags.fall_back }
 {
     if p.aid.len != 0 {
-        p.aid.size() + 4 + listed.size() as usize
+        p.aid.size() + 4 + listed_size(tags) as usize
     } else {
         0
     }
 }
 
 // The rows of the places from one on, as many whole rows as a response holds, and the first place whose row is left.
-fn write_rows(out: &mut Writer, places: &[Isdp; PLACES], holder: u8, from: u8, listed: Listed) -> u8
-    ensures { Written out.old (part_from most_response holder from listed.life listed.fallback (drop from places.now)) out.new × (result ≡ next_row_from most_response holder from listed.life listed.fallback (drop from places.now)) }
+fn write_rows(out: &mut Writer, places: &[Isdp; PLACES], holder: u8, from: u8, tags: Tags) -> u8
+    ensures { Written out.old (part_from most_response holder from tags.life tags.fall_back (drop from places.now)) out.new × (result ≡ next_row_from most_response holder from tags.life tags.fall_back (drop from places.now)) }
 {
     let mut room = RESPONSE;
     for i in from as usize..PLACES {
         let p = places[i];
-        let size = row_size(p, listed);
+        let size = row_size(p, tags);
         if room < size {
             return i as u8;
         }
         room -= size;
-        write_place(out, p, attribute_of(holder, i as u8), listed);
+        write_place(out, p, attribute_of(holder, i as u8), tags);
     }
     Card::NO_PLACE
 }
 
 // GET STATUS of all, from a place on; the answer is the place from which the next part goes on.
 #[tactic(auto, unfolding(rule_responses::specs::Responses::part_given, rule_responses::specs::Responses::next_row_after))]
-pub fn write_part(out: &mut Writer, card: &Card, from: u8, listed: Listed) -> u8
-    ensures { Written out.old (part_given card.now from listed.life listed.fallback) out.new × (result ≡ next_row_after card.now from listed.life listed.fallback) }
+pub fn write_part(out: &mut Writer, card: &Card, from: u8, tags: Tags) -> u8
+    ensures { Written out.old (part_given card.now from tags.life tags.fall_back) out.new × (result ≡ next_row_after card.now from tags.life tags.fall_back) }
 {
-    write_rows(out, &card.places, card.fallback, from, listed)
+    write_rows(out, &card.places, card.fallback, from, tags)
 }
 
 // GET STATUS of the profile at a place.
-pub fn write_one_status(out: &mut Writer, card: &Card, place: u8, listed: Listed)
-    ensures { Written out.old (one_status card.now place listed.life listed.fallback) out.new × (length (one_status card.now place listed.life listed.fallback) ≤ most_row) }
+pub fn write_one_status(out: &mut Writer, card: &Card, place: u8, tags: Tags)
+    ensures { Written out.old (one_status card.now place tags.life tags.fall_back) out.new × (length (one_status card.now place tags.life tags.fall_back) ≤ most_row) }
 {
     let p = card_places::at(&card.places, place);
-    write_place(out, p, attribute_of(card.fallback, place), listed);
+    write_place(out, p, attribute_of(card.fallback, place), tags);
 }
 
 // GET DATA: each figure as four bytes, high byte first.

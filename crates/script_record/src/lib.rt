@@ -136,10 +136,10 @@ fn read_places(s: &[u8], start: usize) -> Result<[Isdp; Card::PLACES], Reason>
 {
     let mut places = [Isdp::none(); Card::PLACES];
     let mut at = start;
-    for i in 0..Card::PLACES {
-        let place = next_place(s, at)?;
-        places[i] = place.value;
-        at = place.next;
+    for place in &mut places {
+        let read = next_place(s, at)?;
+        *place = read.value;
+        at = read.next;
     }
     Ok(places)
 }

@@ -32,7 +32,7 @@ use text_words::spell_hex;
 
 // Where a session stands: its card, whether that card is known to be sound, up to where the lent buffer is filled, and whether the run
 // goes on. Soundness is asked where a card is handed in, and kept: every call leaves a sound card sound. Where it is not known, each
-// call asks for itself (decision B29).
+// call asks for itself (decision B29). The two flags are of the session's state, as in the `Reply` of a line; no value hangs on them.
 #[derive(Clone, Copy)]
 pub struct Turn {
     pub card: Card,

@@ -18,7 +18,7 @@ pub mod out {
     pub fn put_aid(out: &mut Writer, aid: Aid)
         ensures { Written out.old (aid_text aid) out.new }
     {
-        put_hex(out, aid.as_bytes());
+        put_hex(out, aid.as_slice());
     }
 }
 

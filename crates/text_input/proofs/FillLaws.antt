@@ -1,18 +1,22 @@
 -- What is held after a read behind the kept bytes. The kept bytes stand in front of the buffer, and the read changes only what stands
 -- behind them, so the window shows them with as many of the bytes that were read as it has grown by.
 use Prim.Native.Nat.{ℕ, ◌+◌, ◌≤◌}
-use mathlib.Core.Path.{◌≡◌, sym, ap, ◌∙◌}
+use mathlib.Core.Path.{◌≡◌, sym, ap, subst, ◌∙◌}
 use mathlib.Core.List.{List, [], ◌++◌, append-nil}
 use native.Mathlib.Omega.{arith}
 use lib.ListN.{length, take, drop, length-append}
-use lib.Seq.{take-append_seam, take-append-le, take-append-add}
+use lib.Seq.{length-take-le, take-append_seam, take-append-le, take-append-add}
+use Rattle.std.specs.Prelude.{Option}
+use Rattle.std.specs.Io.KnownBytes.{Consumes}
+use Rattle.std.proofs.KnownBytes.{Consumes-trans}
 use Rattle.base_bytes.specs.Put.{put, after}
-use Rattle.base_bytes.proofs.PutLaws.{put_front, after-fits}
+use Rattle.base_bytes.proofs.PutLaws.{put_front, after-fits, after_none}
 use Rattle.text_lines.specs.Window.{held_of, moved_down, grown_of}
 use Rattle.text_lines.specs.declared.Window.{Window}
 use Rattle.text_lines.specs.Cuts.{read}
 use Rattle.text_input.specs.Filled.{FilledReads}
 use Rattle.text_lines.proofs.Cuts.{held-le}
+use Rattle.text_lines.proofs.WindowLaws.{window-end}
 
 module _ (w : Window) (buf : List ℕ) (v : Window) (k : List ℕ) (p : v ≡ moved_down w buf) (q : k ≡ put buf 0 (held_of w buf)) where
   pub kept-front : take v.end k ≡ held_of w buf
@@ -51,5 +55,20 @@ module _ (w : Window) (buf : List ℕ) (v : Window) (k : List ℕ) (p : v ≡ mo
         ∙ take-append-add (held_of w buf) (ys ++ post) count
         ∙ ap (λ (x : List ℕ). held_of w buf ++ x) (take-append-le count ys post h)
 
+    -- after a read that brought none
+    pub held-after : held_of v (take v.end k ++ (ys ++ post)) ≡ held_of w buf ++ []
+    held-after = let m : List ℕ = take v.end k ++ (ys ++ post) in more-held 0 {r = v} (window-end v.at v.skipping (sym (after_none (length m) v.end))) (omega arith)
+
 pub filled-reads : FilledReads
-filled-reads w buf r m input ls p = read p.bytes p.held p.skipping
+filled-reads w buf v a m input ls p = read p.bytes p.held p.skipping
+
+-- a read behind the first n bytes of a buffer: its first n + m bytes are what both gave
+pub read-on : (old mid new : Option (List ℕ)) (n m : ℕ) (buf ys post : List ℕ) → n ≤ length buf → m ≤ length ys → Consumes old mid (take n buf) → Consumes mid new (take m ys)
+    → Consumes old new (take (n + m) (take n buf ++ (ys ++ post)))
+read-on old mid new n m buf ys post h k p q =
+    let s : List ℕ = take n buf in
+    let l : length s ≡ n = length-take-le n buf h in
+    let e : s ++ take m ys ≡ take (n + m) (s ++ (ys ++ post)) =
+    ap (λ (x : List ℕ). s ++ x) (sym (take-append-le m ys post k)) ∙ sym (take-append-add s (ys ++ post) m) ∙ ap (λ (i : ℕ). take (i + m) (s ++ (ys ++ post))) l
+    in
+    subst (Consumes old new) e (Consumes-trans old mid new s (take m ys) p q)

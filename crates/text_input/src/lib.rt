@@ -2,13 +2,13 @@
 // read or written is told on standard error.
 #![tactic(auto)]
 
-ghost use Rattle.std.specs.Prelude.{◌≡◌, ◌≤ℤ◌, pos, length, OnOk, IsUtf8};
-ghost use Rattle.std.specs.Counts.{IsPrefixLen, clamp_len};
-ghost use Rattle.text_input.specs.Filled.{arrival_of, FilledFrom, BroughtBy, ReadBy};
+ghost use Rattle.std.specs.Prelude.{◌≡◌, ◌<◌, ◌≤◌, length, take, OnOk, IsUtf8};
+ghost use Rattle.std.specs.Io.KnownBytes.{Consumes, IsAtEnd};
+ghost use Rattle.text_input.specs.Filled.{FilledFrom, BroughtBy};
 
 use std::fs::File;
 use std::io;
-use std::io::{ErrorKind, Read};
+use std::io::{ErrorKind, Read, Stdin};
 use text_lines::Window;
 
 #[derive(Clone, Copy)]
@@ -19,78 +19,83 @@ pub enum Arrival {
     Full,
 }
 
-#[derive(Clone, Copy)]
-pub struct Filled {
-    pub window: Window,
-    pub arrival: Arrival,
-}
-
-// One read, answered as the system answers it: by how many bytes it brought to the buffer's start, or by -1 where it failed.
-pub fn read_some<R: Read>(input: &mut R, buf: &mut [u8]) -> isize
-    ensures within { result ≤ℤ pos (length buf.new) }
-    ensures bytes { ReadBy (R.remaining input.old) (R.remaining input.new) result buf.new }
-{
-    match input.read(buf) {
-        Ok(n) => n as isize,
-        Err(_) => -1,
-    }
-}
-
-// What the answer of a read with room says.
-pub fn arrival_of(got: isize) -> Arrival
-    ensures { result ≡ arrival_of got }
-{
-    if got < 0 {
-        return Arrival::Failed;
-    }
-    if got == 0 {
-        return Arrival::End;
-    }
-    Arrival::Bytes
-}
-
-// How many bytes of the buffer that answer stands for: none where it is negative, and never more than there are.
-pub fn count(got: isize, buf: &[u8]) -> usize
-    ensures in_bounds { IsPrefixLen result buf.now }
-    ensures value { result ≡ clamp_len got (length buf.now) }
-{
-    if got <= 0 {
-        return 0;
-    }
-    let n = got as usize;
-    if n < buf.len() { n } else { buf.len() }
-}
-
 // One read, behind what the window holds. Without room it reads nothing, since a read of no bytes could not be told from the end.
-pub fn fill<R: Read>(input: &mut R, window: Window, buf: &mut [u8]) -> Filled
-    ensures filled { FilledFrom window buf.old result buf.new }
-    ensures brought { BroughtBy (R.remaining input.old) (R.remaining input.new) window buf.old result buf.new }
+pub fn fill<R: Read>(input: &mut R, window: &mut Window, buf: &mut [u8]) -> Arrival
+    ensures filled { FilledFrom window.old buf.old window.new result buf.new }
+    ensures brought { BroughtBy (R.remaining input.old) (R.remaining input.new) window.old buf.old window.new result buf.new }
 {
-    let kept = text_lines::keep(window, buf);
-    let end = kept.end;
+    window.keep(buf);
+    let end = window.end;
     if buf.len() <= end {
-        return Filled {
-            window: kept,
-            arrival: Arrival::Full,
-        };
+        return Arrival::Full;
     }
-    let part = &mut buf[end..];
-    let got = read_some(input, part);
-    let arrival = arrival_of(got);
-    let count = count(got, part);
-    Filled {
-        window: text_lines::grown(kept, count, buf.len()),
-        arrival,
+    match input.read(&mut buf[end..]) {
+        Ok(0) => Arrival::End,
+        Ok(n) => {
+            window.grow(n, buf.len());
+            Arrival::Bytes
+        }
+        Err(_) => Arrival::Failed,
     }
 }
 
-// The file of that name, for reading. A name that is no UTF-8 names none that std can open.
-pub fn open(rt: &HostRuntime, name: &[u8]) -> io::Result<File>
+// Reads to the buffer's start, until the input ends, the buffer is full or a read fails: how many bytes were read, and the failure.
+pub fn read_full<R: Read>(input: &mut R, buf: &mut [u8]) -> (usize, io::Result<()>)
+    ensures within { result.0 ≤ length buf.new }
+    ensures bytes { Consumes (R.remaining input.old) (R.remaining input.new) (take result.0 buf.new) }
+    ensures whole { OnOk result.1 (result.0 < length buf.new → IsAtEnd (R.remaining input.new)) }
+{
+    let mut filled = 0;
+    while filled < buf.len() {
+        match input.read(&mut buf[filled..]) {
+            Ok(0) => break,
+            Ok(n) => filled += n,
+            Err(error) => return (filled, Err(error)),
+        }
+    }
+    (filled, Ok(()))
+}
+
+// What a program reads: standard input, or a file.
+#[derive(Drop)]
+pub enum Input {
+    Standard(Stdin),
+    File(File),
+}
+
+impl Read for Input {
+    fn read(&mut self, buf: &mut [u8]) -> io::Result<usize> {
+        match self {
+            Input::Standard(stdin) => stdin.read(buf),
+            Input::File(file) => file.read(buf),
+        }
+    }
+}
+
+// What a word names: `-` standard input, any other the file of that name. A name that is no UTF-8 names none that std can open.
+pub fn open(rt: &HostRuntime, name: &[u8]) -> io::Result<Input>
     ensures { OnOk result (IsUtf8 name.now) }
 {
-    match str::from_utf8(name) {
-        Ok(path) => File::open(rt, path),
-        Err(_) => Err(io::Error::from(ErrorKind::InvalidFilename)),
+    let Ok(path) = str::from_utf8(name) else {
+        return Err(io::Error::from(ErrorKind::InvalidFilename));
+    };
+    if path == "-" {
+        return Ok(Input::Standard(rt.stdin()));
+    }
+    Ok(Input::File(File::open(rt, path)?))
+}
+
+// Bytes written to standard output, and how many of them are left to write: none. Where they could not be written, that is told on
+// standard error.
+pub fn put_out(rt: &HostRuntime, bytes: &[u8]) -> usize
+    ensures { result ≡ 0 }
+{
+    match rt.write_all(bytes) {
+        Ok(()) => 0,
+        Err(error) => {
+            fail(rt, b"standard output", error);
+            0
+        }
     }
 }
 

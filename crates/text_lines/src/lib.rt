@@ -2,10 +2,9 @@
 // where it lies, as soon as its end has arrived; one of more than 4,096 bytes is told as too long, and passed over.
 #![tactic(auto)]
 
-ghost use Rattle.std.specs.Prelude.{◌≡◌, ◌≤◌, min, length};
+ghost use Rattle.std.specs.Prelude.{◌≡◌, ◌≤◌};
 ghost use Rattle.base_bytes.specs.Put.{put};
-ghost use Rattle.text_lines.specs.Window.{fresh_window, found_line, none_left, unended, line_from, step_from, next_line, held_of, moved_down, grown_of};
-ghost use Rattle.text_words.specs.Words.{part};
+ghost use Rattle.text_lines.specs.Window.{window_of, fresh_window, gives, found_line, none_left, unended, line_from, step_from, next_line, held_of, moved_down, grown_of};
 
 use text_words::until;
 
@@ -30,10 +29,20 @@ pub enum Found {
     End,
 }
 
+// What was found, and the window after it.
 #[derive(Clone, Copy)]
-pub struct Step {
-    pub window: Window,
-    pub found: Found,
+struct Step {
+    window: Window,
+    found: Found,
+}
+
+impl Step {
+    fn gives(at: usize, end: usize, skipping: bool, found: Found) -> Step
+        ensures { result ≡ gives (window_of at end skipping) found }
+    {
+        let window = Window { at, end, skipping };
+        Step { window, found }
+    }
 }
 
 impl Window {
@@ -46,12 +55,36 @@ impl Window {
             skipping: false,
         }
     }
-}
 
-fn least(a: usize, b: usize) -> usize
-    ensures { result ≡ min a b }
-{
-    if a < b { a } else { b }
+    // The next line of the window. `last` says that no byte comes after those in the window.
+    pub fn next(&mut self, buf: &[u8], last: bool) -> Found
+        ensures { gives self.new result ≡ next_line self.old buf.now last }
+    {
+        let end = self.end.min(buf.len());
+        let step = step_from(&buf[..end], self.at, self.skipping, last);
+        *self = step.window;
+        step.found
+    }
+
+    // Moves what is not handed out to the buffer's start, so that a read can go behind it.
+    pub fn keep(&mut self, buf: &mut [u8])
+        ensures { (self.new ≡ moved_down self.old buf.old) × (buf.new ≡ put buf.old 0 (held_of self.old buf.old)) }
+    {
+        let end = self.end.min(buf.len());
+        let at = self.at.min(end);
+        buf.copy_within(at..end, 0);
+        self.at = 0;
+        self.end = end - at;
+    }
+
+    // Takes in `count` bytes that were read to the buffer behind the window's end.
+    pub fn grow(&mut self, count: usize, size: usize)
+        ensures { self.new ≡ grown_of self.old count size }
+    {
+        if self.end < size {
+            self.end += count.min(size - self.end);
+        }
+    }
 }
 
 fn found_line(from: usize, to: usize) -> Found
@@ -68,21 +101,10 @@ fn found_line(from: usize, to: usize) -> Found
 fn none_left(end: usize, skipping: bool, last: bool) -> Step
     ensures { result ≡ none_left end skipping last }
 {
-    let window = Window {
-        at: end,
-        end,
-        skipping,
-    };
     if last {
-        return Step {
-            window,
-            found: Found::End,
-        };
+        return Step::gives(end, end, skipping, Found::End);
     }
-    Step {
-        window,
-        found: Found::More,
-    }
+    Step::gives(end, end, skipping, Found::More)
 }
 
 // What stands after the last line end.
@@ -94,33 +116,12 @@ fn unended(s: &[u8], from: usize, last: bool) -> Step
         return none_left(end, false, last);
     }
     if last {
-        return Step {
-            window: Window {
-                at: end,
-                end,
-                skipping: false,
-            },
-            found: found_line(from, end),
-        };
+        return Step::gives(end, end, false, found_line(from, end));
     }
     if LONGEST < end - from {
-        return Step {
-            window: Window {
-                at: end,
-                end,
-                skipping: true,
-            },
-            found: Found::TooLong,
-        };
+        return Step::gives(end, end, true, Found::TooLong);
     }
-    Step {
-        window: Window {
-            at: from,
-            end,
-            skipping: false,
-        },
-        found: Found::More,
-    }
+    Step::gives(from, end, false, Found::More)
 }
 
 // The line that starts at a place.
@@ -130,14 +131,7 @@ fn line_from(s: &[u8], from: usize, last: bool) -> Step
     let to = until(s, from, b'\n');
     let end = s.len();
     if to < end {
-        return Step {
-            window: Window {
-                at: to + 1,
-                end,
-                skipping: false,
-            },
-            found: found_line(from, to),
-        };
+        return Step::gives(to + 1, end, false, found_line(from, to));
     }
     unended(s, from, last)
 }
@@ -153,53 +147,4 @@ fn step_from(s: &[u8], at: usize, skipping: bool, last: bool) -> Step
         return line_from(s, stop + 1, last);
     }
     line_from(s, at, last)
-}
-
-// The next line of the window, and the window after it. `last` says that no byte comes after those in the window.
-pub fn next(window: Window, buf: &[u8], last: bool) -> Step
-    ensures { result ≡ next_line window buf.now last }
-{
-    let end = least(window.end, buf.len());
-    step_from(&buf[..end], window.at, window.skipping, last)
-}
-
-fn move_down(buf: &mut [u8], from: usize, to: usize)
-    requires { (from ≤ to) × (to ≤ length buf.old) }
-    ensures { buf.new ≡ put buf.old 0 (part buf.old from to) }
-{
-    let mut i = 0;
-    let count = to - from;
-    while i < count {
-        buf[i] = buf[from + i];
-        i += 1;
-    }
-}
-
-// Moves what is not handed out to the buffer's start, so that a read can go behind it.
-pub fn keep(window: Window, buf: &mut [u8]) -> Window
-    ensures { (result ≡ moved_down window buf.old) × (buf.new ≡ put buf.old 0 (held_of window buf.old)) }
-{
-    let end = least(window.end, buf.len());
-    let at = least(window.at, end);
-    move_down(buf, at, end);
-    Window {
-        at: 0,
-        end: end - at,
-        skipping: window.skipping,
-    }
-}
-
-// The window once `count` bytes have been read to the buffer behind its end.
-pub fn grown(window: Window, count: usize, size: usize) -> Window
-    ensures { result ≡ grown_of window count size }
-{
-    let end = window.end;
-    if size <= end {
-        return window;
-    }
-    Window {
-        at: window.at,
-        end: end + least(count, size - end),
-        skipping: window.skipping,
-    }
 }

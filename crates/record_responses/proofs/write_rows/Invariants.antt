@@ -8,7 +8,7 @@ use Rattle.rule_responses.specs.Responses.{most_response, part_from, next_row_fr
 use Rattle.record_responses.proofs.write_rows.Given as goal
 
 abbrev pub invariant-loop-i : goal.invariant-loop-i
-invariant-loop-i l = let s = l.listed in
-    ((v : Writer) → Written l.out (part_from l.room l.holder l.i s.life s.fallback (drop l.i l.places)) v
-    → Written l.initial.out (part_from most_response l.holder l.from s.life s.fallback (drop l.from l.places)) v)
-    × (next_row_from l.room l.holder l.i s.life s.fallback (drop l.i l.places) ≡ next_row_from most_response l.holder l.from s.life s.fallback (drop l.from l.places))
+invariant-loop-i l = let s = l.tags in
+    ((v : Writer) → Written l.out (part_from l.room l.holder l.i s.life s.fall_back (drop l.i l.places)) v
+    → Written l.initial.out (part_from most_response l.holder l.from s.life s.fall_back (drop l.from l.places)) v)
+    × (next_row_from l.room l.holder l.i s.life s.fall_back (drop l.i l.places) ≡ next_row_from most_response l.holder l.from s.life s.fall_back (drop l.from l.places))

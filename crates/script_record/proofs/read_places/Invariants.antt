@@ -7,5 +7,5 @@ use Rattle.card_isdp.specs.Sizes.{most_places}
 use Rattle.script_record.specs.Records.{places_on}
 use Rattle.script_record.proofs.read_places.Given as goal
 
-abbrev pub invariant-loop-i : goal.invariant-loop-i
-invariant-loop-i l = (length l.places ≡ most_places) × (places_on (most_places - l.i) l.s l.at (take l.i l.places) ≡ places_on most_places l.s l.start [])
+abbrev pub invariant-loop-place : goal.invariant-loop-place
+invariant-loop-place l = (length l.place-items ≡ most_places) × (places_on (most_places - l.place-index) l.s l.at (take l.place-index l.place-items) ≡ places_on most_places l.s l.start [])

@@ -1,16 +1,18 @@
--- `teapot::run`: the text of a line is written within the buffer, for which `seek` kept room.
-use borrow.Author.Rules.{rules}
-use Rattle.teapot.proofs.Within.{within}
+-- `teapot::run`: a line that `next` found lies in the buffer, and so do as many bytes as no line may have.
+use native.Mathlib.Omega.{arith}
+use mathlib.Core.Path.{sym}
+use lib.Seq.{length-take-le}
+use Rattle.text_lines.proofs.Cuts.{line-inside}
 use Rattle.teapot.proofs.run.Goals as goal
 
-pub write_out-requires : goal.write_out-requires
-write_out-requires g c =
-    let w = within _ _ _ _ _ c.take_line-turn.ensures.0 c.seek-step.ensures.1.1 in
-    let n = c.loop-turns.invariant.1.0 in
-    search rules
+pub slice_bounds-answer-count : goal.slice_bounds-answer-count
+slice_bounds-answer-count c = (line-inside _ _ _ c.next.ensures c.in-Line.is).0
 
-pub loop-turns-preserved : goal.loop-turns-preserved
-loop-turns-preserved g c =
-    let w = within _ _ _ _ _ c.take_line-turn.ensures.0 c.seek-step.ensures.1.1 in
-    let v = c.loop-turns.invariant in
-    search rules
+pub slice_bounds-answer-start : goal.slice_bounds-answer-start
+slice_bounds-answer-start c = (line-inside _ _ _ c.next.ensures c.in-Line.is).0
+
+pub slice_bounds-answer-end : goal.slice_bounds-answer-end
+slice_bounds-answer-end c = (line-inside _ _ _ c.next.ensures c.in-Line.is).1
+
+pub slice_bounds-answer-end-in-TooLong : goal.slice_bounds-answer-end-in-TooLong
+slice_bounds-answer-end-in-TooLong c = sym (length-take-le 4097 c.loop.buf (omega arith))

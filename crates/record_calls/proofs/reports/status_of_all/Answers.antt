@@ -15,5 +15,5 @@ returns-then-next-card c = rw c.if-next-card.true (kept c.refused.ensures)
 pub returns : goal.returns
 returns c = let a = c.args in
     let p = c.write_part-left.ensures in
-    rw (part-known a.card a.next a.life a.fallback c.if-next-card.false, ← c.begins_at.ensures, ← p.1, ← c.part_word.ensures)
-    (silent-written a.card c.keeping.ensures refl c.silently.ensures (wrote_by c.new-out.ensures.as_lent (search rules) p.0) (part-short a.card a.life a.fallback c.begins_at.result))
+    rw (part-known a.card a.next a.tags.life a.tags.fall_back c.if-next-card.false, ← c.begins_at.ensures, ← p.1, ← c.part_word.ensures)
+    (silent-written a.card c.keeping.ensures refl c.silently.ensures (wrote_by c.new-out.ensures.as_lent (search rules) p.0) (part-short a.card a.tags.life a.tags.fall_back c.begins_at.result))

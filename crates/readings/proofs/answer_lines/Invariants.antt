@@ -1,9 +1,0 @@
--- `answer_lines` is safe and ends: each turn goes past a line.
-use Rattle.std.proofs.Common.{◌≡◌, ◌-◌, length}
-use Rattle.readings.proofs.answer_lines.Given as goal
-
-abbrev pub invariant-loop-at : goal.invariant-loop-at
-invariant-loop-at l = (length l.bytes ≡ length l.initial.bytes) × (length l.out ≡ length l.initial.out)
-
-abbrev pub decreases-loop-at : goal.decreases-loop-at
-decreases-loop-at l = length l.text - l.at
