@@ -12,7 +12,8 @@ ghost use Rattle.card_isdp.specs.Place.{vacant, made, is_for, zeros, life_ok, em
 
 use base_bytes::same;
 
-// An AID: its bytes with zeros after them, and its length; length 0 where there is none.
+// An AID: its bytes with zeros after them, and its length; length 0 where there is none. No Option: a script's `card` line hands in any
+// such record, and `SoundClauses` (card_record/specs/Clauses) says of each place whether it is held.
 #[derive(Clone, Copy)]
 pub struct Aid {
     pub bytes: [u8; 16],
@@ -20,6 +21,7 @@ pub struct Aid {
 }
 
 // The numbers stand first, so that a profile takes 28 bytes (decision B35). The mark is that of provisioning capability.
+// Life cycle, policy and mark are bytes and no enums: `SoundClauses` speaks of every byte, and a script's `card` line hands in any.
 #[derive(Clone, Copy)]
 pub struct Isdp {
     pub quota: u32,

@@ -75,7 +75,7 @@ impl Card {
         (self.profile(i).life == Isdp::DISABLED) & (i != self.fallback)
     }
 
-    // The whole record, spelled once.
+    // The whole record, spelled once: the parameters are those of `card_with`.
     pub fn with(
         eid: [u8; 16],
         capacity: u32,

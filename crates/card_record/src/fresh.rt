@@ -4,9 +4,40 @@ ghost use Rattle.std.specs.Prelude.{◌≡◌, length};
 ghost use Rattle.card_record.specs.Answers.{as_answer};
 ghost use Rattle.card_record.specs.Fresh.{zero_card, fresh_ok, fresh_card, fresh_outcome};
 
-use crate::{Answer, Card, Phase};
+use crate::{Answer, Card, Inputs, Phase};
 use base_status::Status;
 use card_isdp::{Aid, Isdp, aid_ok, pad};
+
+impl Inputs<'_> {
+    // Are they within the sizes?
+    fn are_ok(&self) -> bool
+        ensures { result ≡ fresh_ok self.now.eid.now self.now.aid.now self.now.capacity self.now.quota self.now.used }
+    {
+        (self.eid.len() == 16)
+            & (aid_ok(self.aid)
+                & ((1 <= self.capacity)
+                    & ((self.capacity <= Card::CAPACITY)
+                        & ((1 <= self.quota)
+                            & ((self.quota <= self.capacity) & (self.used <= self.quota))))))
+    }
+
+    // A card with one profile.
+    fn card(&self) -> Card
+        requires { length self.now.eid.now ≡ 16 }
+        ensures { result ≡ fresh_card self.now.eid.now self.now.aid.now self.now.capacity self.now.quota self.now.used self.now.volatile }
+    {
+        let mut places = [Isdp::none(); Card::PLACES];
+        places[0] = Isdp::made(self.aid, Isdp::ENABLED, self.quota, self.used).with_mark(1);
+        Card {
+            eid: pad(self.eid),
+            capacity: self.capacity,
+            volatile: self.volatile,
+            free: self.capacity.saturating_sub(self.quota),
+            places,
+            ..Card::zero()
+        }
+    }
+}
 
 impl Card {
     // A record of zeros in Quiet.
@@ -17,62 +48,16 @@ impl Card {
         Card::with([0; 16], 0, 0, 0, 0, 0, Phase::Quiet, Card::NO_PLACE, places)
     }
 
-    // Are the inputs of a fresh card within the sizes?
-    fn fresh_ok(eid: &[u8], aid: &[u8], capacity: u32, quota: u32, used: u32) -> bool
-        ensures { result ≡ fresh_ok eid.now aid.now capacity quota used }
-    {
-        (eid.len() == 16)
-            & (aid_ok(aid)
-                & ((1 <= capacity)
-                    & ((capacity <= Card::CAPACITY)
-                        & ((1 <= quota) & ((quota <= capacity) & (used <= quota))))))
-    }
-
-    // A card with one profile.
-    fn fresh_card(
-        eid: &[u8],
-        aid: &[u8],
-        capacity: u32,
-        quota: u32,
-        used: u32,
-        volatile: u32,
-    ) -> Card
-        requires { length eid.now ≡ 16 }
-        ensures { result ≡ fresh_card eid.now aid.now capacity quota used volatile }
-    {
-        let bytes = pad(eid);
-        let mut places = [Isdp::none(); Card::PLACES];
-        places[0] = Isdp::made(aid, Isdp::ENABLED, quota, used).with_mark(1);
-        let free = capacity.saturating_sub(quota);
-        Card::with(
-            bytes,
-            capacity,
-            volatile,
-            free,
-            0,
-            0,
-            Phase::Quiet,
-            Card::NO_PLACE,
-            places,
-        )
-    }
-
-    pub fn fresh(
-        eid: &[u8],
-        aid: &[u8],
-        capacity: u32,
-        quota: u32,
-        used: u32,
-        volatile: u32,
-    ) -> Answer
-        ensures { result ≡ as_answer (fresh_outcome eid.now aid.now capacity quota used volatile) }
+    pub fn fresh(inputs: &Inputs<'_>) -> Answer
+        ensures { result ≡ as_answer (fresh_outcome inputs.now.eid.now inputs.now.aid.now inputs.now.capacity inputs.now.quota inputs.now.used inputs.now.volatile) }
     {
         let zero = Card::zero();
-        if !Card::fresh_ok(eid, aid, capacity, quota, used) {
+        if !inputs.are_ok() {
             return zero.refused(Status::DataWrong);
         }
-        let card = Card::fresh_card(eid, aid, capacity, quota, used, volatile);
-        card.step_since(zero.last, Aid::none())
+        inputs
+            .card()
+            .step_since(zero.last, Aid::none())
             .answer(Status::Done, 0)
     }
 }

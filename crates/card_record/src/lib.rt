@@ -33,7 +33,7 @@ pub struct Card {
     pub phase: Phase,
     pub last: u16,
     pub fallback: u8,
-    // the place of the first row of a listing not yet given, or `Card::NO_PLACE`
+    // the place of the first row of a listing not yet given, or `Card::NO_PLACE`; no Option, since `SoundClauses` speaks of every byte
     pub kept: u8,
     pub eid: [u8; 16],
 }
@@ -47,7 +47,8 @@ pub enum Kind {
     FallenBack = 5,
 }
 
-// A notification as values; kind Silent with zeros is the one value for 'no notification'.
+// A notification as values; kind Silent with zeros is the one value for 'no notification' (decision B12): no Option, since the laws and
+// demand 1 of proof_demands say `o.notification ≡ silent`.
 #[derive(Clone, Copy)]
 pub struct Notification {
     pub kind: Kind,
@@ -57,6 +58,7 @@ pub struct Notification {
 }
 
 // The card after a step, with what the step handed out: the notification, and the AID that a confirmation deleted (length 0: none).
+// No Option: on a record that is not sound the place deleted may have an AID of length 0, so that there would be two values for none.
 #[derive(Clone, Copy)]
 pub struct Step {
     pub card: Card,
@@ -72,6 +74,17 @@ pub struct Answer {
     pub length: usize,
     pub notification: Notification,
     pub ticks: u32,
+}
+
+// What a fresh card is made of: its EID and capacity, its one profile's AID, quota and used bytes, and its volatile memory.
+#[derive(Clone, Copy)]
+pub struct Inputs<'a> {
+    pub eid: &'a [u8],
+    pub aid: &'a [u8],
+    pub capacity: u32,
+    pub quota: u32,
+    pub used: u32,
+    pub volatile: u32,
 }
 
 impl Card {

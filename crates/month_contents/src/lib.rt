@@ -11,7 +11,7 @@ use base_bytes::{Part, read_four};
 // The most bytes of a file.
 pub const MOST_FILE: usize = 65536;
 
-// The section kinds: the fresh card's inputs, and the events.
+// The section kinds: the fresh card's inputs, and the events. An entry's kind is any number of four bytes, so they are numbers.
 pub const FRESH: u32 = 1;
 
 pub const EVENTS: u32 = 2;
@@ -187,7 +187,8 @@ pub fn contents_wrong(s: &[u8]) -> bool
     not_filled(s)
 }
 
-// Where the body of the first section of a kind lies, if one is listed. It is asked of contents that are not wrong: there a search is as long as there are kinds.
+// Where the body of the first section of a kind lies, if one is listed. It is asked of contents that are not wrong: there a search is as
+// long as there are kinds.
 pub fn section_of(s: &[u8], kind: u32) -> Option<Part>
     ensures { result ≡ section_of s.now kind }
 {

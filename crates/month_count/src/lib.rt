@@ -52,9 +52,8 @@ fn count(card: Card, body: &[u8], minutes: &mut [u32; MINUTES]) -> Tally
 {
     let mut buf = [0u8; LEAST_BUFFER];
     let profile = card.profile(card.enabled_place());
-    let aid = profile.aid;
-    let mut names = Names::none().noted(aid);
-    let mut own = names.line(aid);
+    let mut names = Names::none().noted(profile.aid);
+    let mut own = names.line(profile.aid);
     let mut card = card;
     let mut ticks: u32 = 0;
     let mut events: u32 = 0;
@@ -63,18 +62,13 @@ fn count(card: Card, body: &[u8], minutes: &mut [u32; MINUTES]) -> Tally
     while let Some(event) = next_event(body, at) {
         ticks += time(event.call, own, minutes);
         let answer = answer_on_sound(card, event.call, body, &mut buf);
-        let status = answer.status;
-        let notification = answer.notification;
-        let kind = notification.kind;
         events += 1;
-        refused += refusals(status);
-        if kind.code() != 0 {
-            let aid = notification.aid;
-            names = names.noted(aid);
-            own = names.line(aid);
+        refused += refusals(answer.status);
+        if answer.notification.kind.code() != 0 {
+            names = names.noted(answer.notification.aid);
+            own = names.line(answer.notification.aid);
         }
-        let after = answer.card;
-        card = after;
+        card = answer.card;
         at = event.stop;
     }
     Tally {

@@ -155,6 +155,7 @@ fn call_over(b: &[u8], kind: Kind, from: usize, to: usize) -> Call
 pub fn check_events(b: &[u8]) -> Result<(), EventsWrong>
     ensures { result ≡ checked_of b.now }
 {
+    // The place goes on by each event's own length.
     let mut at = 0;
     let mut unknown = false;
     let mut wrong = false;

@@ -9,7 +9,7 @@ ghost use Rattle.month_file.specs.File.{opened_of};
 ghost use Rattle.month_file.specs.Refusals.{refusal_for};
 
 use base_bytes::{Part, part_of, read_four};
-use card_record::{Answer, Card};
+use card_record::{Answer, Card, Inputs};
 use month_contents::{EVENTS, FRESH, contents_wrong, section_of};
 use month_events::{EventsWrong, check_events};
 
@@ -54,18 +54,14 @@ fn fresh_answer(f: &[u8]) -> Answer
         start: INPUTS,
         len: f.len(),
     };
-    let capacity = read_four(f, 16);
-    let quota = read_four(f, 20);
-    let used = read_four(f, 24);
-    let volatile = read_four(f, 28);
-    record_door::fresh(
-        part_of(f, eid),
-        part_of(f, aid),
-        capacity,
-        quota,
-        used,
-        volatile,
-    )
+    record_door::fresh(&Inputs {
+        eid: part_of(f, eid),
+        aid: part_of(f, aid),
+        capacity: read_four(f, 16),
+        quota: read_four(f, 20),
+        used: read_four(f, 24),
+        volatile: read_four(f, 28),
+    })
 }
 
 // A file opened: each refusal is asked of the whole file before the next.

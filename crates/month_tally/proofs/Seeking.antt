@@ -1,42 +1,40 @@
--- The search for an AID: one turn and the ends of its loop, and what its number says. Each law takes one AID of the list apart. Assumes nothing.
+-- The search for an AID is the library's, and what its number says. Each law takes one AID of the list apart. Assumes nothing.
 use mathlib.Core.Path.{◌≡◌, refl, ap}
 use Prim.Native.Nat.{ℕ, suc, ◌+◌, ◌≤◌, ◌<◌}
-use native.Mathlib.Numerals.{add-one}
 use native.Mathlib.Omega.{arith}
 use mathlib.Core.List.{List, [], ◌∷◌, ◌++◌}
 use mathlib.Core.Bool.{Bool, true, false, cond}
-use lib.ListN.{length, get_or, drop, drop_of_length-le}
-use lib.Seq.{drop-cons}
+use lib.ListN.{length}
 use lib.Dec.{ltb}
-use borrow.Author.Tests.{lt-ltb, le-ltb}
 use Rattle.base_bytes.proofs.Alike.{same_self}
 use Rattle.card_isdp.specs.Aids.{bytes_of}
 use Rattle.card_isdp.specs.declared.Aid.{Aid}
-use Rattle.month_tally.specs.Lines.{rest_line, same_aid, seek_aid}
+use Rattle.std.specs.Prelude.{position, Option, Some, None}
+use Rattle.std.specs.Option.{unwrap_or}
+use Rattle.std.specs.List.{position_or_len}
+use Rattle.std.proofs.lemmas.List.Recursion.{is_position_or_len}
+use Rattle.month_tally.specs.Lines.{rest_line, same_aid, seek_aid, aids_in, line_of}
+use Rattle.month_tally.specs.declared.Names.{Names}
 
 -- what the prover takes past the end of an array of AIDs
 abbrev pub unread : Aid
 unread = record { bytes = []; len = 0 }
 
-module _ (a : Aid) (l : List Aid) (i : ℕ) (h : i < length l) where
-  pub seek_hit : same_aid (get_or l i unread) a ≡ true → seek_aid a (drop i l) ≡ 0
-  unfolding seek_aid
-  seek_hit e = rw (drop-cons l i unread, e)
+one_more : (n : ℕ) → 1 + n ≡ suc n
+one_more n = omega arith
 
-  pub seek-miss : same_aid (get_or l i unread) a ≡ false → seek_aid a (drop i l) ≡ suc (seek_aid a (drop (i + 1) l))
-  unfolding seek_aid
-  seek-miss e = rw (drop-cons l i unread, e, add-one)
-
-pub seek-end : (a : Aid) (l : List Aid) (i : ℕ) → length l ≤ i → seek_aid a (drop i l) ≡ 0
+-- the search is the library's, over the AIDs that have a line
+seek_len : (a : Aid) (l : List Aid) → seek_aid a l ≡ position_or_len (λ x. same_aid x a) l
 unfolding seek_aid
-seek-end a l i h = rw (drop_of_length-le l h)
+seek_len a = is_position_or_len (seek_aid a) (λ x. same_aid x a) refl (λ x xs. rw (one_more (seek_aid a xs)) refl)
 
--- the answer of a search that has come to i
-pub line_at : (n i m : ℕ) → n ≡ i → i < m → i ≡ cond (ltb n m) n rest_line
-line_at n i m e h = rw (e, lt-ltb i m h)
+-- the line of an AID, by its place among them
+at-case : (b : Bool) (i : ℕ) → unwrap_or (cond b (Some i) None) rest_line ≡ cond b i rest_line
+at-case true i = refl
+at-case false i = refl
 
-pub line-none : (n m : ℕ) → n ≡ m → rest_line ≡ cond (ltb n m) n rest_line
-line-none n m e = rw (e, le-ltb m m (omega arith))
+pub line-is : (n : Names) (a : Aid) (r : Option ℕ) → r ≡ position (λ x. same_aid x a) (aids_in n) → unwrap_or r rest_line ≡ line_of n a
+line-is n a r e = rw (e, seek_len a (aids_in n)) (at-case (ltb (position_or_len (λ x. same_aid x a) (aids_in n)) (length (aids_in n))) (position_or_len (λ x. same_aid x a) (aids_in n)))
 
 seek-case : (b : Bool) (n m : ℕ) → n ≤ m → cond b 0 (suc n) ≤ suc m
 seek-case true n m h = omega arith

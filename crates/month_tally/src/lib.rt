@@ -15,7 +15,7 @@ pub const LINES: usize = 64;
 pub const MINUTES: usize = LINES + 1;
 
 // The AIDs that have a line, `count` of them, in the order in which each was first enabled; no AIDs after them. Whether there is one
-// more, which shares the line of the rest.
+// more, which shares the line of the rest. The library's ArrayVec is no value to copy, and the theorems speak of `count` (`LinesShown`).
 #[derive(Clone, Copy)]
 pub struct Names {
     pub aids: [Aid; LINES],
@@ -36,21 +36,15 @@ pub struct Tally {
 pub fn same_aid(a: Aid, b: Aid) -> bool
     ensures { result ≡ same_aid a b }
 {
-    let n = a.size();
-    let m = b.size();
-    let left = a.bytes;
-    let right = b.bytes;
-    same(&left[..n], &right[..m])
+    same(a.as_slice(), b.as_slice())
 }
 
 impl Names {
     pub fn none() -> Names
         ensures { result ≡ no_names }
     {
-        let aid = Aid::none();
-        let aids = [aid; LINES];
         Names {
-            aids,
+            aids: [Aid::none(); LINES],
             count: 0,
             more: false,
         }
@@ -60,29 +54,25 @@ impl Names {
     pub fn lines(self) -> usize
         ensures { (result ≡ length (aids_in self)) × (result ≤ most_lines) }
     {
-        let n = self.count as usize;
-        if n > LINES {
-            return LINES;
-        }
-        n
+        usize::from(self.count).min(LINES)
+    }
+
+    // The AIDs that have a line.
+    pub fn listed(&self) -> &[Aid]
+        ensures { result.now ≡ aids_in self.now }
+    {
+        let n = self.lines();
+        &self.aids[..n]
     }
 
     // The number of the line of an AID, or that of the rest.
-    pub fn line(self, aid: Aid) -> usize
-        ensures { result ≡ line_of self aid }
+    pub fn line(&self, aid: Aid) -> usize
+        ensures { result ≡ line_of self.now aid }
     {
-        let n = self.lines();
-        let mut i = 0;
-        loop {
-            if i == n {
-                break LINES;
-            }
-            let name = self.aids[i];
-            if same_aid(name, aid) {
-                break i;
-            }
-            i += 1;
-        }
+        self.listed()
+            .iter()
+            .position(|name| same_aid(*name, aid))
+            .unwrap_or(LINES)
     }
 
     // An AID that is enabled: it has its line, or gets the next one, or is among the rest.

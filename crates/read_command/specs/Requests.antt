@@ -1,6 +1,6 @@
 -- Document 01, 'Reading a command', the list: which request the data field of each instruction makes, or that it is wrong.
 -- The field stands from the sixth byte up to data_end.
-use Rattle.std.specs.Prelude.{ℕ, List, Bool, true, false, eqb, Some, None}
+use Rattle.std.specs.Prelude.{ℕ, List, Bool, eqb, Some, is_none}
 use Rattle.base_choice.specs.Choice.{pick, is_same}
 use Rattle.read_fields.specs.StoreData.{store_data_at}
 use Rattle.read_fields.specs.Delete.{deletion_at}
@@ -25,8 +25,7 @@ field_of s capacity =
     (Some request.GetData))))
 
 abbrev pub is_field_wrong : Field → Bool
-is_field_wrong None = true
-is_field_wrong (Some r) = false
+is_field_wrong field = is_none field
 
 -- 6A 80: data field or DGI wrong
 unfoldable pub data_wrong : List ℕ → ℕ → Bool

@@ -1,37 +1,26 @@
 -- The word that reading an update gives is that of its rows. Its rows are framing's but for the instruction: of the headers written out those of E2 are left.
 use Prim.Native.Nat.{ℕ}
-use mathlib.Core.Path.{◌≡◌, refl, sym, ap, ◌∙◌}
+use mathlib.Core.Path.{◌≡◌, refl, ap, ◌∙◌}
 use mathlib.Core.List.{List, [], ◌∷◌}
-use mathlib.Core.Bool.{Bool, true, false, not, cond, false≢true}
+use mathlib.Core.Bool.{Bool, true, false, not, cond}
 use lib.Dec.{eqb}
 use borrow.Author.Tests.{eqb-true}
-use Rattle.std.specs.Prelude.{Some, None, Err}
 use Rattle.base_bytes.specs.Bytes.{byte}
-use Rattle.base_status.specs.StatusWords.{is_done, number_of}
+use Rattle.base_status.specs.StatusWords.{number_of}
 use Rattle.base_status.specs.Rows.{word_of}
-use Rattle.base_status.specs.declared.Status.{Status}
 use Rattle.base_status.specs.declared.Status.TheVariants as status
 use Rattle.read_frame.specs.Framing.{length_wrong, class_wrong, parameters_wrong, shape_wrong}
 use Rattle.read_frame.specs.Classes.{is_among}
 use Rattle.read_frame.specs.Headers.{store_data_headers, printed_headers, has_header, is_shaped, field_word}
-use Rattle.read_frame.proofs.Rows as rows
+use Rattle.read_frame.proofs.Answers as answers
 use Rattle.read_frame.proofs.Headers as headers
-use Rattle.read_operator.specs.Field.{policy_of, is_policy_wrong, Policy}
-use Rattle.read_operator.specs.Reading.{not_store_data, policy_wrong, update_rows, update_read, update_of, update_word}
+use Rattle.read_operator.specs.Field.{policy_of}
+use Rattle.read_operator.specs.Reading.{not_store_data, policy_wrong, update_rows, update_of, update_word}
 use Rattle.read_operator.specs.Words.{UpdateWords}
-
-word-case : (f : Policy) (w : Status) (b : Bool) → (b ≡ true → (is_policy_wrong f ≡ false) × (w ≡ status.Done)) → update_word (cond b (update_read f) (Err w)) ≡ w
-word-case f w false h = refl
-word-case (Some p) w true h = sym (h refl).1
-word-case None w true h = absurd (false≢true (sym (h refl).0))
 
 rows-word : (s : List ℕ) → update_word (update_of s) ≡ word_of status.Done (update_rows s)
 unfolding update_of policy_wrong
-rows-word s =
-    let word = word_of status.Done (update_rows s) in
-    word-case (policy_of s) word (is_done word)
-    (λ e. let p = rows.done-passes (length_wrong s) (class_wrong s) (not_store_data s) (parameters_wrong s) (shape_wrong s) (policy_wrong s) e in
-    (p.data_right, rows.passes-done (length_wrong s) (class_wrong s) (not_store_data s) (parameters_wrong s) (shape_wrong s) (policy_wrong s) p))
+rows-word s = answers.rows-word (length_wrong s) (class_wrong s) (not_store_data s) (parameters_wrong s) (shape_wrong s) (policy_of s)
 
 -- past the row of the instruction it is E2, and the headers of the others are not met
 pub two-rows : (i p q w : ℕ) (e2 : Bool) → eqb i 0xE2 ≡ e2

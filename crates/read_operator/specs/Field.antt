@@ -1,6 +1,6 @@
 -- 000, 4.1.2.1, Table 69: the data field of a policy update is DGI 3A06, and in it one 81 of one byte, the new policy. A DGI and its
 -- elements are read as document 01, 'Reading a command', has them.
-use Rattle.std.specs.Prelude.{ℕ, List, Bool, true, false, Option, Some, None}
+use Rattle.std.specs.Prelude.{ℕ, List, Bool, Option, Some, None, is_none}
 use Rattle.base_choice.specs.Choice.{pick, is_same}
 use Rattle.base_bytes.specs.Bytes.{byte}
 use Rattle.read_tlv.specs.Tlv.{on_found}
@@ -27,5 +27,4 @@ unfoldable pub policy_of : List ℕ → Policy
 policy_of s = policy_at s 5 (data_end s)
 
 abbrev pub is_policy_wrong : Policy → Bool
-is_policy_wrong None = true
-is_policy_wrong (Some p) = false
+is_policy_wrong policy = is_none policy

@@ -12,8 +12,7 @@ use card_record::{Answer, Card};
 pub fn enable(card: Card, aid: &[u8]) -> Answer
     ensures { result ≡ as_answer (outcome_on_sound card (asked_work card (on aid.now enable))) }
 {
-    let phase = card.phase;
-    if !phase.is_quiet() {
+    if !card.phase.is_quiet() {
         return card.refused(Status::StateWrong);
     }
     let Some(t) = card.place_of(aid) else {
@@ -27,8 +26,7 @@ pub fn enable(card: Card, aid: &[u8]) -> Answer
     if forbids_disabling(e.policy) {
         return card.refused(Status::PolicyForbids);
     }
-    let after = card.opened(t);
-    after
+    card.opened(t)
         .step_since(card.last, Aid::none())
         .answer(Status::Done, 0)
 }
@@ -36,8 +34,7 @@ pub fn enable(card: Card, aid: &[u8]) -> Answer
 pub fn disable(card: Card, aid: &[u8]) -> Answer
     ensures { result ≡ as_answer (outcome_on_sound card (asked_work card (on aid.now disable))) }
 {
-    let phase = card.phase;
-    if !phase.is_quiet() {
+    if !card.phase.is_quiet() {
         return card.refused(Status::StateWrong);
     }
     let Some(t) = card.place_of(aid) else {
@@ -51,8 +48,7 @@ pub fn disable(card: Card, aid: &[u8]) -> Answer
     if forbids_disabling(p.policy) {
         return card.refused(Status::PolicyForbids);
     }
-    let after = card.opened(card.fallback);
-    after
+    card.opened(card.fallback)
         .step_since(card.last, Aid::none())
         .answer(Status::Done, 0)
 }

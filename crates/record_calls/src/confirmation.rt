@@ -13,11 +13,10 @@ use record_responses::write_deleted;
 pub fn confirm(card: Card, number: u16, buf: &mut [u8]) -> Answer
     ensures { AnsweredInto buf.old (outcome_on_sound card (asked_work card (confirm number))) result buf.new }
 {
-    let phase = card.phase;
-    if phase.is_quiet() {
+    if card.phase.is_quiet() {
         return card.refused(Status::StateWrong);
     }
-    if !phase.is_outstanding(number) {
+    if !card.phase.is_outstanding(number) {
         return card.refused(Status::NotHeld);
     }
     let step = card.confirmed();

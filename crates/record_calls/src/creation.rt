@@ -13,8 +13,7 @@ use card_record::{Answer, Card};
 pub fn create(card: Card, aid: &[u8], quota: u32, buf: &mut [u8]) -> Answer
     ensures { AnsweredInto buf.old (outcome_on_sound card (asked_work card (create aid.now quota))) result buf.new }
 {
-    let phase = card.phase;
-    if !phase.is_quiet() {
+    if !card.phase.is_quiet() {
         return card.refused(Status::StateWrong);
     }
     let None = card.place_of(aid) else {

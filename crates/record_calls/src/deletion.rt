@@ -13,8 +13,7 @@ use card_record::{Answer, Card};
 pub fn delete(card: Card, aid: &[u8], buf: &mut [u8]) -> Answer
     ensures { AnsweredInto buf.old (outcome_on_sound card (asked_work card (on aid.now delete))) result buf.new }
 {
-    let phase = card.phase;
-    if !phase.is_quiet() {
+    if !card.phase.is_quiet() {
         return card.refused(Status::StateWrong);
     }
     let Some(t) = card.place_of(aid) else {
@@ -35,8 +34,7 @@ pub fn delete(card: Card, aid: &[u8], buf: &mut [u8]) -> Answer
 pub fn master_delete(card: Card, aid: &[u8], verdict: u8, buf: &mut [u8]) -> Answer
     ensures { AnsweredInto buf.old (outcome_on_sound card (asked_work card (on aid.now (master_delete verdict)))) result buf.new }
 {
-    let phase = card.phase;
-    if !phase.is_quiet() {
+    if !card.phase.is_quiet() {
         return card.refused(Status::StateWrong);
     }
     let Some(t) = card.place_of(aid) else {

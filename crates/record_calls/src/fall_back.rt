@@ -11,8 +11,7 @@ use card_record::{Answer, Card};
 pub fn set_fall_back(card: Card, aid: &[u8]) -> Answer
     ensures { result ≡ as_answer (outcome_on_sound card (asked_work card (on aid.now set_fall_back))) }
 {
-    let phase = card.phase;
-    if !phase.is_quiet() {
+    if !card.phase.is_quiet() {
         return card.refused(Status::StateWrong);
     }
     let Some(t) = card.place_of(aid) else {

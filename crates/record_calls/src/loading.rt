@@ -23,8 +23,8 @@ pub fn keyed(card: Card, aid: &[u8]) -> Answer
     if p.life != Isdp::SELECTABLE {
         return card.refused(Status::StateWrong);
     }
-    let after = card.rewritten(t, p.with_life(Isdp::PERSONALIZED));
-    after.silently(Status::Done, 0)
+    card.rewritten(t, p.with_life(Isdp::PERSONALIZED))
+        .silently(Status::Done, 0)
 }
 
 // n bytes more in a PERSONALIZED profile.
@@ -45,8 +45,8 @@ pub fn stored(card: Card, aid: &[u8], n: u32) -> Answer
         return card.refused(Status::NoRoom);
     }
     let used = p.used + n;
-    let after = card.rewritten(t, p.with_used(used));
-    after.silently(Status::Done, 0)
+    card.rewritten(t, p.with_used(used))
+        .silently(Status::Done, 0)
 }
 
 // PERSONALIZED to DISABLED, with its policy and its mark.
@@ -64,6 +64,6 @@ pub fn finished(card: Card, aid: &[u8], policy: u8, mark: u8) -> Answer
     if !done {
         return card.refused(Status::StateWrong);
     }
-    let after = card.rewritten(t, p.finish(policy, mark));
-    after.silently(Status::Done, 0)
+    card.rewritten(t, p.finish(policy, mark))
+        .silently(Status::Done, 0)
 }

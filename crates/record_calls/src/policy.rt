@@ -16,8 +16,7 @@ pub fn set_policy(card: Card, speaker: &[u8], policy: u8) -> Answer
     if !(aid_ok(speaker) & policy_ok(policy)) {
         return card.refused(Status::DataWrong);
     }
-    let phase = card.phase;
-    if !phase.is_quiet() {
+    if !card.phase.is_quiet() {
         return card.refused(Status::StateWrong);
     }
     let Some(t) = card.place_of(speaker) else {
@@ -27,6 +26,6 @@ pub fn set_policy(card: Card, speaker: &[u8], policy: u8) -> Answer
     if p.life != Isdp::ENABLED {
         return card.refused(Status::StateWrong);
     }
-    let after = card.rewritten(t, p.with_policy(policy));
-    after.silently(Status::Done, 0)
+    card.rewritten(t, p.with_policy(policy))
+        .silently(Status::Done, 0)
 }

@@ -13,7 +13,7 @@ ghost use Rattle.record_door.specs.Door.{call_of, Served};
 
 use base_bytes::{Part, part_of};
 use base_status::Status;
-use card_record::{Answer, Card};
+use card_record::{Answer, Card, Inputs};
 use read_command::{Request, read};
 use read_frame::word;
 
@@ -126,8 +126,8 @@ pub fn answer(card: Card, call: Call, bytes: &[u8], buf: &mut [u8]) -> Answer
 }
 
 // A fresh card.
-pub fn fresh(eid: &[u8], aid: &[u8], capacity: u32, quota: u32, used: u32, volatile: u32) -> Answer
-    ensures { result ≡ as_answer (fresh_outcome eid.now aid.now capacity quota used volatile) }
+pub fn fresh(inputs: &Inputs<'_>) -> Answer
+    ensures { result ≡ as_answer (fresh_outcome inputs.now.eid.now inputs.now.aid.now inputs.now.capacity inputs.now.quota inputs.now.used inputs.now.volatile) }
 {
-    Card::fresh(eid, aid, capacity, quota, used, volatile)
+    Card::fresh(inputs)
 }

@@ -22,7 +22,7 @@ ghost use Rattle.script_session.specs.Session.{first_turn, LaidOut, Replied, Use
 use base_bytes::{Part, Writer, part_of};
 use base_status::Status;
 use card_isdp::Aid;
-use card_record::{Answer, Card};
+use card_record::{Answer, Card, Inputs};
 use reasons::write_reason;
 use record_door::Call;
 use script_answer::{write_answer, write_explained};
@@ -126,14 +126,14 @@ fn fresh(
     let m = spell(s, eid, &mut first);
     let mut second = [0u8; MOST_BYTES];
     let n = spell(s, aid, &mut second);
-    record_door::fresh(
-        part_of(&first, m),
-        part_of(&second, n),
+    record_door::fresh(&Inputs {
+        eid: part_of(&first, m),
+        aid: part_of(&second, n),
         capacity,
         quota,
         used,
         volatile,
-    )
+    })
 }
 
 // Any record, handed in as the card.

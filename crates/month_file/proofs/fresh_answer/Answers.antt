@@ -10,4 +10,4 @@ pub returns : goal.returns
 unfolding fresh_answer
 returns c = let f = c.args.f.now in
     let e : take (length f) (drop 32 f) ≡ drop 32 f = take_all (length f) (drop 32 f) (omega (arith, length-drop 32 f)) in
-    rw (c.fresh.ensures, c.part_of.ensures, c.part_of-2.ensures, e, c.read_four-capacity.ensures, c.read_four-quota.ensures, c.read_four-used.ensures, c.read_four-volatile.ensures)
+    rw (c.fresh.ensures, c.part_of.ensures, c.part_of-2.ensures, e, c.read_four.ensures, c.read_four-2.ensures, c.read_four-3.ensures, c.read_four-4.ensures)

@@ -4,7 +4,7 @@ use mathlib.Core.Path.{sym, ◌∙◌}
 use Rattle.read_frame.proofs.Rows.{framing-refused, framing-passed}
 use Rattle.read_command.specs.Requests.{field_of, data_wrong}
 use Rattle.read_command.specs.Reading.{request_read, read_of}
-use Rattle.read_command.proofs.Answers.{request-wrong}
+use Rattle.read_frame.proofs.Answers.{wrong-refused}
 use Rattle.read_command.proofs.read.Goals as goal
 
 pub returns-in_err-framing : goal.returns-in_err-framing
@@ -20,4 +20,4 @@ unfolding read_of data_wrong
 returns c = let s = c.args.bytes.now in
     let f = field_of s c.args.capacity in
     let e = sym c.in_ok-framing.was ∙ c.framing.ensures in
-    rw (c.ok_or.ensures.value, c.read_field.ensures) (framing-passed _ _ _ _ _ _ (request_read f) (request-wrong f) (rw c.instruction_wrong.ensures at e))
+    rw (c.ok_or.ensures.value, c.read_field.ensures) (framing-passed _ _ _ _ _ _ (request_read f) (wrong-refused f) (rw c.instruction_wrong.ensures at e))

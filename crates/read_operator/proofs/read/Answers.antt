@@ -4,7 +4,7 @@ use mathlib.Core.Path.{sym, ◌∙◌}
 use Rattle.read_frame.proofs.Rows.{framing-refused, framing-passed}
 use Rattle.read_operator.specs.Field.{policy_of}
 use Rattle.read_operator.specs.Reading.{policy_wrong, update_read, update_of}
-use Rattle.read_operator.proofs.Answers.{policy-refused}
+use Rattle.read_frame.proofs.Answers.{wrong-refused}
 use Rattle.read_operator.proofs.read.Goals as goal
 
 pub returns-in_err-framing : goal.returns-in_err-framing
@@ -18,4 +18,4 @@ pub returns : goal.returns
 unfolding update_of policy_wrong
 returns c = let f = policy_of c.args.bytes.now in
     let e = sym c.in_ok-framing.was ∙ c.framing.ensures in
-    rw (c.ok_or.ensures.value, c.read_policy.ensures) (framing-passed _ _ _ _ _ _ (update_read f) (policy-refused f) (rw c.not_store_data.ensures at e))
+    rw (c.ok_or.ensures.value, c.read_policy.ensures) (framing-passed _ _ _ _ _ _ (update_read f) (wrong-refused f) (rw c.not_store_data.ensures at e))

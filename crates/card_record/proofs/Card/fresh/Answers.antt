@@ -10,13 +10,13 @@ use Rattle.card_record.specs.Fresh.{fresh_outcome}
 use Rattle.card_isdp.proofs.Bools.{and_l}
 use Rattle.card_record.proofs.Card.fresh.Goals as goal
 
-pub returns-then-not-fresh_ok : goal.returns-then-not-fresh_ok
+pub returns-then-not-are_ok : goal.returns-then-not-are_ok
 unfolding fresh_outcome refused word_of ticks_by_phase sound
-returns-then-not-fresh_ok c = rw (sym c.fresh_ok.ensures ∙ c.if-not-fresh_ok.true) (rw (c.refused.ensures, c.zero-zero.ensures))
+returns-then-not-are_ok c = rw (sym c.are_ok.ensures ∙ c.if-not-are_ok.true) (rw (c.refused.ensures, c.zero-zero.ensures))
 
-pub fresh_card-card-requires : goal.fresh_card-card-requires
-fresh_card-card-requires c = eqb-true (length c.args.eid.now) 16 (and_l _ _ (sym c.fresh_ok.ensures ∙ c.if-not-fresh_ok.false))
+pub card-requires : goal.card-requires
+card-requires c = eqb-true (length c.args.inputs.now.eid.now) 16 (and_l _ _ (sym c.are_ok.ensures ∙ c.if-not-are_ok.false))
 
 pub returns : goal.returns
 unfolding fresh_outcome accepted word_of ticks_to_come steps_in ticks_by_phase
-returns c = rw (sym c.fresh_ok.ensures ∙ c.if-not-fresh_ok.false) (c.answer.ensures ∙ rw c.step_since.ensures (rw c.fresh_card-card.ensures (rw c.zero-zero.ensures refl)))
+returns c = rw (sym c.are_ok.ensures ∙ c.if-not-are_ok.false) (c.answer.ensures ∙ rw c.step_since.ensures (rw c.card.ensures (rw c.zero-zero.ensures refl)))

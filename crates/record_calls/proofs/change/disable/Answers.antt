@@ -40,4 +40,4 @@ returns c =
     let state : let s = c.args in act_state_wrong s.card s.aid.now disable ≡ not ((is_enabled c.profile-p.result && not (eqb c.in-Some.t c.args.card.fallback))) = let a = aimed in rw (profile a c.profile-p.ensures, a.place) in
     let policy : let s = c.args in act_forbidden s.card s.aid.now disable ≡ c.forbids_disabling.result = rw (profile aimed c.profile-p.ensures) (sym c.forbids_disabling.ensures) in
     steps aimed (state ∙ ap not c.if-not-may.false) (policy ∙ c.if-forbids_disabling.false) refl refl
-    (rw c.opened-after.ensures) c.none.ensures c.step_since.ensures c.answer.ensures
+    (rw c.opened.ensures) c.none.ensures c.step_since.ensures c.answer.ensures

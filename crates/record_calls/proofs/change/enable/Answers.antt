@@ -41,4 +41,4 @@ returns c =
     let policy : let s = c.args in act_forbidden s.card s.aid.now enable ≡ c.forbids_disabling.result = rw (← c.enabled_place.ensures, ← c.profile-e.ensures) (sym c.forbids_disabling.ensures) in
     let a = aimed in
     steps a state (policy ∙ c.if-forbids_disabling.false) refl refl
-    (rw (c.opened-after.ensures, a.place)) c.none.ensures c.step_since.ensures c.answer.ensures
+    (rw (c.opened.ensures, a.place)) c.none.ensures c.step_since.ensures c.answer.ensures

@@ -46,4 +46,4 @@ returns c =
     let t = profile a c.profile-p.ensures in
     let y : not (finishable c.profile-p.result) ≡ false = ap not c.if-not-done.false in
     rw (inner asked)
-    (steps-silently a (rw t y) refl refl refl c.rewritten-after.ensures (rw (c.finish.ensures, t, a.place)) refl c.silently.ensures)
+    (steps-silently a (rw t y) refl refl refl c.rewritten.ensures (rw (c.finish.ensures, t, a.place)) refl c.silently.ensures)

@@ -50,4 +50,4 @@ returns c =
     let t = profile aimed c.profile-p.ensures in
     rw (inner asked)
     (steps-silently aimed (rw t (ap not (eq-eqb _ personalized c.if-p-ne-PERSONALIZED.false))) refl refl (rw t (asks c.has_room.ensures c.if-not-has_room.false))
-    c.rewritten-after.ensures (rw (c.with_used.ensures, t, aimed.place)) refl c.silently.ensures)
+    c.rewritten.ensures (rw (c.with_used.ensures, t, aimed.place)) refl c.silently.ensures)

@@ -45,4 +45,4 @@ returns c =
     let t = profile a c.profile-p.ensures in
     rw (inner asked)
     (steps-silently a (rw t (ap not (eq-eqb _ enabled c.if-p-ne-ENABLED.false))) refl refl refl
-    c.rewritten-after.ensures (rw (c.with_policy.ensures, t, a.place)) refl c.silently.ensures)
+    c.rewritten.ensures (rw (c.with_policy.ensures, t, a.place)) refl c.silently.ensures)
