@@ -1,5 +1,5 @@
 -- Laws of writing, all without a bound: what does not fit is dropped, now or in a later text. Texts written one after the other are
--- one text (`wrote_then`); a loop that writes keeps what is still to write equal to the whole (`Writing`).
+-- one text (`wrote_then`, `written_then`).
 use Prim.Native.Nat.{ℕ, suc, ◌+◌, ◌-◌, ◌≤◌, ◌<◌, min}
 use mathlib.Core.Path.{◌≡◌, refl, sym, ap, subst, ◌∙◌}
 use mathlib.Core.List.{List, [], ◌∷◌, ◌++◌}
@@ -170,35 +170,6 @@ put-kept l i e = sym (put-none l i) ∙ ap (put l i) e
 
 pub wrote_as : {l m vs : List ℕ} {at r : ℕ} (ws : List ℕ) → vs ≡ ws → Wrote l at vs r m → Wrote l at ws r m
 wrote_as {l} {m} {vs} {at} {r} ws e = subst (λ (xs : List ℕ). Wrote l at xs r m) e
-
--- vs is still to write to l from k on, which leaves what writing vs₀ to l₀ from `at` on leaves
-pub record Writing (l₀ : List ℕ) (at : ℕ) (vs₀ l : List ℕ) (k : ℕ) (vs : List ℕ) : Type 0 where
-  pub content : put l k vs ≡ put l₀ at vs₀
-  pub place : after (length l) k (length vs) ≡ after (length l₀) at (length vs₀)
-  pub size : length l ≡ length l₀
-
-pub writing-starts : (l : List ℕ) (at : ℕ) (vs : List ℕ) → Writing l at vs l at vs
-writing-starts l at vs = record { content = refl; place = refl; size = refl }
-
-pub writing-as : {l₀ vs₀ l vs : List ℕ} {at k : ℕ} (ws : List ℕ) → vs ≡ ws → Writing l₀ at vs₀ l k vs → Writing l₀ at vs₀ l k ws
-writing-as {l₀} {vs₀} {l} {vs} {at} {k} ws e = subst (λ (xs : List ℕ). Writing l₀ at vs₀ l k xs) e
-
-pub writing-goes : {l₀ vs₀ l m xs : List ℕ} {at k r : ℕ} (vs : List ℕ) → Writing l₀ at vs₀ l k (xs ++ vs) → Wrote l k xs r m → Writing l₀ at vs₀ m r vs
-writing-goes {l₀} {vs₀} {l} {m} {xs} {at} {k} {r} vs w p =
-    let e : length m ≡ length l = ap length p.content ∙ length-put l k xs in
-    record {
-      content = ap (λ (n : List ℕ). put n r vs) p.content ∙ put-put l k xs r vs p.place ∙ w.content;
-      place =
-          ap (λ (n : ℕ). after n r (length vs)) e
-          ∙ ap (λ (j : ℕ). after (length l) j (length vs)) p.place
-          ∙ after-after (length l) k (length xs) (length vs)
-          ∙ ap (after (length l) k) (sym (length-append xs vs))
-          ∙ w.place;
-      size = e ∙ w.size;
-    }
-
-pub writing-ends : {l₀ vs₀ l : List ℕ} {at k : ℕ} → Writing l₀ at vs₀ l k [] → Wrote l₀ at vs₀ k l
-writing-ends {l₀} {vs₀} {l} {at} {k} w = record { place = sym (after_none (length l) k) ∙ w.place; content = sym (put-none l k) ∙ w.content }
 
 -- the same laws of a writer
 pub written_then : {w v u : Writer} {xs ys : List ℕ} → Written w xs v → Written v ys u → Written w (xs ++ ys) u

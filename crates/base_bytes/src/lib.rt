@@ -2,9 +2,8 @@
 // Every function is total, and its contract gives its whole answer and what it leaves in the buffer.
 #![tactic(auto)]
 
-ghost use Rattle.std.specs.Prelude.{◌≡◌, ◌∷◌, []};
+ghost use Rattle.std.specs.Prelude.{◌≡◌};
 ghost use Rattle.base_bytes.specs.Bytes.{byte, pair_at, four_at, part_of, same_bytes};
-ghost use Rattle.base_bytes.specs.Put.{Wrote};
 
 mod writer;
 
@@ -53,21 +52,4 @@ pub fn same(a: &[u8], b: &[u8]) -> bool
     ensures { result ≡ same_bytes a.now b.now }
 {
     a.last() == b.last() && a == b
-}
-
-// A byte, or a byte string, written from a place on; the answer is the place after it. A `Writer` does the same and keeps the place.
-pub fn put_byte(buf: &mut [u8], at: usize, byte: u8) -> usize
-    ensures { Wrote buf.old at (byte ∷ []) result buf.new }
-{
-    let mut out = Writer::new(buf, at);
-    out.byte(byte);
-    out.at
-}
-
-pub fn put_bytes(buf: &mut [u8], at: usize, text: &[u8]) -> usize
-    ensures { Wrote buf.old at text.now result buf.new }
-{
-    let mut out = Writer::new(buf, at);
-    out.bytes(text);
-    out.at
 }

@@ -6,8 +6,9 @@ use mathlib.Core.Bool.{Bool}
 use lib.ListN.{length}
 use native.Mathlib.Omega.{arith}
 use Rattle.std.specs.Prelude.{Result, Ok, Err}
-use Rattle.base_bytes.specs.Put.{Wrote}
-use Rattle.base_bytes.proofs.PutLaws.{wrote_as}
+use Rattle.base_bytes.specs.declared.writer.Writer.{Writer}
+use Rattle.base_bytes.specs.Put.{Written}
+use Rattle.base_bytes.proofs.PutLaws.{written_as}
 use Rattle.month_file.specs.File.{Verdict, Verdict.Accepted, Verdict.Refused, verdict_of}
 use Rattle.month_file.specs.declared.Refusal.{Refusal}
 use Rattle.month_count.specs.Month.{Counted, month_by, counted_by, file_counted, file_month}
@@ -29,11 +30,11 @@ told =
     }
 
 -- as the code writes it: `month` is what counting the file answers, beside its minutes
-abbrev Written : List ℕ → ℕ → List ℕ → ℕ → List ℕ → ℕ → Type 0
-Written old at text place new most = Wrote old at text place new × (length text ≤ most)
+abbrev Whole : Writer → List ℕ → Writer → ℕ → Type 0
+Whole w text v most = Written w text v × (length text ≤ most)
 
-written_as : {old text new : List ℕ} {at place most : ℕ} (more : List ℕ) → text ≡ more → most ≤ most_account → Written old at text place new most → Written old at more place new most_account
-written_as more e k w = (wrote_as more e w.0, omega (arith, ap length e, w.1))
+whole_as : {w v : Writer} {text : List ℕ} {most : ℕ} (more : List ℕ) → text ≡ more → most ≤ most_account → Whole w text v most → Whole w more v most_account
+whole_as more e k p = (written_as more e p.0, omega (arith, ap length e, p.1))
 
 -- the verdict, by that answer
 verdict-ok : (v : Verdict) (k : Counted) {t : Tally} → Ok t ≡ month_by v k → v ≡ Accepted
@@ -45,14 +46,14 @@ verdict-err Accepted k h = let z : ◌≡◌ {A = ℕ} 0 1 = cc in absurd (omega
 verdict-err (Refused x) k h = cc
 
 module _ (explain : Bool) (s : List ℕ) {month : Result Tally Refusal} {minutes : List ℕ} (h : (month ≡ file_month s) × (minutes ≡ (file_counted s).minutes)) where
-  pub refused-written : {r : Refusal} {old new : List ℕ} {at place : ℕ} → month ≡ Err r → Written old at (refusal_text explain r) place new most_refusal → Written old at (account_text explain s) place new most_account
-  refused-written {r} e w = written_as (account_text explain s) (sym (told.refused explain s r (verdict-err (verdict_of s) (file_counted s) (sym e ∙ h.0)))) (omega arith) w
+  pub refused-written : {r : Refusal} {w v : Writer} → month ≡ Err r → Whole w (refusal_text explain r) v most_refusal → Whole w (account_text explain s) v most_account
+  refused-written {r} e p = whole_as (account_text explain s) (sym (told.refused explain s r (verdict-err (verdict_of s) (file_counted s) (sym e ∙ h.0)))) (omega arith) p
 
-  pub accepted-written : {t : Tally} {old new : List ℕ} {at place : ℕ} → month ≡ Ok t → Written old at (report_text explain t minutes) place new most_report → Written old at (account_text explain s) place new most_account
-  accepted-written {t} e w =
-      let v = verdict-ok (verdict_of s) (file_counted s) (sym e ∙ h.0) in
-      let k : file_counted s ≡ counted_by Accepted s = ap (λ (x : Verdict). counted_by x s) v in
-      let both : Ok t ≡ month_by Accepted (counted_by Accepted s) = sym e ∙ h.0 ∙ ap (λ (x : Verdict). month_by x (counted_by x s)) v in
+  pub accepted-written : {t : Tally} {w v : Writer} → month ≡ Ok t → Whole w (report_text explain t minutes) v most_report → Whole w (account_text explain s) v most_account
+  accepted-written {t} e p =
+      let is = verdict-ok (verdict_of s) (file_counted s) (sym e ∙ h.0) in
+      let k : file_counted s ≡ counted_by Accepted s = ap (λ (x : Verdict). counted_by x s) is in
+      let both : Ok t ≡ month_by Accepted (counted_by Accepted s) = sym e ∙ h.0 ∙ ap (λ (x : Verdict). month_by x (counted_by x s)) is in
       let tally : t ≡ (counted_by Accepted s).tally = cc in
       let m = h.1 ∙ ap (λ (x : Counted). x.minutes) k in
-      written_as (account_text explain s) (rw (tally, m) (sym (told.accepted explain s v))) (omega arith) w
+      whole_as (account_text explain s) (rw (tally, m) (sym (told.accepted explain s is))) (omega arith) p

@@ -1,9 +1,9 @@
 // What is written of a refused file: the refusal by name, and for a person what it means.
 ghost use Rattle.std.specs.Prelude.{◌≡◌, ◌≤◌, length};
-ghost use Rattle.base_bytes.specs.Put.{Wrote};
+ghost use Rattle.base_bytes.specs.Put.{Written};
 ghost use Rattle.month_account.specs.Refusals.{name_text, meaning_text, line_text, refusal_text, most_refusal};
 
-use base_bytes::{put_byte, put_bytes};
+use base_bytes::Writer;
 use month_file::Refusal;
 
 fn name(refusal: Refusal) -> &'static [u8]
@@ -35,22 +35,21 @@ fn meaning(refusal: Refusal) -> &'static [u8]
     }
 }
 
-fn put_line(refusal: Refusal, out: &mut [u8], at: usize) -> usize
-    ensures { Wrote out.old at (line_text refusal) result out.new }
+fn put_line(out: &mut Writer, refusal: Refusal)
+    ensures { Written out.old (line_text refusal) out.new }
 {
-    let a = put_bytes(out, at, b"refused: ");
-    let b = put_bytes(out, a, name(refusal));
-    put_byte(out, b, b'\n')
+    out.bytes(b"refused: ");
+    out.bytes(name(refusal));
+    out.byte(b'\n');
 }
 
 // The refusal's line, and for a person two more.
-pub fn write_refusal(explain: bool, refusal: Refusal, out: &mut [u8], at: usize) -> usize
-    ensures { Wrote out.old at (refusal_text explain refusal) result out.new × (length (refusal_text explain refusal) ≤ most_refusal) }
+pub fn write_refusal(out: &mut Writer, explain: bool, refusal: Refusal)
+    ensures { Written out.old (refusal_text explain refusal) out.new × (length (refusal_text explain refusal) ≤ most_refusal) }
 {
-    let a = put_line(refusal, out, at);
-    if !explain {
-        return a;
+    put_line(out, refusal);
+    if explain {
+        out.bytes(meaning(refusal));
+        out.bytes(b"no event was run\n");
     }
-    let b = put_bytes(out, a, meaning(refusal));
-    put_bytes(out, b, b"no event was run\n")
 }

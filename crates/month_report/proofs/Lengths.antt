@@ -1,13 +1,13 @@
--- A turn and the end of the loop over the lines; and how long the texts are, so that a caller's buffer is known to be enough: a number counts as one
+-- A turn of the loop over the lines; and how long the texts are, so that a caller's buffer is known to be enough: a number counts as one
 -- of 20 digits, and an AID as one of 16 bytes, as every record of the code has. Assumes nothing.
-use mathlib.Core.Path.{◌≡◌, refl, ap, ◌∙◌}
-use Prim.Native.Nat.{ℕ, ◌+◌, ◌*◌, ◌/◌, ◌%◌, ◌≤◌, ◌<◌}
+use mathlib.Core.Path.{◌≡◌, ap, sym, ◌∙◌}
+use Prim.Native.Nat.{ℕ, zero, suc, ◌+◌, ◌*◌, ◌/◌, ◌%◌, ◌≤◌, ◌<◌}
+use native.Mathlib.Nat.{add-zero, add-suc, suc-add}
 use native.Mathlib.Numerals.{add-one}
 use native.Mathlib.Omega.{arith}
-use mathlib.Core.List.{List, [], ◌++◌}
+use mathlib.Core.List.{List, [], ◌∷◌, ◌++◌, append-nil, append_assoc}
 use mathlib.Core.Bool.{Bool}
-use lib.ListN.{length, get_or, drop, length-append, drop_of_length-le}
-use lib.Seq.{drop-cons}
+use lib.ListN.{length, get_or, take, length-append}
 use Rattle.base_choice.proofs.Branches.{each, by-lt, by-eq}
 use Rattle.text_words.proofs.NumberLaws.{text-small}
 use Rattle.card_isdp.specs.declared.Aid.{Aid}
@@ -16,17 +16,28 @@ use Rattle.text_words.proofs.ColumnLaws.{column-length, decimal-length, spaces-l
 use Rattle.text_aid.proofs.Lengths.{aid-length}
 use Rattle.month_tally.specs.Lines.{most_lines, rest_line, aids_in}
 use Rattle.month_tally.specs.declared.Tally.{Tally}
-use Rattle.month_tally.proofs.Seeking.{unread}
 use Rattle.month_report.specs.Report.{figure_text, share_lead, percent_text, share_text, tenths_of, plain_text, minutes_text, total_text, aid_line, lines_text, rest_text, report_head, refused_text, totals_text, report_text, most_report_line, most_report}
 
-module _ (explain : Bool) (ticks : ℕ) (minutes : List ℕ) (l : List Aid) (i : ℕ) where
-  pub lines_step : (a : Aid) → i < length l → get_or l i unread ≡ a → lines_text explain ticks minutes i (drop i l) ≡ aid_line explain ticks a (get_or minutes i 0) ++ lines_text explain ticks minutes (i + 1) (drop (i + 1) l)
+module _ (explain : Bool) (ticks : ℕ) (minutes : List ℕ) where
+  lines_suc : (l : List Aid) (i k : ℕ) (d : Aid) → i < length l
+      → lines_text explain ticks minutes k (take (suc i) l) ≡ lines_text explain ticks minutes k (take i l) ++ aid_line explain ticks (get_or l i d) (get_or minutes (k + i) 0)
   unfolding lines_text
-  lines_step a h e = rw (drop-cons l i unread, add-one, e) refl
+  lines_suc [] i k d h = absurd (omega arith)
+  lines_suc (a ∷ rest) zero k d h = append-nil _ ∙ ap (λ (n : ℕ). aid_line explain ticks a (get_or minutes n 0)) (sym (add-zero k))
+  lines_suc (a ∷ rest) (suc i) k d h =
+      let front = aid_line explain ticks a (get_or minutes k 0) in
+      ap (◌++◌ front) (lines_suc rest i (suc k) d (omega arith))
+      ∙ sym (append_assoc front _ _)
+      ∙ ap (λ (n : ℕ). (front ++ lines_text explain ticks minutes (suc k) (take i rest)) ++ aid_line explain ticks (get_or rest i d) (get_or minutes n 0)) (suc-add k i ∙ sym (add-suc k i))
 
-  pub lines_end : length l ≤ i → lines_text explain ticks minutes i (drop i l) ≡ []
-  unfolding lines_text
-  lines_end h = rw (drop_of_length-le l h)
+  pub lines_more : (l : List Aid) (i : ℕ) (d : Aid) (a : Aid) → i < length l → get_or l i d ≡ a
+      → lines_text explain ticks minutes 0 (take (i + 1) l) ≡ lines_text explain ticks minutes 0 (take i l) ++ aid_line explain ticks a (get_or minutes i 0)
+  lines_more l i d a h e =
+      rw (add-one i) (
+      lines_suc l i 0 d h
+      ∙ ap (λ (n : ℕ). lines_text explain ticks minutes 0 (take i l) ++ aid_line explain ticks (get_or l i d) (get_or minutes n 0)) (omega arith)
+      ∙ ap (λ (x : Aid). lines_text explain ticks minutes 0 (take i l) ++ aid_line explain ticks x (get_or minutes i 0)) e
+      )
 
 pub line-more : {t : List ℕ} (a b : List ℕ) → t ≡ a ++ b → length t ≡ length a + length b
 line-more a b e = ap length e ∙ length-append a b

@@ -1,106 +1,79 @@
-// The text of a report, plain or for a person, written into a lent buffer (docs/EVENTS.md).
-// Every function answers for every record and every buffer: what does not fit is dropped, as the writers of `text_words` do.
+// The text of a report, plain or for a person (docs/EVENTS.md).
+// Every function answers for every record and every buffer: what does not fit is dropped, as a `Writer` does.
 #![tactic(auto)]
 
 mod cells;
 
 ghost use Rattle.std.specs.Prelude.{◌*◌, ◌≤◌, length};
-ghost use Rattle.base_bytes.specs.Put.{Wrote};
+ghost use Rattle.base_bytes.specs.Put.{Written};
 ghost use Rattle.month_tally.specs.Lines.{most_lines, aids_in};
 ghost use Rattle.month_report.specs.Report.{aid_line, lines_text, rest_text, report_head, refused_text, totals_text, report_text, most_report_line, most_report};
 
-use base_bytes::put_bytes;
+use base_bytes::Writer;
 use card_isdp::Aid;
 use cells::{put_minutes, put_total};
 use month_tally::{LINES, MINUTES, Names, Tally};
 use text_aid::put_aid;
 
-fn put_line(explain: bool, ticks: u32, aid: Aid, minutes: u32, out: &mut [u8], at: usize) -> usize
-    ensures { Wrote out.old at (aid_line explain ticks aid minutes) result out.new × (length (aid_line explain ticks aid minutes) ≤ most_report_line) }
+fn put_line(out: &mut Writer, explain: bool, ticks: u32, aid: Aid, minutes: u32)
+    ensures { Written out.old (aid_line explain ticks aid minutes) out.new × (length (aid_line explain ticks aid minutes) ≤ most_report_line) }
 {
-    let a = put_aid(aid, out, at);
-    put_minutes(explain, ticks, aid.size() * 2, minutes, out, a)
+    put_aid(out, aid);
+    put_minutes(out, explain, ticks, aid.size() * 2, minutes);
 }
 
 // The lines of the AIDs.
-fn put_lines(
-    explain: bool,
-    ticks: u32,
-    names: Names,
-    minutes: &[u32; MINUTES],
-    out: &mut [u8],
-    at: usize,
-) -> usize
-    ensures { Wrote out.old at (lines_text explain ticks minutes.now 0 (aids_in names)) result out.new × (length (lines_text explain ticks minutes.now 0 (aids_in names)) ≤ most_lines * most_report_line) }
+fn put_lines(out: &mut Writer, explain: bool, ticks: u32, names: &Names, minutes: &[u32; MINUTES])
+    ensures { Written out.old (lines_text explain ticks minutes.now 0 (aids_in names.now)) out.new × (length (lines_text explain ticks minutes.now 0 (aids_in names.now)) ≤ most_lines * most_report_line) }
 {
-    let n = names.lines();
-    let mut i = 0;
-    let mut k = at;
-    while i < n {
-        let aid = names.aids[i];
-        k = put_line(explain, ticks, aid, minutes[i], out, k);
-        i += 1;
+    for i in 0..names.lines() {
+        put_line(out, explain, ticks, names.aids[i], minutes[i]);
     }
-    k
 }
 
 // The line of the rest, where there is one.
-fn put_rest(explain: bool, ticks: u32, more: bool, minutes: u32, out: &mut [u8], at: usize) -> usize
-    ensures { Wrote out.old at (rest_text explain ticks more minutes) result out.new }
+fn put_rest(out: &mut Writer, explain: bool, ticks: u32, more: bool, minutes: u32)
+    ensures { Written out.old (rest_text explain ticks more minutes) out.new }
 {
     if more {
-        let a = put_bytes(out, at, b"rest");
-        return put_minutes(explain, ticks, 4, minutes, out, a);
+        out.bytes(b"rest");
+        put_minutes(out, explain, ticks, 4, minutes);
     }
-    at
 }
 
-fn put_head(explain: bool, out: &mut [u8], at: usize) -> usize
-    ensures { Wrote out.old at (report_head explain) result out.new }
+fn put_head(out: &mut Writer, explain: bool)
+    ensures { Written out.old (report_head explain) out.new }
 {
     if explain {
-        return put_bytes(
-            out,
-            at,
-            b"AID                               minutes   share\n",
-        );
+        out.bytes(b"AID                               minutes   share\n");
     }
-    at
 }
 
 // How many events were refused, for a person.
-fn put_refused(explain: bool, n: u32, out: &mut [u8], at: usize) -> usize
-    ensures { Wrote out.old at (refused_text explain n) result out.new }
+fn put_refused(out: &mut Writer, explain: bool, n: u32)
+    ensures { Written out.old (refused_text explain n) out.new }
 {
     if explain {
-        let a = put_bytes(out, at, b"refused");
-        return put_total(explain, 7, n, out, a);
+        out.bytes(b"refused");
+        put_total(out, explain, 7, n);
     }
-    at
 }
 
-fn put_totals(explain: bool, tally: Tally, out: &mut [u8], at: usize) -> usize
-    ensures { Wrote out.old at (totals_text explain tally) result out.new }
+fn put_totals(out: &mut Writer, explain: bool, tally: &Tally)
+    ensures { Written out.old (totals_text explain tally.now) out.new }
 {
-    let a = put_bytes(out, at, b"ticks");
-    let b = put_total(explain, 5, tally.ticks, out, a);
-    let c = put_bytes(out, b, b"events");
-    let d = put_total(explain, 6, tally.events, out, c);
-    put_refused(explain, tally.refused, out, d)
+    out.bytes(b"ticks");
+    put_total(out, explain, 5, tally.ticks);
+    out.bytes(b"events");
+    put_total(out, explain, 6, tally.events);
+    put_refused(out, explain, tally.refused);
 }
 
-pub fn write_report(
-    explain: bool,
-    tally: Tally,
-    minutes: &[u32; MINUTES],
-    out: &mut [u8],
-    at: usize,
-) -> usize
-    ensures { Wrote out.old at (report_text explain tally minutes.now) result out.new × (length (report_text explain tally minutes.now) ≤ most_report) }
+pub fn write_report(out: &mut Writer, explain: bool, tally: &Tally, minutes: &[u32; MINUTES])
+    ensures { Written out.old (report_text explain tally.now minutes.now) out.new × (length (report_text explain tally.now minutes.now) ≤ most_report) }
 {
-    let names = tally.names;
-    let a = put_head(explain, out, at);
-    let b = put_lines(explain, tally.ticks, names, minutes, out, a);
-    let c = put_rest(explain, tally.ticks, names.more, minutes[LINES], out, b);
-    put_totals(explain, tally, out, c)
+    put_head(out, explain);
+    put_lines(out, explain, tally.ticks, &tally.names, minutes);
+    put_rest(out, explain, tally.ticks, tally.names.more, minutes[LINES]);
+    put_totals(out, explain, tally);
 }

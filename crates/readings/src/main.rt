@@ -5,8 +5,7 @@
 use base_bytes::{Part, Writer, part_of};
 use read_command::{Request, Tags};
 use text_input::{put_out, read_full};
-use text_words::out::{put_decimal, put_hex, put_hex_16};
-use text_words::read_hex;
+use text_words::{put_decimal, put_hex, put_hex_16, read_hex};
 
 const CAPACITY: u32 = 1000;
 

@@ -40,15 +40,15 @@ notice-case Changed n h = word-issued n h
 notice-case RolledBack n h = word-issued n h
 notice-case FallenBack n h = word-issued n h
 
-notice-length : (n : Notification) → length n.aid.bytes ≤ 16 → length (notice_word n) ≤ 40
+pub notice-length : (n : Notification) → length n.aid.bytes ≤ 16 → length (notice_word n) ≤ 40
 unfolding notice_word
 notice-length n h = notice-case n.kind n h
 
-pub line-length : (a : Answer) (response : List ℕ) → length a.notification.aid.bytes ≤ 16 → length (answer_line a response) ≤ length response * 2 + most_answer_line
+pub line-length : (a : Answer) (response : List ℕ) → length (notice_word a.notification) ≤ 40 → length (answer_line a response) ≤ length response * 2 + most_answer_line
 unfolding answer_line
 line-length a response h =
     simp (length-append, hex-length)
-    (omega (arith, word-length response, notice-length a.notification h, decimal-length a.ticks))
+    (omega (arith, word-length response, decimal-length a.ticks))
 
 -- the answer for a person: what stands above the table
 meaning-length : (s : Status) → length (meaning_of s) ≤ 66
@@ -94,7 +94,7 @@ sentence-case Changed n h = issued-length n h
 sentence-case RolledBack n h = issued-length n h
 sentence-case FallenBack n h = issued-length n h
 
-sentence-length : (n : Notification) → length n.aid.bytes ≤ 16 → length (notice_text n) ≤ 89
+pub sentence-length : (n : Notification) → length n.aid.bytes ≤ 16 → length (notice_text n) ≤ 89
 unfolding notice_text
 sentence-length n h = sentence-case n.kind n h
 
@@ -116,7 +116,7 @@ listing-length kept =
     each-eq (λ (l : List ℕ). length l ≤ 53) (λ h. omega arith)
     (λ h. simp length-append (omega (arith, decimal-length kept)))
 
-pub explained-length : (a : Answer) (response : List ℕ) → length a.notification.aid.bytes ≤ 16 → length (table_text a.card) ≤ most_table
+pub explained-length : (a : Answer) (response : List ℕ) → length (notice_text a.notification) ≤ 89 → length (table_text a.card) ≤ most_table
     → length (explained_text a response) ≤ length response * 2 + most_explained
 unfolding explained_text
 explained-length a response h k =
@@ -125,7 +125,6 @@ explained-length a response h k =
       arith,
       status-length a.status,
       response-length response,
-      sentence-length a.notification h,
       phase-length a.card.phase,
       listing-length a.card.kept,
       decimal-length a.ticks,

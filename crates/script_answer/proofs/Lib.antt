@@ -1,5 +1,4 @@
 -- Laws that several proofs cite, and the worked examples.
-pub mod Records
 pub mod Pieces
 pub mod Lengths
 pub mod Examples

@@ -1,24 +1,29 @@
--- What the code writes piece by piece is the text: each law says it of one choice, by the test that the code made. Assumes nothing.
-use mathlib.Core.Path.{◌≡◌, refl, ap, sym}
+-- What the code writes is the text: each law says it of one choice, by the test that the code made. Assumes nothing.
+use mathlib.Core.Path.{◌≡◌, refl}
 use Prim.Native.Nat.{ℕ}
 use native.Mathlib.Omega.{arith}
 use mathlib.Core.List.{List, [], ◌∷◌, ◌++◌}
 use lib.ListN.{length}
 use Rattle.text_words.specs.Hex.{hex_text}
 use Rattle.card_record.specs.declared.Kind.{Kind}
+use Rattle.card_record.specs.declared.Kind.TheVariants.{Silent, Changed, RolledBack, FallenBack}
 use Rattle.card_record.specs.declared.Notification.{Notification}
 use Rattle.text_words.specs.Letters.{text}
-use Rattle.script_answer.specs.Lines.{notice_by, notice_word}
-use Rattle.script_answer.specs.Explained.{response_text, notice_in, notice_text}
+use Rattle.script_answer.specs.Lines.{issued_word, notice_by}
+use Rattle.script_answer.specs.Explained.{response_text, issued_text, notice_in}
 
--- the kind tells whether there is a notification
-pub notice-is : (n : Notification) {k : Kind} → n.kind ≡ k → notice_by k n ≡ notice_word n
-unfolding notice_word
-notice-is n e = ap (λ (k : Kind). notice_by k n) (sym e)
+-- every kind but the silent one is told
+pub word-told : (k : Kind) (n : Notification) → (k ≡ Silent → ⊥) → issued_word n ≡ notice_by k n
+word-told Silent n h = absurd (h refl)
+word-told Changed n h = refl
+word-told RolledBack n h = refl
+word-told FallenBack n h = refl
 
-pub notice-in : (n : Notification) {k : Kind} → n.kind ≡ k → notice_in k n ≡ notice_text n
-unfolding notice_text
-notice-in n e = ap (λ (k : Kind). notice_in k n) (sym e)
+pub sentence-told : (k : Kind) (n : Notification) → (k ≡ Silent → ⊥) → issued_text n ≡ notice_in k n
+sentence-told Silent n h = absurd (h refl)
+sentence-told Changed n h = refl
+sentence-told RolledBack n h = refl
+sentence-told FallenBack n h = refl
 
 -- the response has a line of its own where there is one
 pub response-none : (s : List ℕ) → length s ≡ 0 → [] ≡ response_text s

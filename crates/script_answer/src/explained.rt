@@ -1,10 +1,10 @@
 // An answer for a person: the word and what it means, response and notification, the profiles, the phase, an open listing, and the ticks to come.
 ghost use Rattle.std.specs.Prelude.{◌≡◌, ◌+◌, ◌*◌, ◌≤◌, length};
-ghost use Rattle.base_bytes.specs.Put.{Wrote};
+ghost use Rattle.base_bytes.specs.Put.{Written};
 ghost use Rattle.script_answer.specs.Explained.{meaning_of, word_text, response_text, kind_text, issued_text, notice_text};
 ghost use Rattle.script_answer.specs.Explained.{open_text, trial_text, phase_text, listing_text, explained_text, most_explained};
 
-use base_bytes::{put_byte, put_bytes};
+use base_bytes::Writer;
 use base_status::Status;
 use card_record::{Answer, Card, Kind, Notification, Phase};
 use script_table::put_table;
@@ -33,29 +33,26 @@ fn meaning(status: Status) -> &'static [u8]
     }
 }
 
-fn put_word(status: Status, buf: &mut [u8], at: usize) -> usize
-    ensures { Wrote buf.old at (word_text status) result buf.new }
+fn put_word(out: &mut Writer, status: Status)
+    ensures { Written out.old (word_text status) out.new }
 {
     let n = status.number();
-    let high = (n / 256) as u8;
-    let low = (n % 256) as u8;
-    let a = put_hex_8(buf, at, high);
-    let b = put_byte(buf, a, b' ');
-    let c = put_hex_8(buf, b, low);
-    let d = put_byte(buf, c, b' ');
-    let e = put_bytes(buf, d, meaning(status));
-    put_byte(buf, e, b'\n')
+    put_hex_8(out, (n / 256) as u8);
+    out.byte(b' ');
+    put_hex_8(out, (n % 256) as u8);
+    out.byte(b' ');
+    out.bytes(meaning(status));
+    out.byte(b'\n');
 }
 
-fn put_response(response: &[u8], buf: &mut [u8], at: usize) -> usize
-    ensures { Wrote buf.old at (response_text response.now) result buf.new }
+fn put_response(out: &mut Writer, response: &[u8])
+    ensures { Written out.old (response_text response.now) out.new }
 {
-    if response.len() == 0 {
-        return at;
+    if !response.is_empty() {
+        out.bytes(b"response ");
+        put_hex(out, response);
+        out.byte(b'\n');
     }
-    let a = put_bytes(buf, at, b"response ");
-    let b = put_hex(buf, a, response);
-    put_byte(buf, b, b'\n')
 }
 
 fn kind_word(kind: Kind) -> &'static [u8]
@@ -69,98 +66,88 @@ fn kind_word(kind: Kind) -> &'static [u8]
     }
 }
 
-fn put_issued(notification: Notification, buf: &mut [u8], at: usize) -> usize
-    ensures { Wrote buf.old at (issued_text notification) result buf.new }
+fn put_issued(out: &mut Writer, notification: Notification)
+    ensures { Written out.old (issued_text notification) out.new }
 {
-    let kind = notification.kind;
-    let aid = notification.aid;
-    let a = put_bytes(buf, at, b"notification ");
-    let b = put_decimal(buf, a, notification.number as u64);
-    let c = put_bytes(buf, b, b": ");
-    let d = put_bytes(buf, c, kind_word(kind));
-    let e = put_bytes(buf, d, b", ");
-    let f = put_aid(aid, buf, e);
-    put_bytes(buf, f, b" enabled\n")
+    out.bytes(b"notification ");
+    put_decimal(out, notification.number as u64);
+    out.bytes(b": ");
+    out.bytes(kind_word(notification.kind));
+    out.bytes(b", ");
+    put_aid(out, notification.aid);
+    out.bytes(b" enabled\n");
 }
 
-fn put_notice(notification: Notification, buf: &mut [u8], at: usize) -> usize
-    ensures { Wrote buf.old at (notice_text notification) result buf.new }
+fn put_notice(out: &mut Writer, notification: Notification)
+    ensures { Written out.old (notice_text notification) out.new × (length (notice_text notification) ≤ 89) }
 {
-    let kind = notification.kind;
-    match kind {
-        Kind::Silent => at,
-        Kind::Changed => put_issued(notification, buf, at),
-        Kind::RolledBack => put_issued(notification, buf, at),
-        Kind::FallenBack => put_issued(notification, buf, at),
+    match notification.kind {
+        Kind::Silent => {}
+        _ => put_issued(out, notification),
     }
 }
 
-fn put_open(left: u8, number: u16, buf: &mut [u8], at: usize) -> usize
-    ensures { Wrote buf.old at (open_text left number) result buf.new }
+fn put_open(out: &mut Writer, left: u8, number: u16)
+    ensures { Written out.old (open_text left number) out.new }
 {
-    let a = put_bytes(buf, at, b"ticks left ");
-    let b = put_decimal(buf, a, left as u64);
-    let c = put_bytes(buf, b, b", number ");
-    let d = put_decimal(buf, c, number as u64);
-    put_byte(buf, d, b'\n')
+    out.bytes(b"ticks left ");
+    put_decimal(out, left as u64);
+    out.bytes(b", number ");
+    put_decimal(out, number as u64);
+    out.byte(b'\n');
 }
 
-fn put_trial(previous: u8, left: u8, number: u16, buf: &mut [u8], at: usize) -> usize
-    ensures { Wrote buf.old at (trial_text previous left number) result buf.new }
+fn put_trial(out: &mut Writer, previous: u8, left: u8, number: u16)
+    ensures { Written out.old (trial_text previous left number) out.new }
 {
-    let a = put_bytes(buf, at, b"phase trial: previous at place ");
-    let b = put_decimal(buf, a, previous as u64);
-    let c = put_bytes(buf, b, b", ");
-    put_open(left, number, buf, c)
+    out.bytes(b"phase trial: previous at place ");
+    put_decimal(out, previous as u64);
+    out.bytes(b", ");
+    put_open(out, left, number);
 }
 
-fn put_phase(phase: Phase, buf: &mut [u8], at: usize) -> usize
-    ensures { Wrote buf.old at (phase_text phase) result buf.new }
+fn put_phase(out: &mut Writer, phase: Phase)
+    ensures { Written out.old (phase_text phase) out.new }
 {
     match phase {
-        Phase::Quiet => put_bytes(buf, at, b"phase quiet\n"),
+        Phase::Quiet => out.bytes(b"phase quiet\n"),
         Phase::Trial {
             previous,
             left,
             number,
-        } => put_trial(previous, left, number, buf, at),
+        } => put_trial(out, previous, left, number),
         Phase::Back { left, number } => {
-            let a = put_bytes(buf, at, b"phase back: ");
-            put_open(left, number, buf, a)
+            out.bytes(b"phase back: ");
+            put_open(out, left, number);
         }
         Phase::Fallen { left, number } => {
-            let a = put_bytes(buf, at, b"phase fallen: ");
-            put_open(left, number, buf, a)
+            out.bytes(b"phase fallen: ");
+            put_open(out, left, number);
         }
     }
 }
 
-fn put_listing(kept: u8, buf: &mut [u8], at: usize) -> usize
-    ensures { Wrote buf.old at (listing_text kept) result buf.new }
+fn put_listing(out: &mut Writer, kept: u8)
+    ensures { Written out.old (listing_text kept) out.new }
 {
-    if kept == Card::NO_PLACE {
-        return at;
+    if kept != Card::NO_PLACE {
+        out.bytes(b"listing open: next row at place ");
+        put_decimal(out, kept as u64);
+        out.byte(b'\n');
     }
-    let a = put_bytes(buf, at, b"listing open: next row at place ");
-    let b = put_decimal(buf, a, kept as u64);
-    put_byte(buf, b, b'\n')
 }
 
 // The answer for a person; the response is what the call left in its buffer.
-pub fn write_explained(answer: Answer, response: &[u8], buf: &mut [u8], at: usize) -> usize
-    ensures { Wrote buf.old at (explained_text answer response.now) result buf.new × (length (explained_text answer response.now) ≤ length response.now * 2 + most_explained) }
+pub fn write_explained(out: &mut Writer, answer: &Answer, response: &[u8])
+    ensures { Written out.old (explained_text answer.now response.now) out.new × (length (explained_text answer.now response.now) ≤ length response.now * 2 + most_explained) }
 {
-    let status = answer.status;
-    let notification = answer.notification;
-    let card = answer.card;
-    let phase = card.phase;
-    let a = put_word(status, buf, at);
-    let b = put_response(response, buf, a);
-    let c = put_notice(notification, buf, b);
-    let d = put_table(card, buf, c);
-    let e = put_phase(phase, buf, d);
-    let f = put_listing(card.kept, buf, e);
-    let g = put_bytes(buf, f, b"ticks to come ");
-    let h = put_decimal(buf, g, answer.ticks as u64);
-    put_bytes(buf, h, b"\n\n")
+    put_word(out, answer.status);
+    put_response(out, response);
+    put_notice(out, answer.notification);
+    put_table(out, &answer.card);
+    put_phase(out, answer.card.phase);
+    put_listing(out, answer.card.kept);
+    out.bytes(b"ticks to come ");
+    put_decimal(out, answer.ticks as u64);
+    out.bytes(b"\n\n");
 }

@@ -1,5 +1,5 @@
 // What the program says: the line of an answer, and the answer for a person.
-// Every function answers for every record and every buffer: what does not fit is dropped, as the writers of `text_words` do.
+// Every function answers for every record and every buffer: what does not fit is dropped, as a `Writer` does.
 #![tactic(auto)]
 
 mod explained;

@@ -5,7 +5,7 @@
 mod reasons;
 
 ghost use Rattle.std.specs.Prelude.{◌≡◌, true, false, [], ◌+◌, ◌*◌, ◌≤◌, length};
-ghost use Rattle.base_bytes.specs.Put.{put, Wrote};
+ghost use Rattle.base_bytes.specs.Put.{put, Wrote, Written};
 ghost use Rattle.base_status.specs.StatusWords.{is_done};
 ghost use Rattle.card_record.specs.Answers.{as_answer};
 ghost use Rattle.card_record.specs.Fresh.{fresh_outcome};
@@ -19,7 +19,7 @@ ghost use Rattle.script_answer.specs.Explained.{most_explained};
 ghost use Rattle.script_reply.specs.Replies.{most_bytes, spelled_bytes, bytes_in, call_spelled, record_outcome, answer_text, reply_of, first_reply, no_reply, fault_reply, answer_to, reply_to_line, most_text};
 ghost use Rattle.script_session.specs.Session.{first_turn, LaidOut, Replied, Used};
 
-use base_bytes::{Part, part_of};
+use base_bytes::{Part, Writer, part_of};
 use base_status::Status;
 use card_isdp::Aid;
 use card_record::{Answer, Card, Inputs};
@@ -147,23 +147,31 @@ fn hand_in(card: Card) -> Answer
         .answer(Status::Done, 0)
 }
 
-// An answer written out, on one line or for a person; up to where the buffer is then filled.
-fn write_text(explain: bool, answer: Answer, response: &[u8], out: &mut [u8], at: usize) -> usize
-    ensures { Wrote out.old at (answer_text explain answer response.now) result out.new × (length (answer_text explain answer response.now) ≤ length response.now * 2 + most_explained) }
+// An answer written out, on one line or for a person.
+fn put_text(out: &mut Writer, explain: bool, answer: &Answer, response: &[u8])
+    ensures { Written out.old (answer_text explain answer.now response.now) out.new × (length (answer_text explain answer.now response.now) ≤ length response.now * 2 + most_explained) }
 {
     if explain {
-        // only this arm hands the card on, so that only it copies it (decision B42)
-        let shown = answer;
-        return write_explained(shown, response, out, at);
+        write_explained(out, answer, response);
+    } else {
+        write_answer(out, answer, response);
     }
-    write_answer(answer, response, out, at)
+}
+
+// The same from a place of the buffer on; up to where it is then filled.
+fn write_text(explain: bool, answer: &Answer, response: &[u8], out: &mut [u8], at: usize) -> usize
+    ensures { Wrote out.old at (answer_text explain answer.now response.now) result out.new × (length (answer_text explain answer.now response.now) ≤ length response.now * 2 + most_explained) }
+{
+    let mut writer = Writer::new(out, at);
+    put_text(&mut writer, explain, answer, response);
+    writer.at
 }
 
 // The answer of a call that hands in a card: it is sound exactly where the call is accepted, and it has no response.
 fn first_reply(explain: bool, answer: Answer, out: &mut [u8], at: usize) -> Turn
     ensures { (result.card ≡ answer.card) × ((result.sound ≡ is_done answer.status) × ((result.goes ≡ true) × (Wrote out.old at (answer_text explain answer []) result.filled out.new × (length (answer_text explain answer []) ≤ most_text)))) }
 {
-    let filled = write_text(explain, answer, &[], out, at);
+    let filled = write_text(explain, &answer, &[], out, at);
     Turn {
         card: answer.card,
         sound: answer.status.is_done(),
@@ -200,7 +208,7 @@ fn call_reply(
     let answer = answer_to(turn.sound, turn.card, laid, bytes, &mut response[..room]);
     let filled = write_text(
         explain,
-        answer,
+        &answer,
         &response[..answer.length],
         out,
         turn.filled,

@@ -1,9 +1,9 @@
 // A line of the script that cannot be read: `line N: ..`, and what is wrong with it.
 ghost use Rattle.std.specs.Prelude.{◌≡◌, ◌≤◌, length};
-ghost use Rattle.base_bytes.specs.Put.{Wrote};
+ghost use Rattle.base_bytes.specs.Put.{Written, Wrote};
 ghost use Rattle.script_reply.specs.Reasons.{reason_text, reason_line, most_fault};
 
-use base_bytes::{put_byte, put_bytes};
+use base_bytes::Writer;
 use script_words::Reason;
 use text_words::put_decimal;
 
@@ -22,13 +22,21 @@ fn words(reason: Reason) -> &'static [u8]
     }
 }
 
+fn put_fault(out: &mut Writer, number: u64, reason: Reason)
+    ensures { Written out.old (reason_line number reason) out.new × (length (reason_line number reason) ≤ most_fault) }
+{
+    out.bytes(b"line ");
+    put_decimal(out, number);
+    out.bytes(b": ");
+    out.bytes(words(reason));
+    out.byte(b'\n');
+}
+
 // A line of the script that cannot be read, by its number, and what is wrong with it.
 pub fn write_reason(number: u64, reason: Reason, buf: &mut [u8], at: usize) -> usize
     ensures { Wrote buf.old at (reason_line number reason) result buf.new × (length (reason_line number reason) ≤ most_fault) }
 {
-    let a = put_bytes(buf, at, b"line ");
-    let b = put_decimal(buf, a, number);
-    let c = put_bytes(buf, b, b": ");
-    let d = put_bytes(buf, c, words(reason));
-    put_byte(buf, d, b'\n')
+    let mut out = Writer::new(buf, at);
+    put_fault(&mut out, number, reason);
+    out.at
 }

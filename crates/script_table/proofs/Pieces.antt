@@ -1,39 +1,33 @@
--- What the code writes piece by piece is the text: each law says it of one turn of a loop. Assumes nothing.
-use mathlib.Core.Path.{◌≡◌, ap, ◌∙◌}
-use Prim.Native.Nat.{ℕ, ◌+◌, ◌≤◌, ◌<◌, max}
+-- One turn of the loops over the places: what is known of the places so far, and of one more. Assumes nothing.
+use mathlib.Core.Path.{◌≡◌, ap, sym, ◌∙◌}
+use Prim.Native.Nat.{ℕ, zero, suc, ◌+◌, ◌<◌, max}
+use native.Mathlib.Nat.{add-zero, add-suc, suc-add}
 use native.Mathlib.Numerals.{add-one}
-use mathlib.Core.List.{List, [], ◌++◌}
-use lib.ListN.{length, drop, get_or, drop_of_length-le}
-use lib.Seq.{drop-cons}
-use Rattle.base_bytes.specs.Put.{Wrote}
-use Rattle.base_bytes.proofs.PutLaws.{length-put}
+use native.Mathlib.Omega.{arith}
+use mathlib.Core.List.{List, [], ◌∷◌, ◌++◌, append-nil, append_assoc}
+use lib.ListN.{length, take, get_or}
 use Rattle.card_isdp.specs.Aids.{aid_of}
 use Rattle.card_isdp.specs.declared.Isdp.{Isdp}
-use Rattle.card_places.proofs.Records.{unread}
 use Rattle.script_table.specs.Profiles.{place_text, rows_text, widest_of}
 
--- a buffer stays as long as it was
-pub wrote-size : {l m vs : List ℕ} {at r : ℕ} → Wrote l at vs r m → length m ≡ length l
-wrote-size {l} {m} {vs} {at} w = ap length w.content ∙ length-put l at vs
+widest_suc : (l : List Isdp) (i : ℕ) (d : Isdp) → i < length l → widest_of (take (suc i) l) ≡ max (widest_of (take i l)) (length (aid_of (get_or l i d)))
+unfolding widest_of
+widest_suc [] i d h = absurd (omega arith)
+widest_suc (p ∷ ps) zero d h = omega arith
+widest_suc (p ∷ ps) (suc i) d h = let e = widest_suc ps i d (omega arith) in omega arith
 
--- one turn of the loops over the places, and their ends
-module _ (l : List Isdp) (i : ℕ) where
-  pub widest-step : i < length l → widest_of (drop i l) ≡ max (length (aid_of (get_or l i unread))) (widest_of (drop (i + 1) l))
-  unfolding widest_of
-  widest-step h = rw (drop-cons l i unread, add-one)
+pub widest_more : (l : List Isdp) (i n : ℕ) (d : Isdp) → i < length l → n ≡ length (aid_of (get_or l i d)) → widest_of (take (i + 1) l) ≡ max (widest_of (take i l)) n
+widest_more l i n d h e = rw (add-one i) (widest_suc l i d h ∙ ap (max (widest_of (take i l))) (sym e))
 
-  pub widest-end : length l ≤ i → widest_of (drop i l) ≡ 0
-  unfolding widest_of
-  widest-end h = rw (drop_of_length-le l h)
+module _ (holder widest : ℕ) where
+  rows_suc : (l : List Isdp) (i k : ℕ) (d : Isdp) → i < length l → rows_text holder widest k (take (suc i) l) ≡ rows_text holder widest k (take i l) ++ place_text (get_or l i d) (k + i) holder widest
+  unfolding rows_text
+  rows_suc [] i k d h = absurd (omega arith)
+  rows_suc (p ∷ ps) zero k d h = append-nil _ ∙ ap (λ (n : ℕ). place_text p n holder widest) (sym (add-zero k))
+  rows_suc (p ∷ ps) (suc i) k d h =
+      ap (◌++◌ (place_text p k holder widest)) (rows_suc ps i (suc k) d (omega arith))
+      ∙ sym (append_assoc (place_text p k holder widest) _ _)
+      ∙ ap (λ (n : ℕ). (place_text p k holder widest ++ rows_text holder widest (suc k) (take i ps)) ++ place_text (get_or ps i d) n holder widest) (suc-add k i ∙ sym (add-suc k i))
 
-  module _ (holder widest : ℕ) where
-    pub rows_step :
-        i < length l
-        → rows_text holder widest i (drop i l)
-        ≡ place_text (get_or l i unread) i holder widest ++ rows_text holder widest (i + 1) (drop (i + 1) l)
-    unfolding rows_text
-    rows_step h = rw (drop-cons l i unread, add-one)
-
-    pub rows_end : length l ≤ i → rows_text holder widest i (drop i l) ≡ []
-    unfolding rows_text
-    rows_end h = rw (drop_of_length-le l h)
+  pub rows_more : (l : List Isdp) (i : ℕ) (d : Isdp) → i < length l → rows_text holder widest 0 (take (i + 1) l) ≡ rows_text holder widest 0 (take i l) ++ place_text (get_or l i d) i holder widest
+  rows_more l i d h = rw (add-one i) (rows_suc l i 0 d h ∙ ap (λ (n : ℕ). rows_text holder widest 0 (take i l) ++ place_text (get_or l i d) n holder widest) (omega arith))

@@ -2,31 +2,16 @@
 // knows of no card, and a card of no text.
 #![tactic(auto)]
 
-ghost use Rattle.base_bytes.specs.Put.{Wrote, Written};
+ghost use Rattle.base_bytes.specs.Put.{Written};
 ghost use Rattle.text_aid.specs.AidText.{aid_text};
 
 use base_bytes::Writer;
 use card_isdp::Aid;
+use text_words::put_hex;
 
-// The writer over a `Writer`, under this path while crates above still call the old one.
-pub mod out {
-    use base_bytes::Writer;
-    use card_isdp::Aid;
-    use text_words::out::put_hex;
-
-    // An AID in hex, with its true length; a length over sixteen takes the whole array.
-    pub fn put_aid(out: &mut Writer, aid: Aid)
-        ensures { Written out.old (aid_text aid) out.new }
-    {
-        put_hex(out, aid.as_slice());
-    }
-}
-
-// The same over a buffer and a place.
-pub fn put_aid(aid: Aid, buf: &mut [u8], at: usize) -> usize
-    ensures { Wrote buf.old at (aid_text aid) result buf.new }
+// An AID in hex, with its true length; a length over sixteen takes the whole array.
+pub fn put_aid(out: &mut Writer, aid: Aid)
+    ensures { Written out.old (aid_text aid) out.new }
 {
-    let mut out = Writer::new(buf, at);
-    out::put_aid(&mut out, aid);
-    out.at
+    put_hex(out, aid.as_slice());
 }

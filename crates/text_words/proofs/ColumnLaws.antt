@@ -13,10 +13,6 @@ use Rattle.text_words.specs.Numbers.{digits_text, decimal_text}
 use Rattle.text_words.specs.Columns.{spaces, lead_of, column_text}
 use Rattle.text_words.proofs.NumberLaws.{text-small, tens, tens-some}
 
-pub spaces-end : (count : ℕ) → count ≡ 0 → spaces count ≡ []
-unfolding spaces
-spaces-end count h = rw h
-
 -- one space more
 pub spaces_next : (n : ℕ) → spaces n ++ (32 ∷ []) ≡ spaces (n + 1)
 unfolding spaces

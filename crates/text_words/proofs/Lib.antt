@@ -5,3 +5,4 @@ pub mod NumberLaws
 pub mod HexLaws
 pub mod ColumnLaws
 pub mod RoundTrips
+pub mod TextLaws

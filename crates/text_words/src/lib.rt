@@ -5,17 +5,11 @@
 mod columns;
 mod hex;
 mod numbers;
-mod old;
 mod words;
 mod writing;
 
-// The writers over a `Writer`, under this path while crates above still call the old ones.
-pub mod out {
-    pub use crate::columns::{put_column, put_spaces};
-    pub use crate::writing::{put_decimal, put_hex, put_hex_8, put_hex_16, put_hex_word};
-}
-
+pub use columns::{put_column, put_spaces};
 pub use hex::{HexError, hex_byte, is_hex, read_hex, spell_hex};
 pub use numbers::decimal;
-pub use old::{put_column, put_decimal, put_hex, put_hex_8, put_hex_16, put_hex_word, put_spaces};
 pub use words::{Span, count_words, next_field, next_word, past, until};
+pub use writing::{put_decimal, put_hex, put_hex_8, put_hex_16, put_hex_word};

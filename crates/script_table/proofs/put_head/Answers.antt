@@ -1,16 +1,14 @@
--- `script_table::put_head`: the test tells which text it is.
-use mathlib.Core.Path.{refl}
-use Rattle.base_bytes.proofs.PutLaws.{wrote_as, wrote_then}
-use Rattle.base_choice.proofs.Branches.{eq!, ne! }
-use Rattle.script_table.specs.Profiles.{table_head}
+-- `put_head`: the parts one after the other.
+use borrow.Author.Rules.{rules}
 use native.Mathlib.Omega.{arith}
+use Rattle.script_table.specs.Profiles.{table_head}
+use Rattle.text_words.proofs.TextLaws.{writing}
 use Rattle.script_table.proofs.put_head.Goals as goal
 
 pub returns-then-widest-eq0 : goal.returns-then-widest-eq0
 unfolding table_head
-returns-then-widest-eq0 c = wrote_as _ (eq! _ (omega arith) refl) c.put_bytes.ensures
+returns-then-widest-eq0 c = search (rules, arith, writing)
 
-pub returns : goal.returns
+pub returns-else-widest-eq0 : goal.returns-else-widest-eq0
 unfolding table_head
-returns c = wrote_as _ (ne! _ (omega arith) refl)
-    (wrote_then (wrote_then c.put_bytes-a.ensures c.put_head_gap-b.ensures) c.put_bytes-2.ensures)
+returns-else-widest-eq0 c = let p = rw c.saturating_sub.ensures at c.put_spaces.ensures in search (rules, arith, writing)

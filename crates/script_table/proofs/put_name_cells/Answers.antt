@@ -1,13 +1,10 @@
--- `script_table::put_name_cells`: the cells one after the other.
-use Rattle.base_bytes.proofs.PutLaws.{wrote_then, wrote_as}
-use mathlib.Core.Path.{ap}
-use Prim.Native.Nat.{ℕ, ◌-◌, ◌*◌}
-use Rattle.text_words.specs.Columns.{spaces}
+-- `put_name_cells`: the parts one after the other.
+use borrow.Author.Rules.{rules}
+use native.Mathlib.Omega.{arith}
 use Rattle.script_table.specs.Profiles.{name_cells}
+use Rattle.text_words.proofs.TextLaws.{writing}
 use Rattle.script_table.proofs.put_name_cells.Goals as goal
 
 pub returns : goal.returns
 unfolding name_cells
-returns c = let e = ap (λ (n : ℕ). spaces ((c.args.widest - n) * 2)) c.aid_size-n.ensures.0 in
-    wrote_then (wrote_then (wrote_then c.put_column-a.ensures c.put_bytes-b.ensures) c.put_aid-c.ensures)
-    (wrote_as _ e c.put_gap.ensures)
+returns c = let p = rw (c.saturating_sub.ensures, c.aid_size.ensures.0) at c.put_spaces.ensures in search (rules, arith, writing)

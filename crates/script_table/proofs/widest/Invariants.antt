@@ -1,13 +1,9 @@
--- `script_table::widest`: m is the longest of the places before i.
+-- `script_table::widest`: the longest of the places so far.
 use mathlib.Core.Path.{◌≡◌}
-use Prim.Native.Nat.{◌-◌, ◌≤◌, max}
-use lib.ListN.{drop}
-use Rattle.card_isdp.specs.Sizes.{most_places}
+use Prim.Native.Nat.{◌≤◌}
+use lib.ListN.{take}
 use Rattle.script_table.specs.Profiles.{widest_of}
 use Rattle.script_table.proofs.widest.Given as goal
 
-abbrev pub invariant-loop-i : goal.invariant-loop-i
-invariant-loop-i l = (l.i ≤ most_places) × ((max l.m (widest_of (drop l.i l.places)) ≡ widest_of l.places) × (l.m ≤ 16))
-
-abbrev pub decreases-loop-i : goal.decreases-loop-i
-decreases-loop-i l = most_places - l.i
+abbrev pub invariant-loop-p : goal.invariant-loop-p
+invariant-loop-p l = (l.most ≡ widest_of (take l.p-index l.places)) × (l.most ≤ 16)

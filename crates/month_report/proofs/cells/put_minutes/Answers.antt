@@ -1,15 +1,14 @@
--- `cells::put_minutes`: one form or the other.
-use mathlib.Core.Path.{refl}
-use Rattle.base_bytes.proofs.PutLaws.{wrote_then, wrote_as}
-use Rattle.base_choice.proofs.Branches.{yes!, no! }
+-- `cells::put_minutes`: the parts one after the other.
+use borrow.Author.Rules.{rules}
+use native.Mathlib.Omega.{arith}
 use Rattle.month_report.specs.Report.{minutes_text}
+use Rattle.text_words.proofs.TextLaws.{writing}
 use Rattle.month_report.proofs.cells.put_minutes.Goals as goal
 
 pub returns-then-explain : goal.returns-then-explain
 unfolding minutes_text
-returns-then-explain c = wrote_as _ (yes! _ c.if-explain.true refl) (wrote_then (wrote_then c.put_figure-a.ensures c.put_share-b.ensures)
-    c.put_byte.ensures)
+returns-then-explain c = search (rules, arith, writing)
 
-pub returns : goal.returns
+pub returns-else-explain : goal.returns-else-explain
 unfolding minutes_text
-returns c = wrote_as _ (no! _ c.if-explain.false refl) c.put_plain.ensures
+returns-else-explain c = search (rules, arith, writing)

@@ -1,8 +1,10 @@
--- `cells::put_plain`: the pieces one after the other.
-use Rattle.base_bytes.proofs.PutLaws.{wrote_then}
+-- `cells::put_plain`: the parts one after the other.
+use borrow.Author.Rules.{rules}
+use native.Mathlib.Omega.{arith}
 use Rattle.month_report.specs.Report.{plain_text}
+use Rattle.text_words.proofs.TextLaws.{writing}
 use Rattle.month_report.proofs.cells.put_plain.Goals as goal
 
 pub returns : goal.returns
 unfolding plain_text
-returns c = wrote_then (wrote_then c.put_byte-a.ensures c.put_decimal-b.ensures) c.put_byte.ensures
+returns c = search (rules, arith, writing)

@@ -1,14 +1,14 @@
--- `cells::put_share`: without ticks a dash; else the tenths, as the definition divides.
-use mathlib.Core.Path.{refl}
-use Rattle.base_bytes.proofs.PutLaws.{wrote_as}
-use Rattle.base_choice.proofs.Branches.{eq!, ne! }
+-- `cells::put_share`: the parts one after the other.
+use borrow.Author.Rules.{rules}
+use native.Mathlib.Omega.{arith}
 use Rattle.month_report.specs.Report.{share_text}
+use Rattle.text_words.proofs.TextLaws.{writing}
 use Rattle.month_report.proofs.cells.put_share.Goals as goal
 
 pub returns-then-ticks-eq0 : goal.returns-then-ticks-eq0
 unfolding share_text
-returns-then-ticks-eq0 c = wrote_as _ (eq! _ c.if-ticks-eq0.true refl) c.put_bytes.ensures
+returns-then-ticks-eq0 c = search (rules, arith, writing)
 
-pub returns : goal.returns
+pub returns-else-ticks-eq0 : goal.returns-else-ticks-eq0
 unfolding share_text
-returns c = wrote_as _ (ne! _ c.if-ticks-eq0.false refl) c.put_percent.ensures
+returns-else-ticks-eq0 c = search (rules, arith, writing)

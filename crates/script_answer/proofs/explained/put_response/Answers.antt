@@ -1,11 +1,18 @@
 -- `explained::put_response`: a line of its own where there is one.
-use Rattle.base_bytes.proofs.PutLaws.{wrote_as, wrote_none, wrote_then}
+use native.Mathlib.Omega.{arith}
+use mathlib.Core.Path.{◌≡◌}
+use lib.ListN.{length}
+use Rattle.std.proofs.lemmas.Grind.{common_steps}
+use Rattle.base_bytes.proofs.PutLaws.{written_as, written_none, written_then}
 use Rattle.script_answer.proofs.Pieces.{response-none, response-some}
 use Rattle.script_answer.proofs.explained.put_response.Goals as goal
 
-pub returns-then-response-eq0 : goal.returns-then-response-eq0
-returns-then-response-eq0 c = wrote_as _ (response-none _ c.if-response-eq0.true) (wrote_none _ _)
+pub returns-then-not-is_empty : goal.returns-then-not-is_empty
+returns-then-not-is_empty c = let s = c.args.response.now in
+    let some : length s ≡ 0 → ⊥ = grind (arith, common_steps) in
+    written_as _ (response-some s some) (written_then (written_then c.bytes.ensures c.put_hex.ensures) c.byte.ensures)
 
-pub returns : goal.returns
-returns c = wrote_as _ (response-some _ c.if-response-eq0.false) (wrote_then (wrote_then c.put_bytes-a.ensures c.put_hex-b.ensures)
-    c.put_byte.ensures)
+pub returns-else-not-is_empty : goal.returns-else-not-is_empty
+returns-else-not-is_empty c = let s = c.args.response.now in
+    let none : length s ≡ 0 = grind (arith, common_steps) in
+    written_as _ (response-none s none) (written_none _)

@@ -1,16 +1,23 @@
 -- `line::put_notice`: the kind tells whether there is one.
-use Rattle.base_bytes.proofs.PutLaws.{wrote_as}
-use Rattle.script_answer.proofs.Pieces.{notice-is}
+use borrow.Author.Rules.{rules}
+use native.Mathlib.Omega.{arith}
+use mathlib.Core.Path.{◌≡◌}
+use lib.ListN.{length}
+use Rattle.base_bytes.proofs.PutLaws.{written_as}
+use Rattle.text_words.proofs.TextLaws.{writing}
+use Rattle.script_answer.specs.Lines.{notice_word}
+use Rattle.script_answer.proofs.Pieces.{word-told}
+use Rattle.script_answer.proofs.Lengths.{notice-length}
 use Rattle.script_answer.proofs.line.put_notice.Goals as goal
 
 pub returns-in-Silent : goal.returns-in-Silent
-returns-in-Silent c = wrote_as _ (notice-is _ c.in-Silent.is) c.put_byte.ensures
+unfolding notice_word
+returns-in-Silent c = let n = c.args.notification in
+    let w : length n.aid.bytes ≡ 16 = search rules in
+    (rw c.in-Silent.is (search (rules, arith, writing)), notice-length n (omega arith))
 
-pub returns-in-Changed : goal.returns-in-Changed
-returns-in-Changed c = wrote_as _ (notice-is _ c.in-Changed.is) c.put_issued.ensures
-
-pub returns-in-RolledBack : goal.returns-in-RolledBack
-returns-in-RolledBack c = wrote_as _ (notice-is _ c.in-RolledBack.is) c.put_issued-in-RolledBack.ensures
-
-pub returns-in-FallenBack : goal.returns-in-FallenBack
-returns-in-FallenBack c = wrote_as _ (notice-is _ c.in-FallenBack.is) c.put_issued-in-FallenBack.ensures
+pub returns-in_default : goal.returns-in_default
+unfolding notice_word
+returns-in_default c = let n = c.args.notification in
+    let w : length n.aid.bytes ≡ 16 = search rules in
+    (written_as _ (word-told n.kind n c.in_default.not-Silent) c.put_issued.ensures, notice-length n (omega arith))

@@ -1,23 +1,12 @@
 -- `line::write_answer`: the words one after the other, a space between them.
-use Rattle.script_answer.proofs.Records.{wide}
-use Rattle.base_bytes.proofs.PutLaws.{wrote_then, wrote_as}
-use Rattle.script_table.proofs.Pieces.{wrote-size}
-use mathlib.Core.Path.{◌≡◌, ap}
+use borrow.Author.Rules.{rules}
 use native.Mathlib.Omega.{arith}
-use lib.ListN.{length}
-use Rattle.script_answer.specs.Lines.{hex16, answer_line}
+use Rattle.script_answer.specs.Lines.{answer_line}
 use Rattle.script_answer.proofs.Lengths.{line-length}
+use Rattle.text_words.proofs.TextLaws.{writing}
 use Rattle.script_answer.proofs.line.write_answer.Goals as goal
 
 pub returns : goal.returns
 unfolding answer_line
-returns c = let n : length c.args.answer.notification.aid.bytes ≡ 16 = wide c.args.answer _ c.well_formed.0 in (
-  wrote_then (wrote_then (wrote_then (wrote_then (wrote_then (wrote_then (wrote_then (wrote_as _ (ap hex16 c.number.ensures)
-      c.put_hex_16-a.ensures) c.put_byte-b.ensures) c.put_hex_word-c.ensures) c.put_byte-d.ensures)
-      c.put_notice-e.ensures) c.put_byte-f.ensures) c.put_decimal-g.ensures)
-      c.put_byte.ensures,
-  line-length c.args.answer _ (omega arith),
-)
-
-pub shape_of-buf : goal.shape_of-buf
-shape_of-buf c = wrote-size (returns c).0
+returns c = let p = c.put_notice.ensures.0 in
+    (rw (← c.number.ensures) (search (rules, arith, writing) depth 12), line-length c.args.answer.now _ c.put_notice.ensures.1)

@@ -1,6 +1,6 @@
--- `month_account::write_month`: what was counted is written, or by which name the file is refused.
+-- `month_account::put_account`: what was counted is written, or by which name the file is refused.
 use Rattle.month_account.proofs.Told.{refused-written, accepted-written}
-use Rattle.month_account.proofs.write_month.Goals as goal
+use Rattle.month_account.proofs.put_account.Goals as goal
 
 pub returns-in-Ok : goal.returns-in-Ok
 returns-in-Ok c = accepted-written c.args.explain c.args.s.now c.count_month.ensures c.in-Ok.is c.write_report.ensures
