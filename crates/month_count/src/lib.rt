@@ -13,7 +13,7 @@ ghost use Rattle.month_count.specs.Loop.{Countable, MinutesLine};
 
 use base_bytes::part_of;
 use base_status::Status;
-use card_record::Card;
+use card_record::{Card, Kind};
 use month_events::next_event;
 use month_file::{Refusal, open};
 use month_tally::{MINUTES, Names, Tally};
@@ -59,12 +59,13 @@ fn count(card: Card, body: &[u8], minutes: &mut [u32; MINUTES]) -> Tally
     let mut events: u32 = 0;
     let mut refused: u32 = 0;
     let mut at: usize = 0;
+    // No `for`: the place goes on by each event's own length.
     while let Some(event) = next_event(body, at) {
         ticks += time(event.call, own, minutes);
         let answer = answer_on_sound(card, event.call, body, &mut buf);
         events += 1;
         refused += refusals(answer.status);
-        if answer.notification.kind.code() != 0 {
+        if !matches!(answer.notification.kind, Kind::Silent) {
             names = names.noted(answer.notification.aid);
             own = names.line(answer.notification.aid);
         }
