@@ -13,7 +13,7 @@ use card_isdp::{Isdp, once_disabled};
 fn next_number(n: u16) -> u16
     ensures { result ≡ next_number n }
 {
-    if n == Card::LAST_NUMBER { 0 } else { n + 1 }
+    n.wrapping_add(1)
 }
 
 impl Phase {
