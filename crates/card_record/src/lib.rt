@@ -1,7 +1,7 @@
 // The card record, its phases, and what it hands out; its functions stand in the modules, which bear the names of the definitions' files.
 // What writes takes the card by value, what asks takes it by reference; both answer for every record. That it is sound is asked once, by
 // `is_sound`, in the calls above.
-#![tactic(auto)]
+#![tactic(auto, unfolding(crate::proofs::Opened::cards))]
 
 mod answers;
 mod cards;
