@@ -13,7 +13,7 @@ ghost use Rattle.month_count.specs.Loop.{Countable, MinutesLine};
 
 use base_bytes::part_of;
 use base_status::Status;
-use card_record::{Card, Kind};
+use card_record::Card;
 use month_events::next_event;
 use month_file::{Refusal, open};
 use month_tally::{MINUTES, Names, Tally};
@@ -65,7 +65,7 @@ fn count(card: Card, body: &[u8], minutes: &mut [u32; MINUTES]) -> Tally
         let answer = answer_on_sound(card, event.call, body, &mut buf);
         events += 1;
         refused += refusals(answer.status);
-        if !matches!(answer.notification.kind, Kind::Silent) {
+        if answer.notification.kind.code() != 0 {
             names = names.noted(answer.notification.aid);
             own = names.line(answer.notification.aid);
         }
