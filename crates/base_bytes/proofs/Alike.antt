@@ -1,16 +1,22 @@
--- The comparison of byte strings: that it is the library's, and the equation. Assumes nothing.
-use mathlib.Core.Path.{◌≡◌, refl, ap, sym, ◌∙◌}
-use Prim.Native.Nat.{ℕ, ◌-◌}
+-- The comparison of byte strings: a turn and the end of its loop, and that it is the equation. Assumes nothing.
+use mathlib.Core.Path.{◌≡◌, refl, ap, sym}
+use Prim.Native.Nat.{ℕ, zero, suc, ◌≤◌, ◌<◌}
+use native.Mathlib.Omega.{arith}
 use mathlib.Core.List.{List, [], ◌∷◌}
-use mathlib.Core.Bool.{Bool, true, false, ◌&&◌, false≢true}
-use lib.ListN.{length}
+use mathlib.Core.Bool.{Bool, true, false, ◌&&◌, and-true, and-false, and_assoc, false≢true}
+use lib.ListN.{length, get_or, take}
+use lib.Seq.{take_all}
 use lib.Dec.{eqb}
-use lib.Pointwise.{pointwise}
-use denote.Ref.{Bor}
-use Rattle.std.specs.Prelude.{Option, Some, None, slice_get}
-use Rattle.std.specs.Option.{option_eq, option_copied}
 use borrow.Author.Tests.{eq-eqb, ne_eqb, eqb-true, eqb-false}
 use Rattle.base_bytes.specs.Bytes.{same_bytes}
+
+-- byte strings of different lengths differ
+pub same_length : (xs ys : List ℕ) → (length xs ≡ length ys → ⊥) → same_bytes xs ys ≡ false
+unfolding same_bytes
+same_length [] [] n = absurd (n refl)
+same_length [] (y ∷ ys) n = refl
+same_length (x ∷ xs) [] n = refl
+same_length (x ∷ xs) (y ∷ ys) n = rw (same_length xs ys (λ e. n (ap suc e))) (and-false (eqb x y))
 
 -- the test and the equation say the same
 pub same_true : (xs ys : List ℕ) → same_bytes xs ys ≡ true → xs ≡ ys
@@ -47,27 +53,26 @@ same-sym [] (y ∷ ys) = refl
 same-sym (x ∷ xs) [] = refl
 same-sym (x ∷ xs) (y ∷ ys) = rw (eqb-sym x y, same-sym xs ys)
 
--- the library's equality of slices is that comparison
-pub same_pointwise : (xs ys : List ℕ) → pointwise eqb xs ys ≡ same_bytes xs ys
+-- the comparison from the end: one byte more of both
+same_turn : (i : ℕ) (xs ys : List ℕ) → i < length xs → i < length ys → same_bytes (take (suc i) xs) (take (suc i) ys) ≡ (same_bytes (take i xs) (take i ys) && eqb (get_or xs i 0) (get_or ys i 0))
 unfolding same_bytes
-same_pointwise [] [] = refl
-same_pointwise [] (y ∷ ys) = refl
-same_pointwise (x ∷ xs) [] = refl
-same_pointwise (x ∷ xs) (y ∷ ys) = rw (same_pointwise xs ys)
+same_turn i [] ys h k = absurd (omega arith)
+same_turn i (x ∷ xs) [] h k = absurd (omega arith)
+same_turn zero (x ∷ xs) (y ∷ ys) h k = and-true (eqb x y)
+same_turn (suc i) (x ∷ xs) (y ∷ ys) h k = rw (same_turn i xs ys (omega arith) (omega arith)) (sym (and_assoc (eqb x y) _ _))
 
--- byte strings that are the same have the same last byte, or none
-same-false : (xs ys : List ℕ) (t : Bool) → same_bytes xs ys ≡ t → (xs ≡ ys → ⊥) → false ≡ same_bytes xs ys
-same-false xs ys true e n = absurd (n (same_true xs ys e))
-same-false xs ys false e n = sym e
+-- before the first turn, a turn that looks at j, and the end, as the loop has them
+module _ (xs ys : List ℕ) (n : length xs ≡ length ys) (i : ℕ) where
+  pub same_first : i ≡ length xs → same_bytes (take i xs) (take i ys) ≡ same_bytes xs ys
+  same_first e = rw (take_all i xs (omega arith), take_all i ys (omega arith))
 
-alike : (p q : Option (Bor ℕ)) → option_copied p ≡ option_copied q → option_eq (λ x y. eqb x.now y.now) p q ≡ true
-alike None None e = refl
-alike None (Some y) e = cc
-alike (Some x) None e = cc
-alike (Some x) (Some y) e = let f : x.now ≡ y.now = cc in eq-eqb x.now y.now f
+  module _ (j : ℕ) (e : i ≡ suc j) (h : i ≤ length xs) where
+    pub same-hit : get_or xs j 0 ≡ get_or ys j 0 → same_bytes (take j xs) (take j ys) ≡ same_bytes (take i xs) (take i ys)
+    same-hit f = rw (e, same_turn j xs ys (omega arith) (omega arith), eq-eqb (get_or xs j 0) (get_or ys j 0) f) (sym (and-true _))
 
-pub last_differs : (xs ys : List ℕ) (p q : Option (Bor ℕ)) → option_copied p ≡ slice_get xs (length xs - 1) → option_copied q ≡ slice_get ys (length ys - 1)
-    → option_eq (λ x y. eqb x.now y.now) p q ≡ false → false ≡ same_bytes xs ys
-last_differs xs ys p q e f d =
-    same-false xs ys (same_bytes xs ys) refl
-    (λ s. false≢true (sym d ∙ alike p q (e ∙ ap (λ (l : List ℕ). slice_get l (length l - 1)) s ∙ sym f)))
+    pub same-miss : (get_or xs j 0 ≡ get_or ys j 0 → ⊥) → same_bytes (take i xs) (take i ys) ≡ false
+    same-miss f = rw (e, same_turn j xs ys (omega arith) (omega arith), ne_eqb (get_or xs j 0) (get_or ys j 0) f) (and-false (same_bytes (take j xs) (take j ys)))
+
+  pub same_end : i ≡ 0 → same_bytes (take i xs) (take i ys) ≡ true
+  unfolding same_bytes
+  same_end e = rw e

@@ -42,14 +42,25 @@ pub fn read_pair(bytes: &[u8], at: usize) -> u16
 pub fn read_four(bytes: &[u8], at: usize) -> u32
     ensures { result ≡ four_at bytes.now at }
 {
-    let high = read_pair(bytes, at) as u32;
-    let low = read_pair(bytes, at.saturating_add(2)) as u32;
-    high * 65536 + low
+    u32::from_be_bytes([
+        byte_at(bytes, at),
+        byte_at(bytes, at.saturating_add(1)),
+        byte_at(bytes, at.saturating_add(2)),
+        byte_at(bytes, at.saturating_add(3)),
+    ])
 }
 
-// Are the two byte strings the same, in length too? The last byte is asked first: AIDs begin alike.
+// Are the two byte strings the same, in length too? Compared from the end: AIDs begin alike.
 pub fn same(a: &[u8], b: &[u8]) -> bool
     ensures { result ≡ same_bytes a.now b.now }
 {
-    a.last() == b.last() && a == b
+    if a.len() != b.len() {
+        return false;
+    }
+    for i in (0..a.len()).rev() {
+        if a[i] != b[i] {
+            return false;
+        }
+    }
+    true
 }

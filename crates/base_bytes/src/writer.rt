@@ -1,5 +1,6 @@
 // A writer: the buffer that was lent, and the place where the next byte goes. What does not fit is dropped, and a text that reaches
 // the buffer's end leaves the place there, so that texts written one after the other are one text.
+// No fmt::Write: `write!` promises its text only where it is Ok, and `Written` says what stands in a buffer that cuts it, too.
 ghost use Rattle.std.specs.Prelude.{◌≡◌, ◌∷◌, []};
 ghost use Rattle.base_bytes.specs.Put.{Written};
 

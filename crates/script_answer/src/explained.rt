@@ -1,4 +1,5 @@
-// An answer for a person: the word and what it means, response and notification, the profiles, the phase, an open listing, and the ticks to come.
+// An answer for a person: the word and what it means, response and notification, the profiles, the phase, an open listing, and the
+// ticks to come.
 ghost use Rattle.std.specs.Prelude.{◌≡◌, ◌+◌, ◌*◌, ◌≤◌, length};
 ghost use Rattle.base_bytes.specs.Put.{Written};
 ghost use Rattle.script_answer.specs.Explained.{meaning_of, word_text, response_text, kind_text, issued_text, notice_text};
@@ -36,10 +37,10 @@ fn meaning(status: Status) -> &'static [u8]
 fn put_word(out: &mut Writer, status: Status)
     ensures { Written out.old (word_text status) out.new }
 {
-    let n = status.number();
-    put_hex_8(out, (n / 256) as u8);
+    let [high, low] = status.number().to_be_bytes();
+    put_hex_8(out, high);
     out.byte(b' ');
-    put_hex_8(out, (n % 256) as u8);
+    put_hex_8(out, low);
     out.byte(b' ');
     out.bytes(meaning(status));
     out.byte(b'\n');

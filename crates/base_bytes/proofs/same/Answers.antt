@@ -1,10 +1,30 @@
--- `same`: the library's equality of slices is the comparison of the definition; byte strings whose last bytes differ are not the same.
-use mathlib.Core.Path.{sym, ◌∙◌}
-use Rattle.base_bytes.proofs.Alike.{same_pointwise, last_differs}
+-- `same` meets its contract. The loop goes from the end and keeps: what is left is the same exactly where the whole is.
+use mathlib.Core.Path.{◌≡◌, refl, sym, ◌∙◌}
+use lib.ListN.{length}
+use native.Mathlib.Omega.{arith}
+use Rattle.base_bytes.proofs.Alike.{same_length, same_first, same-hit, same-miss, same_end}
+use borrow.Author.Rules.{rules}
 use Rattle.base_bytes.proofs.same.Goals as goal
 
-pub returns-then-eq : goal.returns-then-eq
-returns-then-eq c = c.eq-then-eq.ensures ∙ same_pointwise _ _
+pub returns-then-a-b : goal.returns-then-a-b
+returns-then-a-b c = sym (same_length c.args.a.now c.args.b.now c.if-a-b.true)
 
-pub returns-else-eq : goal.returns-else-eq
-returns-else-eq c = c.if-eq.false ∙ last_differs _ _ _ _ c.last.ensures.value c.last-2.ensures.value (sym c.eq.ensures ∙ c.if-eq.false)
+pub loop-i-init : goal.loop-i-init
+loop-i-init c = let s = c.args in
+    let n : length s.a.now ≡ length s.b.now = search rules in
+    (n, (search rules, same_first s.a.now s.b.now n _ refl))
+
+pub returns-then-a-i : goal.returns-then-a-i
+returns-then-a-i c = let s = c.args in
+    let v = c.loop-i.invariant in
+    sym (same-miss s.a.now s.b.now v.0 c.loop-i.i _ (omega arith) v.1.0 c.if-a-i.true) ∙ v.1.1
+
+pub loop-i-preserved : goal.loop-i-preserved
+loop-i-preserved c = let s = c.args in
+    let v = c.loop-i.invariant in
+    (v.0, (search rules, same-hit s.a.now s.b.now v.0 c.loop-i.i _ (omega arith) v.1.0 c.if-a-i.false ∙ v.1.1))
+
+pub returns : goal.returns
+returns c = let s = c.args in
+    let v = c.loop-i.invariant in
+    sym (same_end s.a.now s.b.now v.0 c.loop-i.i (omega arith)) ∙ v.1.1
