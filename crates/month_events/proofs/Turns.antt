@@ -12,7 +12,7 @@ use lib.Seq.{get_or-drop, get_or-take, drop-drop, take-take}
 use lib.Dec.{ltb}
 use borrow.Author.Tests.{lt-ltb, le-ltb, ltb-false}
 use Rattle.base_bytes.specs.Bytes.{byte, pair_at, four_at}
-use Rattle.base_bytes.proofs.Parts.{part_cut}
+use Rattle.std.proofs.lemmas.List.{drop-take}
 use Rattle.base_choice.specs.Choice.{pick}
 use Rattle.base_choice.proofs.Branches.{on-lt}
 use Rattle.record_door.specs.Door as door
@@ -144,7 +144,7 @@ module _ (b : List ℕ) (from n : ℕ) where
       let f : n ≡ k + (n - k) = omega arith in
       ap (λ (m : ℕ). take m (drop (from + k) b)) e
       ∙ ap (take (n - k)) (sym (drop-drop k from b))
-      ∙ sym (part_cut k (n - k) (drop from b))
+      ∙ sym (drop-take k (n - k) (drop from b))
       ∙ ap (λ (m : ℕ). drop k (take m (drop from b))) (sym f)
 
   -- a part that does not run past them
