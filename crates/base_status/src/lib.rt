@@ -25,6 +25,7 @@ pub enum Status {
 }
 
 impl Status {
+    // A method and no `From`: docs/FORMS.md names it for `number_of`, which the promises use.
     pub fn number(self) -> u16
         ensures { result ≡ number_of self }
     {

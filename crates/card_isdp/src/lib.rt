@@ -13,7 +13,7 @@ ghost use Rattle.card_isdp.specs.Place.{vacant, made, is_for, zeros, life_ok, em
 use base_bytes::same;
 
 // An AID: its bytes with zeros after them, and its length; length 0 where there is none. No Option: a script's `card` line hands in any
-// such record, and `SoundClauses` (card_record/specs/Clauses) says of each place whether it is held.
+// such record, and `HeldPlace` and `ZeroPlace` (specs/Clauses) tell the places apart by the length.
 #[derive(Clone, Copy)]
 pub struct Aid {
     pub bytes: [u8; 16],
@@ -21,7 +21,8 @@ pub struct Aid {
 }
 
 // The numbers stand first, so that a profile takes 28 bytes (decision B35). The mark is that of provisioning capability.
-// Life cycle, policy and mark are bytes and no enums: `SoundClauses` speaks of every byte, and a script's `card` line hands in any.
+// Life cycle, policy and mark are bytes and no enums: `HeldPlace` (specs/Clauses) states their numbers, and a script's `card` line hands
+// in any byte.
 #[derive(Clone, Copy)]
 pub struct Isdp {
     pub quota: u32,
@@ -78,7 +79,7 @@ impl Aid {
         }
     }
 
-    // The AID as it is kept; of one that is too long, the first sixteen bytes.
+    // The AID as it is kept; of one that is too long, the first sixteen bytes. Not `From`: of such an AID a part is lost.
     pub fn of(aid: &[u8]) -> Aid
         ensures { result ≡ named aid.now }
     {
@@ -164,8 +165,10 @@ fn empty_ok(p: &Isdp) -> bool
 fn life_ok(life: u8) -> bool
     ensures { result ≡ life_ok life }
 {
-    (life == Isdp::SELECTABLE)
-        | ((life == Isdp::PERSONALIZED) | ((life == Isdp::DISABLED) | (life == Isdp::ENABLED)))
+    matches!(
+        life,
+        Isdp::SELECTABLE | Isdp::PERSONALIZED | Isdp::DISABLED | Isdp::ENABLED
+    )
 }
 
 // The sizes and codings of a held place, its life cycle apart.

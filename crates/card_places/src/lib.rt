@@ -43,8 +43,7 @@ fn number(i: Option<usize>) -> Option<u8>
     requires { IfSome i (λ n. n < most_places) }
     ensures { result ≡ i }
 {
-    let i = i?;
-    Some(i as u8)
+    Some(i? as u8)
 }
 
 // The place that bears an AID.
@@ -117,7 +116,8 @@ fn hash_of(aid: &[u8]) -> usize
     (*a as usize + (29 * *b as usize + 7 * *c as usize)) % HASHES
 }
 
-// From the last place down, so that a place is held against the later ones, as in the definition; only where the hash of its AID was seen before.
+// From the last place down, so that a place is held against the later ones, as in the definition; only where the hash of its AID was
+// seen before.
 pub fn all_distinct(places: &[Isdp; PLACES]) -> bool
     ensures { result ≡ distinct places.now }
 {

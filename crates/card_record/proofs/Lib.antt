@@ -1,4 +1,5 @@
 -- Laws that several proofs cite: what the types tell, what may be deleted, soundness by parts and kept, the count of ticks, what a step tells, what every answer keeps.
+pub mod Opened
 pub mod Records
 pub mod Numbers
 pub mod Sounds

@@ -75,7 +75,7 @@ impl Card {
         (self.profile(i).life == Isdp::DISABLED) & (i != self.fallback)
     }
 
-    // The whole record, spelled once: the parameters are those of `card_with`.
+    // The whole record, spelled once, so that a new field has one place (docs/CHANGING.md); the parameters are those of `card_with`.
     pub fn with(
         eid: [u8; 16],
         capacity: u32,

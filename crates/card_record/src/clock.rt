@@ -13,7 +13,7 @@ use card_isdp::{Isdp, once_disabled};
 fn next_number(n: u16) -> u16
     ensures { result ≡ next_number n }
 {
-    if n == Card::LAST_NUMBER { 0 } else { n + 1 }
+    n.wrapping_add(1)
 }
 
 impl Phase {
@@ -133,7 +133,6 @@ impl Card {
     }
 
     // The card after a tick that leaves its phase open.
-    #[tactic(auto, unfolding(crate::specs::Clock::tick_of))]
     pub(crate) fn waited(self) -> Card
         requires { waits self.phase ≡ true }
         ensures { result ≡ tick_of self }
@@ -142,7 +141,6 @@ impl Card {
     }
 
     // The card after a tick that its phase runs out with.
-    #[tactic(auto, unfolding(crate::specs::Clock::tick_of))]
     pub(crate) fn run_out(self) -> Card
         requires { waits self.phase ≡ false }
         ensures { result ≡ tick_of self }
@@ -155,7 +153,6 @@ impl Card {
     }
 
     // The card after the network was lost.
-    #[tactic(auto, unfolding(crate::specs::Clock::without_network))]
     pub(crate) fn without_network(self) -> Card
         ensures { result ≡ without_network self }
     {

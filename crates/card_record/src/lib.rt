@@ -1,6 +1,7 @@
 // The card record, its phases, and what it hands out; its functions stand in the modules, which bear the names of the definitions' files.
-// Everything goes by value and answers for every record; that a record is sound is asked once, by `is_sound`, in the calls above.
-#![tactic(auto)]
+// What writes takes the card by value, what asks takes it by reference; both answer for every record. That it is sound is asked once, by
+// `is_sound`, in the calls above.
+#![tactic(auto, unfolding(crate::proofs::Opened::cards))]
 
 mod answers;
 mod cards;
@@ -15,6 +16,7 @@ use base_status::Status;
 use card_isdp::{Aid, Isdp};
 use card_places::PLACES;
 
+// `left` and `number` stand in each case: `tick_in`, `shorter` and `PhaseClauses` of specs/ name the cases so.
 #[derive(Clone, Copy)]
 pub enum Phase {
     Quiet,
@@ -33,7 +35,8 @@ pub struct Card {
     pub phase: Phase,
     pub last: u16,
     pub fallback: u8,
-    // the place of the first row of a listing not yet given, or `Card::NO_PLACE`; no Option, since `SoundClauses` speaks of every byte
+    // the place of the first row of a listing not yet given, or `Card::NO_PLACE`; no Option, since `Clauses` of specs/ states the number,
+    // and a script's `card` line hands in any byte
     pub kept: u8,
     pub eid: [u8; 16],
 }
@@ -77,6 +80,7 @@ pub struct Answer {
 }
 
 // What a fresh card is made of: its EID and capacity, its one profile's AID, quota and used bytes, and its volatile memory.
+// The contracts name the fields: `fresh_outcome` takes them one by one, as the theorems of specs/ do.
 #[derive(Clone, Copy)]
 pub struct Inputs<'a> {
     pub eid: &'a [u8],

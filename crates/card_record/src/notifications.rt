@@ -44,7 +44,6 @@ impl Phase {
 
 impl Card {
     // The notification that a card hands out after one whose last number was `last`: none where no number was issued.
-    #[tactic(auto, unfolding(crate::specs::Notifications::notice_since))]
     pub(crate) fn notice_since(&self, last: u16) -> Notification
         ensures { result ≡ notice_since last self.now }
     {

@@ -43,7 +43,6 @@ impl Card {
         (card_places::count_enabled(&self.places) == 1) & (p.may_be_fall_back() & self.kept_ok())
     }
 
-    #[tactic(auto, unfolding(crate::specs::Sound::phase_ok))]
     fn phase_ok(&self) -> bool
         ensures { result ≡ phase_ok self.now }
     {
@@ -63,7 +62,6 @@ impl Card {
         }
     }
 
-    #[tactic(auto, unfolding(crate::specs::Sound::sound))]
     pub fn is_sound(&self) -> bool
         ensures { result ≡ sound self.now }
     {

@@ -20,7 +20,6 @@ impl Card {
         }
     }
 
-    #[tactic(auto, unfolding(crate::specs::Steps::tick_step))]
     pub fn tick(self) -> Step
         ensures { result ≡ tick_step self }
     {
@@ -30,7 +29,6 @@ impl Card {
         self.run_out().step_since(self.last, Aid::none())
     }
 
-    #[tactic(auto, unfolding(crate::specs::Steps::lost_step))]
     pub fn lost(self) -> Step
         ensures { result ≡ lost_step self }
     {
@@ -50,7 +48,6 @@ impl Card {
     }
 
     // The change is closed by its confirmation.
-    #[tactic(auto, unfolding(crate::specs::Steps::confirm_step, crate::specs::Clock::confirm_of))]
     pub fn confirmed(self) -> Step
         ensures { result ≡ confirm_step self }
     {

@@ -7,7 +7,6 @@ use crate::{Card, Phase};
 
 impl Card {
     // The ticks still to come, by the phase; the definitions count them step by step.
-    #[tactic(auto, unfolding(crate::specs::Ticks::ticks_by_phase))]
     pub fn ticks_by_phase(&self) -> u32
         ensures { result ≡ ticks_by_phase self.now }
     {

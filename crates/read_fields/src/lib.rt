@@ -1,6 +1,6 @@
 // The data fields of STORE DATA, DELETE and GET STATUS. Every function takes a reader of a window of the whole command; one that does
 // not lie in it is wrong. A data field is first read as a list of elements, then in the table's order; an AID is handed on as its place
-// in the command.
+// in the command. The contracts name a reader's three fields: the grammar's definitions and theorems take bytes and places.
 #![tactic(auto, unfolding(crate::proofs::Opened::readers))]
 
 mod request;
@@ -51,6 +51,7 @@ pub fn read_dgi(field: Reader<'_>) -> Option<Dgi>
     })
 }
 
+// DGIs, which a command may have of any value: `dgi_at` gives the number.
 const ENABLE: u16 = 0x3A03;
 
 const DISABLE: u16 = 0x3A04;

@@ -11,8 +11,8 @@ pub enum Request {
     Delete(Part),
     MasterDelete(Part),
     Confirm(u16),
-    // The rows of all profiles, and of the one named: with which of the two optional tags. Only a listing of all comes in parts, so only it can go
-    // on from the kept place.
+    // The rows of all profiles, and of the one named: with which of the two optional tags. Only a listing of all comes in parts, so
+    // only it can go on from the kept place.
     GetStatusOfAll { next: bool, tags: Tags },
     GetStatusOfOne { aid: Part, tags: Tags },
     GetData,

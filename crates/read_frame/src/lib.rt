@@ -9,6 +9,7 @@ ghost use Rattle.read_frame.specs.Framing.{length_wrong, class_right, class_wron
 use base_bytes::byte_at;
 use base_status::Status;
 
+// The instructions. Numbers and no enum: the rows ask any byte, and `instruction_wrong` says which.
 pub const INSTALL: u8 = 0xE6;
 
 pub const DELETE: u8 = 0xE4;
@@ -19,7 +20,7 @@ pub const GET_STATUS: u8 = 0xF2;
 
 pub const GET_DATA: u8 = 0xCA;
 
-// F2 40/02, and 40/03: request 2026-05. A listing begins anew, or goes on from the kept place.
+// F2 40/02, and 40/03: request 2026-05. A listing begins anew, or goes on from the kept place. Numbers, as the instructions.
 const FIRST_ROWS: u8 = 0x02;
 
 pub const NEXT_ROWS: u8 = 0x03;
@@ -128,8 +129,5 @@ pub fn framing(bytes: &[u8], instruction_wrong: bool) -> Result<(), Status>
 pub fn word<T: Copy>(reading: Result<T, Status>) -> Status
     ensures { result ≡ word_read reading }
 {
-    match reading {
-        Ok(_) => Status::Done,
-        Err(status) => status,
-    }
+    reading.err().unwrap_or(Status::Done)
 }

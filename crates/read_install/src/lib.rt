@@ -1,5 +1,6 @@
 // Create's data field: GP's INSTALL, six fields each after its length, of which the ISD-P's AID and the quota are handed on.
 // Every function reads a window of the whole command, which its reader holds; one that does not lie in the command is wrong.
+// The contracts name a reader's three fields: the grammar's definitions and theorems take bytes and places.
 #![tactic(auto, unfolding(crate::proofs::Opened::readers))]
 
 ghost use Rattle.std.specs.Prelude.{◌≡◌, is_some, IfSome};

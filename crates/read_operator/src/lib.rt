@@ -12,6 +12,7 @@ use read_elements::Reader;
 use read_fields::read_dgi;
 use read_frame::{FIELD, STORE_DATA, data_end, framing};
 
+// A DGI, as those of `read_fields`: a command may have one of any value.
 const POLICY_UPDATE: u16 = 0x3A06;
 
 fn policy_at(field: Reader<'_>) -> Option<u8>

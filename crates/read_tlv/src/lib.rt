@@ -144,6 +144,7 @@ impl Element {
 }
 
 // The next element, where it bears the tag that the table has there and its value has `low` to `high` bytes.
+// Tag and bounds are the table's row, and stand at the call, where the paper has them.
 pub fn expect(s: &[u8], at: usize, end: usize, tag: u16, low: usize, high: usize) -> Option<Element>
     ensures { result ≡ expect_at s.now at end tag low high }
 {

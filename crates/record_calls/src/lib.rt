@@ -2,6 +2,7 @@
 // (Tick, lost and confirmation are methods of the card; `confirm` asks the rows that stand before it.)
 // A call with a response is lent the buffer for it, and its promise holds for a buffer of any size: that it has 256 bytes is a row of the
 // table that stands before the reading, and the door asks it. A call that can issue no number answers `silently`, without a step.
+// Each step leaves by let-else at its own rows (document 01, 'Forms by place in the code'), so the first rows stand in each.
 #![tactic(auto)]
 
 mod change;

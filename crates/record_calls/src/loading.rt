@@ -1,5 +1,5 @@
-// Document 01, 'Steps': keyed, stored and finished, the inner calls of the download part, allowed while a change is open. None has a response.
-// The card is known to be sound; the AID and the values are handed in, and so asked here.
+// Document 01, 'Steps': keyed, stored and finished, the inner calls of the download part, allowed while a change is open. None has a
+// response. The card is known to be sound; the AID and the values are handed in, and so asked here.
 ghost use Rattle.std.specs.Prelude.{◌≡◌};
 ghost use Rattle.card_record.specs.Answers.{as_answer, outcome_on_sound};
 ghost use Rattle.rule_steps.specs.Asked.{Act.keyed, Act.stored, Act.finished};

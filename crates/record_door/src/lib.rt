@@ -1,5 +1,6 @@
 // The manager of the root domain: one door for every call, answered whole. What each call does stands in `record_calls`.
-// `answer` asks first whether the card is sound; `answer_on_sound` is the same for a card known to be, for runs of many calls (decision B10).
+// `answer` asks first whether the card is sound; `answer_on_sound` is the same for a card known to be, for runs of many calls
+// (decision B10).
 #![tactic(auto)]
 
 ghost use Rattle.std.specs.Prelude.{◌≡◌, ◌≤◌, length};
@@ -20,7 +21,7 @@ use read_frame::word;
 // A call over the bytes that it came in: each part names some of them (decisions B15, B16, B32).
 #[derive(Clone, Copy)]
 pub enum Call {
-    // with the token verdict
+    // with the token verdict, any byte: the table asks whether it is 1
     Command { verdict: u8, bytes: Part },
     Keyed(Part),
     Stored { aid: Part, n: u32 },

@@ -86,6 +86,7 @@ fn row_size(p: Isdp, tags: Tags) -> usize
 }
 
 // The rows of the places from one on, as many whole rows as a response holds, and the first place whose row is left.
+// By number: the answer and the attribute are of a place's number.
 fn write_rows(out: &mut Writer, places: &[Isdp; PLACES], holder: u8, from: u8, tags: Tags) -> u8
     ensures { Written out.old (part_from most_response holder from tags.life tags.fall_back (drop from places.now)) out.new × (result ≡ next_row_from most_response holder from tags.life tags.fall_back (drop from places.now)) }
 {

@@ -28,6 +28,7 @@ use record_door::Call;
 use script_answer::{write_answer, write_explained};
 use script_line::{MOST_ROOM, Order, read_line};
 use script_record::record_at;
+use script_words::Words;
 use text_words::spell_hex;
 
 // Where a session stands: its card, whether that card is known to be sound, up to where the lent buffer is filled, and whether the run
@@ -241,11 +242,11 @@ fn passed_over(turn: Turn) -> Turn
     Turn { goes: true, ..turn }
 }
 
-// A line whose words from `at` on are those of a record.
-fn record_reply(turn: Turn, explain: bool, number: u64, s: &[u8], at: usize, out: &mut [u8]) -> Turn
-    ensures { Replied out.old turn.filled (on_ok (record_at s.now at) (fault_reply turn.card turn.sound number) (λ d. first_reply explain (record_outcome d))) result out.new }
+// A line whose words from this place on are those of a record.
+fn record_reply(turn: Turn, explain: bool, number: u64, words: Words<'_>, out: &mut [u8]) -> Turn
+    ensures { Replied out.old turn.filled (on_ok (record_at words.entry.line.now words.entry.at) (fault_reply turn.card turn.sound number) (λ d. first_reply explain (record_outcome d))) result out.new }
 {
-    match record_at(s, at) {
+    match record_at(words) {
         Ok(card) => first_reply(explain, hand_in(card), out, turn.filled),
         Err(reason) => stopped(turn, write_reason(number, reason, out, turn.filled)),
     }
@@ -285,7 +286,7 @@ pub fn take_line(
             // `return`: the turn is not copied (docs/PERFORMANCE.md)
             return call_reply(turn, explain, call, room, s, bytes, response, out);
         }
-        Ok(Order::Record(at)) => record_reply(turn, explain, number, s, at, out),
+        Ok(Order::Record(at)) => record_reply(turn, explain, number, Words { line: s, at }, out),
         Err(reason) => stopped(turn, write_reason(number, reason, out, turn.filled)),
     }
 }
