@@ -25,7 +25,7 @@ fn put_account(out: &mut Writer, s: &[u8], explain: bool)
     }
 }
 
-// The same from a place of a buffer on; up to where it is then filled.
+// The same from a place of a buffer on; up to where it is then filled. Buffer and place, no writer: README names its promise (`Wrote`).
 pub fn write_month(s: &[u8], explain: bool, out: &mut [u8], at: usize) -> usize
     ensures { Wrote out.old at (account_text explain s.now) result out.new × (length (account_text explain s.now) ≤ most_account) }
 {

@@ -19,7 +19,7 @@ fn name(refusal: Refusal) -> &'static [u8]
     }
 }
 
-// What a refusal means.
+// What a refusal means. Two functions and no table of pairs: each promises its own definition.
 fn meaning(refusal: Refusal) -> &'static [u8]
     ensures { result.now ≡ meaning_text refusal }
 {

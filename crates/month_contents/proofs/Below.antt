@@ -21,17 +21,9 @@ use Rattle.std.proofs.iter.Yields.{nat_range_steps}
 use Rattle.std.proofs.lemmas.Iterator.{YieldsList-from_range, first_from_Range}
 use Rattle.std.proofs.lemmas.Iterator.Search.{any_from_yields_List}
 use Rattle.std.proofs.lemmas.List.Folds.{list_any-append}
+use Rattle.std.proofs.lemmas.Bool.{or_parts}
 use Rattle.base_choice.proofs.Branches.{on_test, on-lt}
 use Rattle.month_contents.specs.Below.{some_below, first_below, sum_below, count_below}
-
--- two tests of which neither passes
-pub neither-l : (a b : Bool) → (a || b) ≡ false → a ≡ false
-neither-l true b e = e
-neither-l false b e = refl
-
-pub neither-r : (a b : Bool) → (a || b) ≡ false → b ≡ false
-neither-r true b e = absurd (true≢false e)
-neither-r false b e = e
 
 -- a search that has found none so far: at its start, and a turn further
 pub some-none : (t : ℕ → Bool) → some_below 0 t ≡ false
@@ -90,7 +82,7 @@ module _ (t : ℕ → Bool) (i : ℕ) (e : t i ≡ true) where
 pub first-none : (n : ℕ) (t : ℕ → Bool) → some_below n t ≡ false → first_below n t ≡ n
 unfolding some_below first_below
 first-none zero t f = refl
-first-none (suc n) t f = rw (neither-l (some_below n t) (t n) f, neither-r (some_below n t) (t n) f)
+first-none (suc n) t f = let p = or_parts (some_below n t) (t n) f in rw (p.0, p.1)
 
 none-below : (n : ℕ) (t : ℕ → Bool) → ((i : ℕ) → i < n → t i ≡ false) → some_below n t ≡ false
 unfolding some_below
@@ -159,8 +151,8 @@ module _ (t : ℕ → Bool) where
   some-each zero e i h = absurd (omega arith)
   some-each (suc n) e i h =
       on-lt i n
-      (λ k. some-each n (neither-l (some_below n t) (t n) e) i k)
-      (λ k. rw (← last-is i n h k) (neither-r (some_below n t) (t n) e))
+      (λ k. some-each n (or_parts (some_below n t) (t n) e).0 i k)
+      (λ k. rw (← last-is i n h k) (or_parts (some_below n t) (t n) e).1)
 
   pub each-some : (n : ℕ) → ((i : ℕ) → i < n → t i ≡ false) → some_below n t ≡ false
   unfolding some_below

@@ -1,15 +1,16 @@
 -- The bodies lie end to end exactly where the contents are not wrong. Bodies that lie inside and apart hold each place at most once;
 -- the places that they hold are as many as their lengths add up to; so the lengths fill the file exactly where each place is held once.
 -- Assumes nothing.
-use mathlib.Core.Path.{◌≡◌, refl, sym, ap, ◌∙◌}
+use mathlib.Core.Path.{◌≡◌, sym, ap, ◌∙◌}
 use Prim.Native.Nat.{ℕ, ◌+◌, ◌-◌, ◌≤◌, ◌<◌}
 use native.Mathlib.Omega.{arith}
 use mathlib.Core.Logic.{◌⊎◌, inl, inr, ⊎_elim}
 use mathlib.Core.List.{List}
-use mathlib.Core.Bool.{Bool, true, false, cond, ◌&&◌, true≢false}
+use mathlib.Core.Bool.{true, false, cond, ◌&&◌}
 use lib.ListN.{length}
 use lib.Dec.{leb, ltb}
 use borrow.Author.Tests.{ltb-true, leb-true, le-leb, lt-leb, lt-ltb}
+use Rattle.std.proofs.lemmas.Bool.{and_parts}
 use Rattle.base_choice.proofs.Branches.{on-lt}
 use Rattle.month_contents.specs.Below.{sum_below, count_below}
 use Rattle.month_contents.specs.Contents.{sections, kind_at, start_at, body_length, stop_at, contents_end}
@@ -18,25 +19,16 @@ use Rattle.month_contents.proofs.Below.{sum_same, sum-swap, sum-tight, count_non
 use Rattle.month_contents.proofs.Refusals.{Passed, passed, not-wrong}
 use Rattle.month_contents.proofs.Entries.{kind-known, kind-new, kind-right, body-after, body-inside, body-apart, body-right}
 
--- a test of two, both of which pass
-both_l : (a b : Bool) → (a && b) ≡ true → a ≡ true
-both_l true b e = refl
-both_l false b e = e
-
-both_r : (a b : Bool) → (a && b) ≡ true → b ≡ true
-both_r true b e = e
-both_r false b e = absurd (true≢false (sym e))
-
 -- `holds` as numbers
 module _ (s : List ℕ) (p i : ℕ) where
   held : start_at s i ≤ p → p < stop_at s i → holds s p i ≡ true
   held h k = rw (le-leb (start_at s i) p h, lt-ltb p (stop_at s i) k)
 
   held-from : holds s p i ≡ true → start_at s i ≤ p
-  held-from e = leb-true (start_at s i) p (both_l (leb (start_at s i) p) (ltb p (stop_at s i)) e)
+  held-from e = leb-true (start_at s i) p (and_parts (leb (start_at s i) p) (ltb p (stop_at s i)) e).0
 
   held_to : holds s p i ≡ true → p < stop_at s i
-  held_to e = ltb-true p (stop_at s i) (both_r (leb (start_at s i) p) (ltb p (stop_at s i)) e)
+  held_to e = ltb-true p (stop_at s i) (and_parts (leb (start_at s i) p) (ltb p (stop_at s i)) e).1
 
   not-held : p < start_at s i → holds s p i ≡ false
   not-held h = rw (lt-leb (start_at s i) p h)

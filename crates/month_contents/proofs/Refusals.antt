@@ -7,9 +7,10 @@ use mathlib.Core.Bool.{true, false, ◌||◌}
 use lib.ListN.{length}
 use lib.Dec.{ltb}
 use borrow.Author.Tests.{lt-ltb, le-ltb, ltb-false, eqb-true, eq-eqb, not-false}
+use Rattle.std.proofs.lemmas.Bool.{or_parts}
 use Rattle.month_contents.specs.Below.{some_below, sum_below}
 use Rattle.month_contents.specs.Contents.{most_file, sections, body_length, contents_end, kind_wrong, body_wrong, not_filled, contents_wrong}
-use Rattle.month_contents.proofs.Below.{neither-l, neither-r, some-each, each-some}
+use Rattle.month_contents.proofs.Below.{some-each, each-some}
 
 module _ (s : List ℕ) where
   pub too_long : most_file < length s → true ≡ contents_wrong s
@@ -45,17 +46,17 @@ passed s e₁ =
     let bodies = some_below (sections s) (body_wrong s) in
     let after-3 = some_below (sections s) (kind_wrong s) || (bodies || not_filled s) in
     let after-2 = ltb (length s) (contents_end s) || after-3 in
-    let e₂ = neither-r (ltb most_file (length s)) (ltb (length s) 4 || after-2) e₁ in
-    let e₃ = neither-r (ltb (length s) 4) after-2 e₂ in
-    let e₄ = neither-r (ltb (length s) (contents_end s)) after-3 e₃ in
-    let e₅ = neither-r (some_below (sections s) (kind_wrong s)) (bodies || not_filled s) e₄ in
+    let e₂ = (or_parts (ltb most_file (length s)) (ltb (length s) 4 || after-2) e₁).1 in
+    let e₃ = (or_parts (ltb (length s) 4) after-2 e₂).1 in
+    let e₄ = (or_parts (ltb (length s) (contents_end s)) after-3 e₃).1 in
+    let e₅ = (or_parts (some_below (sections s) (kind_wrong s)) (bodies || not_filled s) e₄).1 in
     record {
-      most = ltb-false most_file (length s) (neither-l (ltb most_file (length s)) (ltb (length s) 4 || after-2) e₁);
-      least = ltb-false (length s) 4 (neither-l (ltb (length s) 4) after-2 e₂);
-      held = ltb-false (length s) (contents_end s) (neither-l (ltb (length s) (contents_end s)) after-3 e₃);
-      kinds = some-each (kind_wrong s) (sections s) (neither-l (some_below (sections s) (kind_wrong s)) (bodies || not_filled s) e₄);
-      bodies = some-each (body_wrong s) (sections s) (neither-l bodies (not_filled s) e₅);
-      full = eqb-true _ _ (not-false _ (neither-r bodies (not_filled s) e₅));
+      most = ltb-false most_file (length s) (or_parts (ltb most_file (length s)) (ltb (length s) 4 || after-2) e₁).0;
+      least = ltb-false (length s) 4 (or_parts (ltb (length s) 4) after-2 e₂).0;
+      held = ltb-false (length s) (contents_end s) (or_parts (ltb (length s) (contents_end s)) after-3 e₃).0;
+      kinds = some-each (kind_wrong s) (sections s) (or_parts (some_below (sections s) (kind_wrong s)) (bodies || not_filled s) e₄).0;
+      bodies = some-each (body_wrong s) (sections s) (or_parts bodies (not_filled s) e₅).0;
+      full = eqb-true _ _ (not-false _ (or_parts bodies (not_filled s) e₅).1);
     }
 
 pub not-wrong : (s : List ℕ) → Passed s → contents_wrong s ≡ false

@@ -2,7 +2,8 @@
 // Every function answers for every byte string. What a body holds is not asked here.
 #![tactic(auto)]
 
-ghost use Rattle.std.specs.Prelude.{◌≡◌};
+ghost use Rattle.std.specs.Prelude.{◌≡◌, ◌+◌, ◌≤◌};
+ghost use Rattle.base_bytes.specs.Bytes.{four_at};
 ghost use Rattle.month_contents.specs.Below.{some_below};
 ghost use Rattle.month_contents.specs.Contents.{is_known, sections, entry_at, kind_at, start_at, body_length, stop_at, contents_end, same_kind, kind_wrong, apart, overlap, body_wrong, not_filled, contents_wrong, section_of};
 
@@ -11,7 +12,8 @@ use base_bytes::{Part, read_four};
 // The most bytes of a file.
 pub const MOST_FILE: usize = 65536;
 
-// The section kinds: the fresh card's inputs, and the events. An entry's kind is any number of four bytes, so they are numbers.
+// The section kinds: the fresh card's inputs, and the events. An entry's kind is any number of four bytes, so they are numbers: entries of
+// unknown kind are compared too (`same_kind`).
 pub const FRESH: u32 = 1;
 
 pub const EVENTS: u32 = 2;
@@ -43,36 +45,38 @@ fn contents_end(s: &[u8]) -> usize
     entry_at(sections(s))
 }
 
+// A number of four bytes of an entry, by where it stands in it. An entry is asked by its number: the definitions of specs/Contents have a
+// figure of section i each.
+fn figure_at<const AT: usize>(s: &[u8], i: u32) -> u32
+    requires { AT ≤ 8 }
+    ensures { result ≡ four_at s.now (entry_at i + AT) }
+{
+    read_four(s, entry_at(i) + AT)
+}
+
 fn kind_at(s: &[u8], i: u32) -> u32
     ensures { result ≡ kind_at s.now i }
 {
-    read_four(s, entry_at(i))
+    figure_at::<0>(s, i)
 }
 
 fn start_at(s: &[u8], i: u32) -> usize
     ensures { result ≡ start_at s.now i }
 {
-    let at = entry_at(i) + 4;
-    let start = read_four(s, at);
-    start as usize
+    figure_at::<4>(s, i) as usize
 }
 
 fn body_length(s: &[u8], i: u32) -> usize
     ensures { result ≡ body_length s.now i }
 {
-    let at = entry_at(i) + 8;
-    let length = read_four(s, at);
-    length as usize
+    figure_at::<8>(s, i) as usize
 }
 
 // Where a body ends: a sum of two numbers of four bytes, which a usize holds.
 fn stop_at(s: &[u8], i: u32) -> usize
     ensures { result ≡ stop_at s.now i }
 {
-    let at = entry_at(i);
-    let start = read_four(s, at + 4) as usize;
-    let length = read_four(s, at + 8) as usize;
-    start + length
+    figure_at::<4>(s, i) as usize + figure_at::<8>(s, i) as usize
 }
 
 // Are two entries of one kind?

@@ -59,6 +59,7 @@ fn count(card: Card, body: &[u8], minutes: &mut [u32; MINUTES]) -> Tally
     let mut events: u32 = 0;
     let mut refused: u32 = 0;
     let mut at: usize = 0;
+    // No `for`: the place goes on by each event's own length.
     while let Some(event) = next_event(body, at) {
         ticks += time(event.call, own, minutes);
         let answer = answer_on_sound(card, event.call, body, &mut buf);

@@ -1,4 +1,5 @@
 -- Laws that the crates above cite.
+pub mod Opened
 pub mod Turns
 pub mod Numbers
 pub mod Written

@@ -13,6 +13,7 @@ use lib.Dec.{ltb}
 use borrow.Author.Tests.{lt-ltb, le-ltb, ltb-false}
 use Rattle.base_bytes.specs.Bytes.{byte, pair_at, four_at}
 use Rattle.std.proofs.lemmas.List.{drop-take}
+use Rattle.std.proofs.lemmas.Bool.{or_parts}
 use Rattle.base_choice.specs.Choice.{pick}
 use Rattle.base_choice.proofs.Branches.{on-lt}
 use Rattle.record_door.specs.Door as door
@@ -216,11 +217,7 @@ module _ (t : Event → Bool) (b : List ℕ) (e : Event) (r : List ℕ) (p : eve
   some_first = ap (some_event t) p
 
   pub none_first : some_event t (events_of b) ≡ false → (t e ≡ false) × (some_event t (events_of r) ≡ false)
-  none_first q = both (t e) (some_event t (events_of r)) (sym some_first ∙ q)
-    where
-      both : (x y : Bool) → (x || y) ≡ false → (x ≡ false) × (y ≡ false)
-      both true y e = absurd (false≢true (sym e))
-      both false y e = (refl, e)
+  none_first q = or_parts (t e) (some_event t (events_of r)) (sym some_first ∙ q)
 
 -- the event at a place, where the body does not end within it
 module _ (b : List ℕ) (at : ℕ) where

@@ -1,6 +1,6 @@
 // The events of an event file: their kinds, what is wrong with them, and the manager's call that each is (docs/EVENTS.md, 'The file').
 // Every function answers for every byte string. Nothing is run here.
-#![tactic(auto)]
+#![tactic(auto, unfolding(crate::proofs::Opened::kinds))]
 
 ghost use Rattle.std.specs.Prelude.{◌≡◌, ◌+◌, ◌≤◌, ◌<◌, length};
 ghost use Rattle.base_bytes.specs.Bytes.{between};
@@ -88,12 +88,9 @@ impl Kind {
 fn part(start: usize, stop: usize) -> Part
     ensures { result ≡ between start stop }
 {
-    if stop < start {
-        return Part { start, len: 0 };
-    }
     Part {
         start,
-        len: stop - start,
+        len: stop.saturating_sub(start),
     }
 }
 

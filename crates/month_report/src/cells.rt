@@ -21,13 +21,11 @@ fn put_figure(out: &mut Writer, size: usize, n: u32)
 fn share_lead(tenths: u64) -> usize
     ensures { result ≡ share_lead tenths }
 {
-    if tenths < 100 {
-        return 4;
+    match tenths {
+        0..=99 => 4,
+        100..=999 => 3,
+        _ => 2,
     }
-    if tenths < 1000 {
-        return 3;
-    }
-    2
 }
 
 fn put_percent(out: &mut Writer, tenths: u64)

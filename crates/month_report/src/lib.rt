@@ -15,6 +15,7 @@ use cells::{put_minutes, put_total};
 use month_tally::{LINES, MINUTES, Names, Tally};
 use text_aid::put_aid;
 
+// `explain` and `ticks` go apart: a total has no ticks, a share no `explain`.
 fn put_line(out: &mut Writer, explain: bool, ticks: u32, aid: Aid, minutes: u32)
     ensures { Written out.old (aid_line explain ticks aid minutes) out.new × (length (aid_line explain ticks aid minutes) ≤ most_report_line) }
 {
@@ -26,6 +27,7 @@ fn put_line(out: &mut Writer, explain: bool, ticks: u32, aid: Aid, minutes: u32)
 fn put_lines(out: &mut Writer, explain: bool, ticks: u32, names: &Names, minutes: &[u32; MINUTES])
     ensures { Written out.old (lines_text explain ticks minutes.now 0 (aids_in names.now)) out.new × (length (lines_text explain ticks minutes.now 0 (aids_in names.now)) ≤ most_lines * most_report_line) }
 {
+    // By number: an AID and its minutes stand at the same one.
     for i in 0..names.lines() {
         put_line(out, explain, ticks, names.aids[i], minutes[i]);
     }

@@ -15,7 +15,7 @@ pub const LINES: usize = 64;
 pub const MINUTES: usize = LINES + 1;
 
 // The AIDs that have a line, `count` of them, in the order in which each was first enabled; no AIDs after them. Whether there is one
-// more, which shares the line of the rest. The library's ArrayVec is no value to copy, and the theorems speak of `count` (`LinesShown`).
+// more, which shares the line of the rest. The library's ArrayVec is no value to copy, and `LinesShown` speaks of `count` and `more`.
 #[derive(Clone, Copy)]
 pub struct Names {
     pub aids: [Aid; LINES],
