@@ -162,6 +162,7 @@ fn write_text(explain: bool, answer: &Answer, response: &[u8], out: &mut [u8], a
 }
 
 // The answer of a call that hands in a card: it is sound exactly where the call is accepted, and it has no response.
+// Buffer and place, as in `write_text`.
 fn first_reply(explain: bool, answer: Answer, out: &mut [u8], at: usize) -> Turn
     ensures { (result.card ≡ answer.card) × ((result.sound ≡ is_done answer.status) × ((result.goes ≡ true) × (Wrote out.old at (answer_text explain answer []) result.filled out.new × (length (answer_text explain answer []) ≤ most_text)))) }
 {
@@ -175,17 +176,16 @@ fn first_reply(explain: bool, answer: Answer, out: &mut [u8], at: usize) -> Turn
 }
 
 // A call on a card known to be sound, or on one that has to be asked.
-fn answer_to(found: bool, card: Card, call: Call, bytes: &[u8], buf: &mut [u8]) -> Answer
-    ensures { Served buf.old (answer_to found card (call_of bytes.now (length buf.old) call)) result buf.new }
+fn answer_to(sound: bool, card: Card, call: Call, bytes: &[u8], buf: &mut [u8]) -> Answer
+    ensures { Served buf.old (answer_to sound card (call_of bytes.now (length buf.old) call)) result buf.new }
 {
-    if found {
+    if sound {
         return record_door::answer_on_sound(card, call, bytes, buf);
     }
     record_door::answer(card, call, bytes, buf)
 }
 
-// A call of the line, whose bytes and response stand in the buffers lent.
-// The memory is lent piece by piece: README names `take_line` and what it leaves in each.
+// A call of the line, whose bytes and response stand in the buffers lent, piece by piece as to `take_line`.
 fn call_reply(
     turn: Turn,
     explain: bool,
@@ -245,6 +245,7 @@ fn record_reply(turn: Turn, explain: bool, number: u64, words: Words<'_>, out: &
 }
 
 // Line `number` of a script. Two buffers are lent for a call's bytes and its response: what is in them before does not matter.
+// The memory is lent piece by piece: README names `take_line` and what it leaves in each.
 pub fn take_line(
     turn: Turn,
     explain: bool,
@@ -259,8 +260,8 @@ pub fn take_line(
     match read_line(s) {
         Ok(Order::Nothing) => passed_over(turn),
         Ok(Order::Fresh(asked)) => first_reply(explain, fresh(s, asked), out, turn.filled),
-        // `return`: the turn is not copied (docs/PERFORMANCE.md)
         Ok(Order::Call { call, room }) => {
+            // `return`: the turn is not copied (docs/PERFORMANCE.md)
             return call_reply(turn, explain, call, room, s, bytes, response, out);
         }
         Ok(Order::Record(at)) => record_reply(turn, explain, number, Words { line: s, at }, out),
