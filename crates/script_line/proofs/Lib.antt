@@ -1,3 +1,4 @@
--- What an order promises, and examples.
+-- What an order promises, examples, and what the functions' goals unfold.
+pub mod Opened
 pub mod Fits
 pub mod Examples

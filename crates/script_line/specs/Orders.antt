@@ -124,6 +124,18 @@ finished_at s at =
 abbrev pub record_words : ℕ
 record_words = 9 + most_places
 
+-- the least and the most words of a line, by its first
+abbrev pub words_for : Verb → ℕ × ℕ
+words_for verb.Fresh = (7, 7)
+words_for verb.Command = (3, 4)
+words_for verb.Keyed = (2, 2)
+words_for verb.Stored = (3, 3)
+words_for verb.Finished = (3, 4)
+words_for verb.Tick = (1, 1)
+words_for verb.Lost = (1, 1)
+words_for verb.Policy = (3, 4)
+words_for verb.Card = (record_words, record_words)
+
 -- by the first word, which ends at `at`, of n words
 unfoldable pub order_by : Verb → ℕ → List ℕ → ℕ → Result Order Reason
 order_by verb.Fresh n s at = words_counted 7 7 n (fresh_at s at)

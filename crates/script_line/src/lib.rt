@@ -1,9 +1,9 @@
 // What a line of a script means: the order that it gives, by its first word, or what is wrong with it. Every function answers for every line.
-#![tactic(auto)]
+#![tactic(auto, unfolding(crate::proofs::Opened::orders))]
 
 ghost use Rattle.std.specs.Prelude.{◌≡◌, ◌≤◌, Ok, IfOk};
 ghost use Rattle.script_words.specs.Words.{read_to, moved};
-ghost use Rattle.script_line.specs.Orders.{verb_of, count_ok, inner, value_or, sent_at, fresh_with, fresh_at, command_at, keyed_at, stored_at, finished_at, policy_line_at, order_by, order_of};
+ghost use Rattle.script_line.specs.Orders.{verb_of, count_ok, inner, value_or, sent_at, fresh_with, fresh_at, command_at, keyed_at, stored_at, finished_at, policy_line_at, words_for, order_by, order_of};
 
 use base_bytes::{Part, same};
 use card_record::Card;
@@ -54,8 +54,23 @@ pub enum Verb {
     Card,
 }
 
+impl Verb {
+    // A line of this verb has from so many words to so many, the verb among them.
+    fn words(self) -> (usize, usize)
+        ensures { result ≡ words_for self }
+    {
+        match self {
+            Verb::Tick | Verb::Lost => (1, 1),
+            Verb::Keyed => (2, 2),
+            Verb::Stored => (3, 3),
+            Verb::Command | Verb::Finished | Verb::Policy => (3, 4),
+            Verb::Fresh => (7, 7),
+            Verb::Card => (RECORD, RECORD),
+        }
+    }
+}
+
 // Word after word, as in the table of the definition: a `match` on the byte strings is proved byte by byte, and its goals stay open.
-#[tactic(auto, unfolding(crate::specs::Orders::verb_of, crate::specs::Orders::verb_in, base_choice::specs::Choice::pick))]
 fn verb_of(w: &[u8]) -> Option<Verb>
     ensures { result ≡ verb_of w.now }
 {
@@ -90,7 +105,6 @@ fn verb_of(w: &[u8]) -> Option<Verb>
 }
 
 // The line has from `least` to `most` words.
-#[tactic(auto, unfolding(crate::specs::Orders::count_ok, base_choice::specs::Choice::pick, base_choice::specs::Choice::is_below))]
 fn count_ok(least: usize, most: usize, n: usize) -> Result<(), Reason>
     ensures { result ≡ count_ok least most n }
 {
@@ -104,7 +118,6 @@ fn count_ok(least: usize, most: usize, n: usize) -> Result<(), Reason>
 }
 
 // CAPACITY QUOTA USED VOLATILE.
-#[tactic(auto, unfolding(crate::specs::Orders::fresh_with))]
 fn fresh_with(mut words: Words<'_>, eid: Part, aid: Part) -> Result<Order, Reason>
     ensures { result ≡ fresh_with words.entry.line.now words.entry.at eid aid }
 {
@@ -122,7 +135,6 @@ fn fresh_with(mut words: Words<'_>, eid: Part, aid: Part) -> Result<Order, Reaso
     }))
 }
 
-#[tactic(auto, unfolding(crate::specs::Orders::fresh_at))]
 fn fresh_order(mut words: Words<'_>) -> Result<Order, Reason>
     ensures { result ≡ fresh_at words.entry.line.now words.entry.at }
 {
@@ -132,7 +144,6 @@ fn fresh_order(mut words: Words<'_>) -> Result<Order, Reason>
 }
 
 // The last word, a number, which may be missing and then counts as `missing`.
-#[tactic(auto, unfolding(crate::specs::Orders::value_or))]
 fn next_or(words: &mut Words<'_>, missing: u32, most: u32) -> Result<u32, Reason>
     ensures found { read_to result words.new.at ≡ value_or missing most words.old.line.now words.old.at }
     ensures within { missing ≤ most → IfOk result (λ n. n ≤ most) }
@@ -151,7 +162,6 @@ pub struct Sent {
     pub room: usize,
 }
 
-#[tactic(auto, unfolding(crate::specs::Orders::sent_at))]
 fn next_sent(mut words: Words<'_>) -> Result<Sent, Reason>
     ensures { result ≡ sent_at words.entry.line.now words.entry.at }
 {
@@ -163,7 +173,6 @@ fn next_sent(mut words: Words<'_>) -> Result<Sent, Reason>
     })
 }
 
-#[tactic(auto, unfolding(crate::specs::Orders::command_at))]
 fn command_order(mut words: Words<'_>) -> Result<Order, Reason>
     ensures { result ≡ command_at words.entry.line.now words.entry.at }
 {
@@ -176,7 +185,6 @@ fn command_order(mut words: Words<'_>) -> Result<Order, Reason>
     Ok(Order::Call { call, room })
 }
 
-#[tactic(auto, unfolding(crate::specs::Orders::policy_line_at))]
 fn policy_order(mut words: Words<'_>) -> Result<Order, Reason>
     ensures { result ≡ policy_line_at words.entry.line.now words.entry.at }
 {
@@ -193,7 +201,6 @@ fn inner(call: Call) -> Order
     Order::Call { call, room: 0 }
 }
 
-#[tactic(auto, unfolding(crate::specs::Orders::keyed_at))]
 fn keyed_order(mut words: Words<'_>) -> Result<Order, Reason>
     ensures { result ≡ keyed_at words.entry.line.now words.entry.at }
 {
@@ -201,7 +208,6 @@ fn keyed_order(mut words: Words<'_>) -> Result<Order, Reason>
     Ok(inner(Call::Keyed(aid)))
 }
 
-#[tactic(auto, unfolding(crate::specs::Orders::stored_at))]
 fn stored_order(mut words: Words<'_>) -> Result<Order, Reason>
     ensures { result ≡ stored_at words.entry.line.now words.entry.at }
 {
@@ -210,7 +216,6 @@ fn stored_order(mut words: Words<'_>) -> Result<Order, Reason>
     Ok(inner(Call::Stored { aid, n }))
 }
 
-#[tactic(auto, unfolding(crate::specs::Orders::finished_at))]
 fn finished_order(mut words: Words<'_>) -> Result<Order, Reason>
     ensures { result ≡ finished_at words.entry.line.now words.entry.at }
 {
@@ -225,52 +230,26 @@ fn finished_order(mut words: Words<'_>) -> Result<Order, Reason>
 }
 
 // The order by its first word, of a line of n words.
-#[tactic(auto, unfolding(crate::specs::Orders::order_by, crate::specs::Orders::words_counted))]
+// A match and no table of functions: each verb has its own reader.
 fn order_by(verb: Verb, n: usize, words: Words<'_>) -> Result<Order, Reason>
     ensures { result ≡ order_by verb n words.entry.line.now words.entry.at }
 {
+    let (least, most) = verb.words();
+    count_ok(least, most, n)?;
     match verb {
-        Verb::Fresh => {
-            count_ok(7, 7, n)?;
-            fresh_order(words)
-        }
-        Verb::Command => {
-            count_ok(3, 4, n)?;
-            command_order(words)
-        }
-        Verb::Keyed => {
-            count_ok(2, 2, n)?;
-            keyed_order(words)
-        }
-        Verb::Stored => {
-            count_ok(3, 3, n)?;
-            stored_order(words)
-        }
-        Verb::Finished => {
-            count_ok(3, 4, n)?;
-            finished_order(words)
-        }
-        Verb::Tick => {
-            count_ok(1, 1, n)?;
-            Ok(inner(Call::Tick))
-        }
-        Verb::Lost => {
-            count_ok(1, 1, n)?;
-            Ok(inner(Call::Lost))
-        }
-        Verb::Policy => {
-            count_ok(3, 4, n)?;
-            policy_order(words)
-        }
-        Verb::Card => {
-            count_ok(RECORD, RECORD, n)?;
-            Ok(Order::Record(words.at))
-        }
+        Verb::Fresh => fresh_order(words),
+        Verb::Command => command_order(words),
+        Verb::Keyed => keyed_order(words),
+        Verb::Stored => stored_order(words),
+        Verb::Finished => finished_order(words),
+        Verb::Tick => Ok(inner(Call::Tick)),
+        Verb::Lost => Ok(inner(Call::Lost)),
+        Verb::Policy => policy_order(words),
+        Verb::Card => Ok(Order::Record(words.at)),
     }
 }
 
 // What a line says, given without its line end.
-#[tactic(auto, unfolding(crate::specs::Orders::order_of, base_choice::specs::Choice::pick, base_choice::specs::Choice::is_below, base_choice::specs::Choice::is_same))]
 pub fn read_line(s: &[u8]) -> Result<Order, Reason>
     ensures { result ≡ order_of s.now }
 {
