@@ -10,9 +10,6 @@ pub and_r : (a b : Bool) → (a && b) ≡ true → b ≡ true
 and_r true b e = e
 and_r false b e = absurd (false≢true e)
 
-pub both : (a b : Bool) → a ≡ true → b ≡ true → (a && b) ≡ true
-both a b e f = rw (e, f)
-
 pub or_l : (a b : Bool) → (a || b) ≡ false → a ≡ false
 or_l true b e = e
 or_l false b e = refl

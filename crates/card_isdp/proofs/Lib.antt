@@ -1,4 +1,5 @@
 -- Laws that several proofs cite.
+pub mod Opened
 pub mod Bools
 pub mod Bytes
 pub mod Policies

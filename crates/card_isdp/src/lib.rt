@@ -1,6 +1,6 @@
 // One ISD-P as the card holds it: AID, life cycle, quota, used bytes, policy and mark, and the tests on it alone.
 // A place that is not held is the record of zeros; every function answers for every record, sound or not.
-#![tactic(auto)]
+#![tactic(auto, unfolding(crate::proofs::Opened::places))]
 
 ghost use Rattle.std.specs.Prelude.{◌≡◌, cond, ◌&&◌, ◌+◌, ◌/◌, ◌%◌, ◌≤◌, length, drop, leb, ltb, eqb};
 ghost use Rattle.card_isdp.specs.Sizes.{most_aid};
@@ -59,7 +59,6 @@ pub fn aid_ok(aid: &[u8]) -> bool
 }
 
 // The first sixteen bytes of the AID, with zeros after them where it is shorter.
-#[tactic(auto, unfolding(crate::specs::Aids::padded))]
 pub fn pad(aid: &[u8]) -> [u8; 16]
     ensures { result ≡ padded aid.now }
 {
@@ -183,7 +182,6 @@ fn held_ok(p: &Isdp, capacity: u32) -> bool
 }
 
 // The sizes and codings of one place.
-#[tactic(auto, unfolding(crate::specs::Place::place_ok))]
 pub fn place_ok(p: &Isdp, capacity: u32) -> bool
     ensures { result ≡ place_ok capacity p.now }
 {
@@ -195,7 +193,6 @@ pub fn place_ok(p: &Isdp, capacity: u32) -> bool
 }
 
 // Is the place held, with this AID?
-#[tactic(auto, unfolding(crate::specs::Place::is_for))]
 pub fn is_for(p: &Isdp, aid: &[u8]) -> bool
     ensures { result ≡ is_for aid.now p.now }
 {
@@ -203,7 +200,6 @@ pub fn is_for(p: &Isdp, aid: &[u8]) -> bool
 }
 
 // Are the two places held with one AID?
-#[tactic(auto, unfolding(crate::specs::Place::clash))]
 pub fn clashes(p: &Isdp, q: &Isdp) -> bool
     ensures { result ≡ clash p.now q.now }
 {

@@ -1,4 +1,5 @@
 -- Laws that several proofs cite: of the loops, of the searches, of switching, and of what steps keep.
+pub mod Opened
 pub mod Library
 pub mod Turns
 pub mod Seeks

@@ -8,11 +8,12 @@ use mathlib.Core.Bool.{Bool, true, false, cond}
 use lib.ListN.{length}
 use lib.Dec.{eqb}
 use borrow.Author.Tests.{eqb-true, eqb-false}
+use Rattle.std.proofs.lemmas.Bool.{and_from}
 use Rattle.card_isdp.specs.LifeCycle.{disabled, enabled, is_enabled, is_finished, with_life, off}
 use Rattle.card_isdp.specs.Provisioning.{marked, may_be_fall_back}
 use Rattle.card_isdp.specs.Place.{is_for, place_ok, clash}
 use Rattle.card_isdp.specs.declared.Isdp.{Isdp}
-use Rattle.card_isdp.proofs.Bools.{and_l, and_r, both}
+use Rattle.card_isdp.proofs.Bools.{and_l, and_r}
 use Rattle.card_isdp.proofs.Placed.{relife, off-ok}
 use Rattle.card_places.specs.Places.{at, quotas, all_of, any_of, count_of, distinct, all_off, enable_at}
 
@@ -108,13 +109,13 @@ within (p ∷ ps) (suc i) n = let h = within ps i n in omega arith
 pub all-off-ok : (k : ℕ) (l : List Isdp) → all_of (place_ok k) l ≡ true → all_of (place_ok k) (all_off l) ≡ true
 unfolding all_of all_off
 all-off-ok k [] o = refl
-all-off-ok k (p ∷ ps) o = both _ _ (off-ok k p (and_l (place_ok k p) _ o)) (all-off-ok k ps (and_r (place_ok k p) _ o))
+all-off-ok k (p ∷ ps) o = and_from _ _ (off-ok k p (and_l (place_ok k p) _ o)) (all-off-ok k ps (and_r (place_ok k p) _ o))
 
 pub enable-ok : (k : ℕ) (l : List Isdp) (i : ℕ) → eqb (at l i).life 0 ≡ false → all_of (place_ok k) l ≡ true → all_of (place_ok k) (enable_at l i) ≡ true
 unfolding all_of enable_at
 enable-ok k [] i n o = refl
-enable-ok k (p ∷ ps) zero n o = both _ _ (relife k p enabled n refl (and_l (place_ok k p) _ o)) (all-off-ok k ps (and_r (place_ok k p) _ o))
-enable-ok k (p ∷ ps) (suc i) n o = both _ _ (off-ok k p (and_l (place_ok k p) _ o)) (enable-ok k ps i n (and_r (place_ok k p) _ o))
+enable-ok k (p ∷ ps) zero n o = and_from _ _ (relife k p enabled n refl (and_l (place_ok k p) _ o)) (all-off-ok k ps (and_r (place_ok k p) _ o))
+enable-ok k (p ∷ ps) (suc i) n o = and_from _ _ (off-ok k p (and_l (place_ok k p) _ o)) (enable-ok k ps i n (and_r (place_ok k p) _ o))
 
 -- a profile that is DISABLED or ENABLED stays one of the two
 off-done-case : (v : ℕ) (b : Bool) → is_finished v ≡ true → is_finished (cond b disabled v) ≡ true
@@ -128,5 +129,5 @@ done-case l i j false e h d = rw (enable-other l i j (eqb-false j i e)) (off-don
 -- so what may be the fall-back still may
 pub enable-resort : (l : List Isdp) (i j : ℕ) → i < length l → may_be_fall_back (at l j) ≡ true → may_be_fall_back (at (enable_at l i) j) ≡ true
 enable-resort l i j h d =
-    both _ _ (done-case l i j (eqb j i) refl h (and_l _ _ d))
+    and_from _ _ (done-case l i j (eqb j i) refl h (and_l _ _ d))
     (ap marked (lives_at (enable-lives l i) j) ∙ and_r (is_finished (at l j).life) _ d)

@@ -7,24 +7,21 @@ use mathlib.Core.List.{List, [], ◌∷◌}
 use mathlib.Core.Bool.{Bool, true, false, not, cond, false≢true}
 use lib.ListN.{length}
 use borrow.Author.Tests.{not-true}
+use Rattle.std.proofs.lemmas.Bool.{and_from, false_from_ne_true}
 use Rattle.base_bytes.proofs.Alike.{same_true, same_self}
 use Rattle.card_isdp.specs.Aids.{aid_of}
 use Rattle.card_isdp.specs.LifeCycle.{is_enabled}
 use Rattle.card_isdp.specs.Place.{vacant, held, is_for, clash}
 use Rattle.card_isdp.specs.declared.Isdp.{Isdp}
 use Rattle.card_isdp.proofs.Alike.{clash-none}
-use Rattle.card_isdp.proofs.Bools.{and_l, and_r, or_l, or_r, both}
+use Rattle.card_isdp.proofs.Bools.{and_l, and_r, or_l, or_r}
 use Rattle.card_places.specs.Places.{at, all_of, any_of, count_of, distinct}
-
-refuted : (b : Bool) → (b ≡ true → ⊥) → b ≡ false
-refuted true h = absurd (h refl)
-refuted false h = refl
 
 module _ (t : Isdp → Bool) where
   pub all-by : (l : List Isdp) → ((i : ℕ) → i < length l → t (at l i) ≡ true) → all_of t l ≡ true
   unfolding all_of
   all-by [] h = refl
-  all-by (p ∷ ps) h = both _ _ (h zero (omega arith)) (all-by ps (λ i k. h (suc i) (omega arith)))
+  all-by (p ∷ ps) h = and_from _ _ (h zero (omega arith)) (all-by ps (λ i k. h (suc i) (omega arith)))
 
   any_at : t vacant ≡ false → (l : List Isdp) → any_of t l ≡ false → (i : ℕ) → t (at l i) ≡ false
   unfolding any_of
@@ -46,9 +43,9 @@ module _ (t : Isdp → Bool) where
   pub count-one : t vacant ≡ false → (l : List Isdp) (e : ℕ) → t (at l e) ≡ true → ((i j : ℕ) → t (at l i) ≡ true → t (at l j) ≡ true → i ≡ j) → count_of t l ≡ 1
   unfolding count_of
   count-one n [] e v h = absurd (false≢true (sym n ∙ v))
-  count-one n (p ∷ ps) zero v h = rw (v, count_none ps (λ i. refuted _ (λ w. let z = h zero (suc i) v w in omega arith))) refl
+  count-one n (p ∷ ps) zero v h = rw (v, count_none ps (λ i. false_from_ne_true _ (λ w. let z = h zero (suc i) v w in omega arith))) refl
   count-one n (p ∷ ps) (suc e) v h =
-      rw (refuted (t p) (λ w. let z = h zero (suc e) w v in omega arith), count-one n ps e v (λ i j v' w. let z = h (suc i) (suc j) v' w in omega arith)) refl
+      rw (false_from_ne_true (t p) (λ w. let z = h zero (suc e) w v in omega arith), count-one n ps e v (λ i j v' w. let z = h (suc i) (suc j) v' w in omega arith)) refl
 
 some : (l : List Isdp) (i : ℕ) → is_enabled (at l i) ≡ true → 1 ≤ count_of is_enabled l
 unfolding count_of
@@ -101,5 +98,5 @@ pub distinct-by : (l : List Isdp) → ((i j : ℕ) → held (at l i) ≡ true �
 unfolding distinct
 distinct-by [] h = refl
 distinct-by (p ∷ ps) h =
-    rw (any-by (clash p) ps (λ i. refuted _ (λ e. let c = clashed p (at ps i) e in let z = h zero (suc i) c.0 c.1 c.2 in omega arith)))
+    rw (any-by (clash p) ps (λ i. false_from_ne_true _ (λ e. let c = clashed p (at ps i) e in let z = h zero (suc i) c.0 c.1 c.2 in omega arith)))
     (distinct-by ps (λ i j v w e. let z = h (suc i) (suc j) v w e in omega arith))

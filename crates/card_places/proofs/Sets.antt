@@ -7,17 +7,18 @@ use mathlib.Core.List.{List, [], ◌∷◌}
 use mathlib.Core.Bool.{Bool, true, false, not}
 use lib.ListN.{length, set}
 use borrow.Author.Tests.{not-true}
+use Rattle.std.proofs.lemmas.Bool.{and_from}
 use Rattle.card_isdp.specs.Place.{vacant, clash}
 use Rattle.card_isdp.specs.declared.Isdp.{Isdp}
-use Rattle.card_isdp.proofs.Bools.{and_l, and_r, both, or_l, or_r}
+use Rattle.card_isdp.proofs.Bools.{and_l, and_r, or_l, or_r}
 use Rattle.card_isdp.proofs.Alike.{clash-left, clash-right, clash-none, none-clash}
 use Rattle.card_places.specs.Places.{at, seek, quotas, all_of, any_of, count_of, distinct}
 
 pub set_all : (t : Isdp → Bool) (x : Isdp) → t x ≡ true → (l : List Isdp) (i : ℕ) → all_of t l ≡ true → all_of t (set l i x) ≡ true
 unfolding all_of
 set_all t x y [] i o = refl
-set_all t x y (p ∷ ps) zero o = both _ _ y (and_r (t p) _ o)
-set_all t x y (p ∷ ps) (suc i) o = both _ _ (and_l (t p) _ o) (set_all t x y ps i (and_r (t p) _ o))
+set_all t x y (p ∷ ps) zero o = and_from _ _ y (and_r (t p) _ o)
+set_all t x y (p ∷ ps) (suc i) o = and_from _ _ (and_l (t p) _ o) (set_all t x y ps i (and_r (t p) _ o))
 
 pub set-any : (t : Isdp → Bool) (x : Isdp) → t x ≡ false → (l : List Isdp) (i : ℕ) → any_of t l ≡ false → any_of t (set l i x) ≡ false
 unfolding any_of

@@ -1,6 +1,6 @@
 // The card's places, searched and written over as a whole: nothing here knows of a phase or a command.
 // Every search answers for every record; a place's number is a byte, and past the last place it reads as a place that is not held.
-#![tactic(auto)]
+#![tactic(auto, unfolding(crate::proofs::Opened::searches))]
 
 ghost use Rattle.std.specs.Prelude.{◌≡◌, ◌&&◌, ◌+◌, ◌<◌, IfSome, set, drop, eqb};
 ghost use Rattle.card_isdp.specs.Sizes.{most_places};
@@ -90,7 +90,6 @@ pub fn leave(places: &[Isdp; PLACES], capacity: u32, free: u32) -> bool
     free == left
 }
 
-#[tactic(auto, unfolding(crate::specs::Places::all_of))]
 pub fn all_ok(places: &[Isdp; PLACES], capacity: u32) -> bool
     ensures { result ≡ all_of (place_ok capacity) places.now }
 {
@@ -98,7 +97,6 @@ pub fn all_ok(places: &[Isdp; PLACES], capacity: u32) -> bool
 }
 
 // Does a place from `from` on bear the AID of `p`?
-#[tactic(auto, unfolding(crate::specs::Places::any_of))]
 fn again(places: &[Isdp; PLACES], p: &Isdp, from: usize) -> bool
     ensures { result ≡ any_of (clash p.now) (drop from places.now) }
 {
@@ -106,7 +104,6 @@ fn again(places: &[Isdp; PLACES], p: &Isdp, from: usize) -> bool
 }
 
 // The hash of an AID.
-#[tactic(auto, unfolding(crate::specs::Hashes::hash_of))]
 fn hash_of(aid: &[u8]) -> usize
     ensures { (result ≡ hash_of aid.now) × (result < hashes) }
 {

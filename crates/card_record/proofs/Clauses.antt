@@ -8,11 +8,12 @@ use mathlib.Core.Bool.{Bool, true, false, not, ◌||◌, false≢true, or-true}
 use lib.ListN.{length}
 use lib.Dec.{eqb}
 use borrow.Author.Tests.{eq-eqb, ne_eqb, eqb-true, eqb-false, not-true}
+use Rattle.std.proofs.lemmas.Bool.{and_from}
 use Rattle.card_isdp.specs.LifeCycle.{is_enabled, is_finished}
 use Rattle.card_isdp.specs.Place.{held, place_ok}
 use Rattle.card_isdp.specs.declared.Isdp.{Isdp}
 use Rattle.card_isdp.specs.Clauses.{RightPlace}
-use Rattle.card_isdp.proofs.Bools.{and_l, and_r, both}
+use Rattle.card_isdp.proofs.Bools.{and_l, and_r}
 use Rattle.card_isdp.proofs.Clauses.{place-clauses}
 use Rattle.card_places.specs.Places.{quotas}
 use Rattle.card_places.proofs.Sets.{all-at}
@@ -128,7 +129,7 @@ module _ (c : Card) (s : Clauses c) where
         };
         roles = record {
           one = count-one is_enabled refl c.places e.0 (eq-eqb _ 0x3F e.1) (λ i j v w. s.no_other i j (eqb-true _ 0x3F v) (eqb-true _ 0x3F w));
-          resort = both _ _ (of-finished _ s.fall-back-finished) (eq-eqb _ 1 s.fall-back-marked);
+          resort = and_from _ _ (of-finished _ s.fall-back-finished) (eq-eqb _ 1 s.fall-back-marked);
           listing = of-kept c s.kept-held;
         };
         phased = phase-enough c.phase s.phase-clauses;

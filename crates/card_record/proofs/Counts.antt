@@ -8,6 +8,7 @@ use mathlib.Core.Bool.{Bool, true, false, cond, false≢true}
 use lib.ListN.{length}
 use lib.Dec.{ltb, eqb}
 use borrow.Author.Tests.{eqb-true, eqb-false, ltb-true, ltb-false}
+use Rattle.std.proofs.lemmas.Bool.{cond_both}
 use Rattle.card_isdp.specs.Sizes.{wait}
 use Rattle.card_isdp.specs.LifeCycle.{is_enabled}
 use Rattle.card_isdp.specs.declared.Isdp.{Isdp}
@@ -20,7 +21,7 @@ use Rattle.card_record.specs.Ticks.{steps_in, ticks_to_come, ticks_in, ticks_by_
 use Rattle.card_record.specs.declared.Card.{Card}
 use Rattle.card_record.specs.declared.Phase.{Phase}
 use Rattle.card_record.specs.declared.Phase.TheVariants.{Quiet, Trial, Back, Fallen}
-use Rattle.card_record.proofs.Sounds.{Phased, Sound, parts, choose, tick-sound, nonzero}
+use Rattle.card_record.proofs.Sounds.{Phased, Sound, parts, tick-sound, nonzero}
 
 -- after place i is enabled, place f is enabled exactly where it is i
 after-case : (l : List Isdp) (i f : ℕ) (b : Bool) → eqb i f ≡ b → i < length l → is_enabled (at (enable_at l i) f) ≡ b
@@ -35,15 +36,15 @@ drop-case : (c : Card) (p : Phase) → Sound c → Phased p c → is_quiet p ≡
 unfolding ticks_by_phase
 drop-case c Quiet s h o = absurd (false≢true (sym o))
 drop-case c (Trial q l n) s h o =
-    choose (λ d. ticks_in (Trial q l n) c ≡ suc (ticks_by_phase d)) (ltb 1 l) _ _
+    cond_both (ltb 1 l) _ _ (λ d. ticks_in (Trial q l n) c ≡ suc (ticks_by_phase d))
     (λ b. let k = ltb-true 1 l b in omega arith)
     (λ b. let k = ltb-false 1 l b in let w = h.0.low in rw (after c.places q c.fallback (within c.places q (nonzero _ 30 h.1))) (omega arith))
 drop-case c (Back l n) s h o =
-    choose (λ d. ticks_in (Back l n) c ≡ suc (ticks_by_phase d)) (ltb 1 l) _ _
+    cond_both (ltb 1 l) _ _ (λ d. ticks_in (Back l n) c ≡ suc (ticks_by_phase d))
     (λ b. let k = ltb-true 1 l b in omega arith)
-    (λ b. let k = ltb-false 1 l b in choose (λ d. ticks_in (Back l n) c ≡ suc (ticks_by_phase d)) (on_fallback c) _ _ (λ e. let w = h.low in rw e (omega arith)) (λ e. let w = h.low in rw e (omega arith)))
+    (λ b. let k = ltb-false 1 l b in cond_both (on_fallback c) _ _ (λ d. ticks_in (Back l n) c ≡ suc (ticks_by_phase d)) (λ e. let w = h.low in rw e (omega arith)) (λ e. let w = h.low in rw e (omega arith)))
 drop-case c (Fallen l n) s h o =
-    choose (λ d. ticks_in (Fallen l n) c ≡ suc (ticks_by_phase d)) (ltb 1 l) _ _
+    cond_both (ltb 1 l) _ _ (λ d. ticks_in (Fallen l n) c ≡ suc (ticks_by_phase d))
     (λ b. let k = ltb-true 1 l b in omega arith)
     (λ b. let k = ltb-false 1 l b in let w = h.0.low in omega arith)
 

@@ -6,6 +6,7 @@ use native.Mathlib.Omega.{arith}
 use lib.ListN.{length}
 use mathlib.Core.Bool.{true}
 use lib.Dec.{ltb}
+use Rattle.std.proofs.lemmas.Bool.{cond_both}
 use Rattle.card_isdp.specs.Place.{vacant}
 use Rattle.card_isdp.specs.declared.Isdp.{Isdp}
 use Rattle.card_places.specs.Places.{at, quotas, enable_at}
@@ -18,7 +19,7 @@ use Rattle.card_record.specs.Free.{FreeTrue, FreeKept}
 use Rattle.card_record.specs.declared.Card.{Card}
 use Rattle.card_record.specs.declared.Phase.{Phase}
 use Rattle.card_record.specs.declared.Phase.TheVariants.{Quiet, Trial, Back, Fallen}
-use Rattle.card_record.proofs.Sounds.{parts, choose}
+use Rattle.card_record.proofs.Sounds.{parts}
 
 -- free and the quotas make up the capacity: the equation of soundness
 abbrev pub Even : Card → Type 0
@@ -59,7 +60,7 @@ moving i c e = rw (lives-quotas (enable-lives c.places i)) e
 
 confirm-case : (c : Card) (p : Phase) → Even c → Even (confirm_in p c)
 confirm-case c Quiet e = e
-confirm-case c (Trial q l n) e = choose Even (dropped c q) _ _ (λ b. deletion q (with_phase c Quiet) e) (λ b. e)
+confirm-case c (Trial q l n) e = cond_both (dropped c q) _ _ Even (λ b. deletion q (with_phase c Quiet) e) (λ b. e)
 confirm-case c (Back l n) e = e
 confirm-case c (Fallen l n) e = e
 
@@ -69,10 +70,10 @@ confirmation c e = confirm-case c c.phase e
 
 tick-case : (c : Card) (p : Phase) → Even c → Even (tick_in p c)
 tick-case c Quiet e = e
-tick-case c (Trial q l n) e = choose Even (ltb 1 l) _ _ (λ b. e) (λ b. moving q c e)
+tick-case c (Trial q l n) e = cond_both (ltb 1 l) _ _ Even (λ b. e) (λ b. moving q c e)
 tick-case c (Back l n) e =
-    choose Even (ltb 1 l) _ _ (λ b. e) (λ b. choose Even (on_fallback c) _ _ (λ f. e) (λ f. moving c.fallback c e))
-tick-case c (Fallen l n) e = choose Even (ltb 1 l) _ _ (λ b. e) (λ b. e)
+    cond_both (ltb 1 l) _ _ Even (λ b. e) (λ b. cond_both (on_fallback c) _ _ Even (λ f. e) (λ f. moving c.fallback c e))
+tick-case c (Fallen l n) e = cond_both (ltb 1 l) _ _ Even (λ b. e) (λ b. e)
 
 tick : (c : Card) → Even c → Even (tick_of c)
 unfolding tick_of
@@ -80,7 +81,7 @@ tick c e = tick-case c c.phase e
 
 lost : (c : Card) → Even c → Even (without_network c)
 unfolding without_network
-lost c e = choose Even (is_quiet c.phase) _ _ (λ q. choose Even (on_fallback c) _ _ (λ f. e) (λ f. moving c.fallback c e)) (λ q. e)
+lost c e = cond_both (is_quiet c.phase) _ _ Even (λ q. cond_both (on_fallback c) _ _ Even (λ f. e) (λ f. moving c.fallback c e)) (λ q. e)
 
 pub free-kept : FreeKept
 free-kept =

@@ -7,6 +7,7 @@ use mathlib.Core.Bool.{Bool, true, false, cond, false≢true}
 use lib.ListN.{set}
 use lib.Dec.{ltb, eqb}
 use borrow.Author.Tests.{eq-eqb, ne_eqb}
+use Rattle.std.proofs.lemmas.Bool.{cond_both}
 use Rattle.card_isdp.specs.Sizes.{wait}
 use Rattle.card_isdp.specs.Aids.{no_aid}
 use Rattle.card_isdp.specs.LifeCycle.{disabled, is_enabled}
@@ -22,7 +23,7 @@ use Rattle.card_record.specs.declared.Card.{Card}
 use Rattle.card_record.specs.declared.Phase.{Phase}
 use Rattle.card_record.specs.declared.Phase.TheVariants.{Quiet, Trial, Back, Fallen}
 use Rattle.card_record.proofs.Numbers.{next-differs}
-use Rattle.card_record.proofs.Sounds.{Phased, Sound, parts, choose}
+use Rattle.card_record.proofs.Sounds.{Phased, Sound, parts}
 
 -- where neither the old nor the new profile at a place is enabled, the search finds the same one
 skip-case : (x p : Isdp) (ps : List Isdp) (a b : Bool) → is_enabled x ≡ a → is_enabled x ≡ false → is_enabled p ≡ b → is_enabled p ≡ false → at (x ∷ ps) (cond a 0 (suc (seek is_enabled ps))) ≡ at (p ∷ ps) (cond b 0 (suc (seek is_enabled ps)))
@@ -80,22 +81,22 @@ module _ (c : Card) (s : Sound c) (gone : Aid) where
 
   ticks : (p : Phase) → After (tick_in p c)
   ticks Quiet = idle
-  ticks (Trial q l n) = choose After (ltb 1 l) _ _ (λ b. rephases _) (λ b. tells q _ (entered q _))
+  ticks (Trial q l n) = cond_both (ltb 1 l) _ _ After (λ b. rephases _) (λ b. tells q _ (entered q _))
   ticks (Back l n) =
-      choose After (ltb 1 l) _ _ (λ b. rephases _) (λ b. choose After (on_fallback c) _ _ (λ e. rephases _) (λ e. falls))
-  ticks (Fallen l n) = choose After (ltb 1 l) _ _ (λ b. rephases _) (λ b. rephases _)
+      cond_both (ltb 1 l) _ _ After (λ b. rephases _) (λ b. cond_both (on_fallback c) _ _ After (λ e. rephases _) (λ e. falls))
+  ticks (Fallen l n) = cond_both (ltb 1 l) _ _ After (λ b. rephases _) (λ b. rephases _)
 
   loses : After (cond (is_quiet c.phase) (cond (on_fallback c) (forgotten c) (fallen c)) (forgotten c))
   loses =
-      choose After (is_quiet c.phase) _ _
-      (λ q. choose After (on_fallback c) _ _ (λ e. idle) (λ e. falls)) (λ q. idle)
+      cond_both (is_quiet c.phase) _ _ After
+      (λ q. cond_both (on_fallback c) _ _ After (λ e. idle) (λ e. falls)) (λ q. idle)
 
   clears : (i : ℕ) → (at c.places i).life ≡ disabled → After (cleared (with_phase c Quiet) i)
   clears i h = unmoved c _ gone refl (ap (λ (p : Isdp). p.aid) (found-kept _ refl c.places i (rw h)))
 
   closes : (p : Phase) → Phased p c → After (confirm_in p c)
   closes Quiet h = rephases _
-  closes (Trial q l n) h = choose After (dropped c q) _ _ (λ b. clears q h.1) (λ b. rephases _)
+  closes (Trial q l n) h = cond_both (dropped c q) _ _ After (λ b. clears q h.1) (λ b. rephases _)
   closes (Back l n) h = rephases _
   closes (Fallen l n) h = rephases _
 

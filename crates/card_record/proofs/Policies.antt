@@ -5,6 +5,7 @@ use Prim.Native.Nat.{ℕ, zero, suc, ◌-◌}
 use mathlib.Core.List.{List, [], ◌∷◌}
 use mathlib.Core.Bool.{Bool, true, false, cond}
 use lib.Dec.{ltb}
+use Rattle.std.proofs.lemmas.Bool.{cond_both}
 use Rattle.card_isdp.specs.Sizes.{wait}
 use Rattle.card_isdp.specs.declared.Isdp.{Isdp}
 use Rattle.card_places.specs.Places.{at, all_off, enable_at}
@@ -15,7 +16,6 @@ use Rattle.card_record.specs.Policies.{repolicy, with_policies, NoPolicyAsked}
 use Rattle.card_record.specs.declared.Card.{Card}
 use Rattle.card_record.specs.declared.Phase.{Phase}
 use Rattle.card_record.specs.declared.Phase.TheVariants.{Quiet, Trial, Back, Fallen}
-use Rattle.card_record.proofs.Sounds.{choose}
 
 off-blind : (bs : List ℕ) (l : List Isdp) → all_off (repolicy bs l) ≡ repolicy bs (all_off l)
 unfolding all_off repolicy
@@ -68,11 +68,11 @@ Keeps j c d = (at d.places j).aid.len ≡ (at c.places j).aid.len
 
 tick-keeps : (j : ℕ) (c : Card) (p : Phase) → Keeps j c (tick_in p c)
 tick-keeps j c Quiet = refl
-tick-keeps j c (Trial q l n) = choose (Keeps j c) (ltb 1 l) _ _ (λ b. refl) (λ b. moved_keeps c.places q j)
+tick-keeps j c (Trial q l n) = cond_both (ltb 1 l) _ _ (Keeps j c) (λ b. refl) (λ b. moved_keeps c.places q j)
 tick-keeps j c (Back l n) =
-    choose (Keeps j c) (ltb 1 l) _ _ (λ b. refl)
-    (λ b. choose (Keeps j c) (on_fallback c) _ _ (λ e. refl) (λ e. moved_keeps c.places c.fallback j))
-tick-keeps j c (Fallen l n) = choose (Keeps j c) (ltb 1 l) _ _ (λ b. refl) (λ b. refl)
+    cond_both (ltb 1 l) _ _ (Keeps j c) (λ b. refl)
+    (λ b. cond_both (on_fallback c) _ _ (Keeps j c) (λ e. refl) (λ e. moved_keeps c.places c.fallback j))
+tick-keeps j c (Fallen l n) = cond_both (ltb 1 l) _ _ (Keeps j c) (λ b. refl) (λ b. refl)
 
 tick-deletes-nothing : (c : Card) (j : ℕ) → (at (tick_of c).places j).aid.len ≡ (at c.places j).aid.len
 unfolding tick_of
@@ -81,8 +81,8 @@ tick-deletes-nothing c j = tick-keeps j c c.phase
 lost-deletes-nothing : (c : Card) (j : ℕ) → (at (without_network c).places j).aid.len ≡ (at c.places j).aid.len
 unfolding without_network
 lost-deletes-nothing c j =
-    choose (Keeps j c) (is_quiet c.phase) _ _
-    (λ q. choose (Keeps j c) (on_fallback c) _ _ (λ e. refl) (λ e. moved_keeps c.places c.fallback j)) (λ q. refl)
+    cond_both (is_quiet c.phase) _ _ (Keeps j c)
+    (λ q. cond_both (on_fallback c) _ _ (Keeps j c) (λ e. refl) (λ e. moved_keeps c.places c.fallback j)) (λ q. refl)
 
 pub no-policy-asked : NoPolicyAsked
 no-policy-asked =

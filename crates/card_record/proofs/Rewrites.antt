@@ -4,10 +4,11 @@
 use mathlib.Core.Path.{◌≡◌, refl, sym, ◌∙◌}
 use Prim.Native.Nat.{ℕ, ◌+◌}
 use mathlib.Core.List.{List}
-use mathlib.Core.Bool.{Bool, true, false, ◌||◌, false≢true}
+use mathlib.Core.Bool.{true, false, false≢true}
 use lib.ListN.{set, length-set}
 use lib.Seq.{get_or-set_other}
 use lib.Dec.{eqb}
+use Rattle.std.proofs.lemmas.Bool.{cond_both, or_parts}
 use Rattle.card_isdp.specs.LifeCycle.{disabled, is_enabled, is_finished}
 use Rattle.card_isdp.specs.Provisioning.{may_be_fall_back}
 use Rattle.card_isdp.specs.Policy.{once_disabled}
@@ -25,7 +26,7 @@ use Rattle.card_record.specs.declared.Phase.{Phase}
 use Rattle.card_record.specs.declared.Phase.TheVariants.{Quiet, Trial, Back, Fallen}
 use Rattle.card_record.proofs.Deletions.{deletable}
 use Rattle.card_record.proofs.Free.{deletion, rewriting}
-use Rattle.card_record.proofs.Sounds.{Sound, Phased, parts, whole, choose, resized, rephased, resort-done}
+use Rattle.card_record.proofs.Sounds.{Sound, Phased, parts, whole, resized, rephased, resort-done}
 
 -- one place is set anew, and free is what the quotas then leave; the phase holds of the new card
 pub sets : (c : Card) (i : ℕ) (x : Isdp) (r : ℕ) → Sound c → place_ok c.capacity x ≡ true → is_enabled x ≡ is_enabled (at c.places i) → distinct (set c.places i x) ≡ true → r + quotas (set c.places i x) ≡ c.capacity → may_be_fall_back (at (set c.places i x) c.fallback) ≡ true → Phased c.phase (with_room c r (set c.places i x)) → Sound (with_room c r (set c.places i x))
@@ -41,13 +42,9 @@ sets c i x r s o v d q f h =
 apart : (l : List Isdp) (i j : ℕ) → is_finished (at l i).life ≡ false → is_finished (at l j).life ≡ true → j ≡ i → ⊥
 apart l i j n d e = false≢true (sym n ∙ rw e at d)
 
-not_on : (y z : Bool) → (y || z) ≡ false → z ≡ false
-not_on true z w = absurd (false≢true (sym w))
-not_on false z w = w
-
 module _ (c : Card) (i : ℕ) (x : Isdp) (s : Sound c) (d : is_finished (at c.places i).life ≡ false) (v : is_enabled x ≡ false) (o : place_ok c.capacity x ≡ true) (a : x.aid ≡ (at c.places i).aid) (q : x.quota ≡ (at c.places i).quota) where
   pub off-before : is_enabled (at c.places i) ≡ false
-  off-before = not_on (eqb (at c.places i).life disabled) (is_enabled (at c.places i)) d
+  off-before = (or_parts (eqb (at c.places i).life disabled) (is_enabled (at c.places i)) d).1
 
   pub other : (j : ℕ) → is_finished (at c.places j).life ≡ true → at (set c.places i x) j ≡ at c.places j
   other j w = get_or-set_other c.places i j x vacant (apart c.places i j d w)
@@ -98,7 +95,7 @@ refalls c i s o d =
 confirm-case : (c : Card) (p : Phase) → Sound c → Phased p c → Sound (confirm_in p c)
 confirm-case c Quiet s h = rephased c Quiet s tt
 confirm-case c (Trial q l m) s h =
-    choose Sound (dropped c q) _ _
+    cond_both (dropped c q) _ _ Sound
     (λ b. deletes (with_phase c Quiet) q (rephased c Quiet s tt) refl (rw h.1 (and_r (once_disabled (at c.places q).policy) _ b)))
     (λ b. rephased c Quiet s tt)
 confirm-case c (Back l m) s h = rephased c Quiet s tt

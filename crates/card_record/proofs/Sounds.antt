@@ -3,17 +3,18 @@
 use mathlib.Core.Path.{◌≡◌, refl, sym, ◌∙◌}
 use Prim.Native.Nat.{ℕ, suc, ◌+◌, ◌-◌, ◌≤◌}
 use native.Mathlib.Omega.{arith}
-use mathlib.Core.Bool.{Bool, true, false, cond, ◌||◌, false≢true}
+use mathlib.Core.Bool.{Bool, true, false, ◌||◌, false≢true}
 use mathlib.Core.List.{List}
 use lib.ListN.{length}
 use lib.Dec.{ltb, leb, eqb}
 use borrow.Author.Tests.{eq-eqb, ne_eqb, eqb-true, le-leb, leb-true, ltb-true}
+use Rattle.std.proofs.lemmas.Bool.{and_from, cond_both}
 use Rattle.card_isdp.specs.Sizes.{most_places, eid_size, most_capacity, wait, last_number}
 use Rattle.card_isdp.specs.LifeCycle.{disabled, enabled, is_enabled, is_finished}
 use Rattle.card_isdp.specs.Provisioning.{may_be_fall_back}
 use Rattle.card_isdp.specs.Place.{place_ok}
 use Rattle.card_isdp.specs.declared.Isdp.{Isdp}
-use Rattle.card_isdp.proofs.Bools.{and_l, and_r, both}
+use Rattle.card_isdp.proofs.Bools.{and_l, and_r}
 use Rattle.card_places.specs.Places.{at, quotas, all_of, count_of, distinct, enable_at}
 use Rattle.card_places.proofs.Lives.{enable-lives, lives-length, lives-quotas, lives-distinct, enable-one, enable-at, enable-ok, enable-resort, within}
 use Rattle.card_record.specs.Cards.{is_quiet, free_in, on_fallback, no_place, keeping, forgotten, in_state, with_phase}
@@ -131,7 +132,7 @@ roles-whole c s = rw (eq-eqb _ _ s.one, s.resort) s.listing
 
 pub whole : (c : Card) → Sound c → sound c ≡ true
 unfolding sound phase_ok
-whole c s = both _ _ (sizes-whole c s.sizes) (both _ _ (places-whole c s.placed) (both _ _ (roles-whole c s.roles) (phase-whole c.phase c s.phased)))
+whole c s = and_from _ _ (sizes-whole c s.sizes) (and_from _ _ (places-whole c s.placed) (and_from _ _ (roles-whole c s.roles) (phase-whole c.phase c s.phased)))
 
 -- as many places and a number of two bytes: the sizes are kept
 pub resized : (c : Card) (r n : ℕ) (p : Phase) (l : List Isdp) → Sizes c → n ≤ last_number → length l ≡ length c.places → Sizes (in_state c r n c.fallback p l)
@@ -184,11 +185,6 @@ moves c i p s n h =
       phased = h;
     }
 
--- what a card handed back by `cond` satisfies
-pub choose : (P : Card → Type 0) (b : Bool) (x y : Card) → (b ≡ true → P x) → (b ≡ false → P y) → P (cond b x y)
-choose P true x y f g = f refl
-choose P false x y f g = g refl
-
 fresh : (n : ℕ) → Open wait n n
 fresh n = record { low = omega arith; high = omega arith; issued = refl }
 
@@ -228,13 +224,13 @@ falls c s =
 tick-case : (c : Card) (p : Phase) → Sound c → Phased p c → Sound (tick_in p c)
 tick-case c Quiet s h = forgets c s
 tick-case c (Trial q l n) s h =
-    choose Sound (ltb 1 l) _ _ (λ b. rephased c (Trial q (l - 1) n) s (less l n c.last b h.0, h.1))
+    cond_both (ltb 1 l) _ _ Sound (λ b. rephased c (Trial q (l - 1) n) s (less l n c.last b h.0, h.1))
     (λ b. moves c q (Back wait (next_number c.last)) s (nonzero _ 30 h.1) (fresh (next_number c.last)))
 tick-case c (Back l n) s h =
-    choose Sound (ltb 1 l) _ _ (λ b. rephased c (Back (l - 1) n) s (less l n c.last b h))
-    (λ b. choose Sound (on_fallback c) _ _ (λ e. rephased c Quiet s tt) (λ e. falls c s))
+    cond_both (ltb 1 l) _ _ Sound (λ b. rephased c (Back (l - 1) n) s (less l n c.last b h))
+    (λ b. cond_both (on_fallback c) _ _ Sound (λ e. rephased c Quiet s tt) (λ e. falls c s))
 tick-case c (Fallen l n) s h =
-    choose Sound (ltb 1 l) _ _ (λ b. rephased c (Fallen (l - 1) n) s (less l n c.last b h.0, h.1))
+    cond_both (ltb 1 l) _ _ Sound (λ b. rephased c (Fallen (l - 1) n) s (less l n c.last b h.0, h.1))
     (λ b. rephased c Quiet s tt)
 
 pub tick-sound : (c : Card) → sound c ≡ true → sound (tick_of c) ≡ true
@@ -245,4 +241,4 @@ pub lost-sound : (c : Card) → sound c ≡ true → sound (without_network c) �
 unfolding without_network
 lost-sound c e =
     let s = parts c e in
-    whole _ (choose Sound (is_quiet c.phase) _ _ (λ q. choose Sound (on_fallback c) _ _ (λ v. forgets c s) (λ v. falls c s)) (λ q. forgets c s))
+    whole _ (cond_both (is_quiet c.phase) _ _ Sound (λ q. cond_both (on_fallback c) _ _ Sound (λ v. forgets c s) (λ v. falls c s)) (λ q. forgets c s))

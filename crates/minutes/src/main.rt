@@ -29,6 +29,7 @@ fn tell(rt: &HostRuntime, input: &mut Input, explain: bool) {
 }
 
 // What the words before a file ask of its report, and whether a file was named.
+// `named` is of the run, with no value beside it: was any file named?
 #[derive(Clone, Copy)]
 struct Options {
     explain: bool,
@@ -43,6 +44,7 @@ fn start(rt: &HostRuntime, word: &[u8], explain: bool) {
     }
 }
 
+// As in teapot, but for its options: one over closures would lend each program's options twice.
 // One word: an option for what follows, or a file, which is reported.
 fn take_word(rt: &HostRuntime, word: &[u8], options: Options) -> Options {
     let mut after = options;
@@ -61,6 +63,7 @@ fn main(rt: HostRuntime) {
         named: false,
     };
     let mut word = [0u8; 4096];
+    // By number, into lent memory: std's iterator of words allocates and refuses words that are no UTF-8.
     for place in 1..usize::MAX {
         let Ok(n @ 1..) = rt.arg(place, &mut word) else {
             break;

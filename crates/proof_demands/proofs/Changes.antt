@@ -7,6 +7,7 @@ use mathlib.Core.List.{List, [], ◌∷◌}
 use mathlib.Core.Bool.{Bool, true, false, not, cond, ◌&&◌, false≢true}
 use lib.Dec.{ltb, eqb}
 use borrow.Author.Tests.{eq-eqb, ne_eqb, ltb-true, ltb-false, lt-ltb, le-ltb, not-true}
+use Rattle.std.proofs.lemmas.Bool.{cond_both}
 use Rattle.card_isdp.specs.Sizes.{wait}
 use Rattle.card_isdp.specs.LifeCycle.{is_enabled}
 use Rattle.card_isdp.proofs.Bools.{and_l, and_r}
@@ -20,7 +21,7 @@ use Rattle.card_record.specs.declared.Card.{Card}
 use Rattle.card_record.specs.declared.Kind.TheVariants.{Changed, RolledBack, FallenBack}
 use Rattle.card_record.specs.declared.Phase.{Phase}
 use Rattle.card_record.specs.declared.Phase.TheVariants.{Quiet, Trial, Back, Fallen}
-use Rattle.card_record.proofs.Sounds.{Phased, Sound, parts, choose, tick-sound, nonzero, resort-nonzero}
+use Rattle.card_record.proofs.Sounds.{Phased, Sound, parts, tick-sound, nonzero, resort-nonzero}
 use Rattle.card_places.proofs.Numbered.{only}
 use Rattle.rule_run.specs.Calls.{Call, Call.Tick, asked}
 use Rattle.rule_run.specs.Step.{step, run}
@@ -76,7 +77,7 @@ module _ (g p f : ℕ) where
       let h : Phased (Trial p l n) c = rw r at s.phased in
       let w = h.0.low in
       rw r
-      (choose (Ticked g p f (suc k)) (ltb 1 l) _ _
+      (cond_both (ltb 1 l) _ _ (Ticked g p f (suc k))
       (λ b. let m = ltb-true 1 l b in goes (trial (l - 1) n refl (omega arith) v))
       (λ b. let m = ltb-false 1 l b in
       goes (back wait (next_number c.last) refl (omega arith) (eq-eqb _ _ (enable-at c.places p (within c.places p (nonzero _ 30 h.1)))))))
@@ -87,10 +88,10 @@ module _ (g p f : ℕ) where
       let h : Phased (Back l n) c = rw r at s.phased in
       let w = h.low in
       rw r
-      (choose (Ticked g p f (suc k)) (ltb 1 l) _ _
+      (cond_both (ltb 1 l) _ _ (Ticked g p f (suc k))
       (λ t. let m = ltb-true 1 l t in goes (back (l - 1) n refl (omega arith) v))
       (λ t. let m = ltb-false 1 l t in
-      choose (Ticked g p f (suc k)) (on_fallback c) _ _
+      cond_both (on_fallback c) _ _ (Ticked g p f (suc k))
       (λ e. ends refl (rw b at e) (rw (eq-eqb p f (only c.places p c.fallback s.roles.one v e ∙ b)) (omega arith)))
       (λ e. goes (fallen wait (next_number c.last) (ne_eqb p f (λ q. false≢true (sym e ∙ ap (λ (i : ℕ). is_enabled (at c.places i)) (b ∙ sym q) ∙ v))) refl (omega arith)
       (rw (← b) (eq-eqb _ _ (enable-at c.places c.fallback (within c.places c.fallback (resort-nonzero c s)))))))))
@@ -101,7 +102,7 @@ module _ (g p f : ℕ) where
       let h : Phased (Fallen l n) c = rw r at s.phased in
       let w = h.0.low in
       rw r
-      (choose (Ticked g p f (suc k)) (ltb 1 l) _ _
+      (cond_both (ltb 1 l) _ _ (Ticked g p f (suc k))
       (λ t. let m = ltb-true 1 l t in goes (fallen (l - 1) n a refl (omega arith) v))
       (λ t. let m = ltb-false 1 l t in ends refl v (rw a (omega arith))))
 
@@ -140,11 +141,11 @@ module _ (g p f : ℕ) where
 
 fallback-case : (c : Card) (q : Phase) → (tick_in q c).fallback ≡ c.fallback
 fallback-case c Quiet = refl
-fallback-case c (Trial q l n) = choose (λ d. d.fallback ≡ c.fallback) (ltb 1 l) _ _ (λ b. refl) (λ b. refl)
+fallback-case c (Trial q l n) = cond_both (ltb 1 l) _ _ (λ (d : Card). d.fallback ≡ c.fallback) (λ b. refl) (λ b. refl)
 fallback-case c (Back l n) =
-    choose (λ d. d.fallback ≡ c.fallback) (ltb 1 l) _ _ (λ b. refl)
-    (λ b. choose (λ d. d.fallback ≡ c.fallback) (on_fallback c) _ _ (λ e. refl) (λ e. refl))
-fallback-case c (Fallen l n) = choose (λ d. d.fallback ≡ c.fallback) (ltb 1 l) _ _ (λ b. refl) (λ b. refl)
+    cond_both (ltb 1 l) _ _ (λ (d : Card). d.fallback ≡ c.fallback) (λ b. refl)
+    (λ b. cond_both (on_fallback c) _ _ (λ (d : Card). d.fallback ≡ c.fallback) (λ e. refl) (λ e. refl))
+fallback-case c (Fallen l n) = cond_both (ltb 1 l) _ _ (λ (d : Card). d.fallback ≡ c.fallback) (λ b. refl) (λ b. refl)
 
 tick-fallback : (c : Card) → (tick_of c).fallback ≡ c.fallback
 unfolding tick_of
@@ -220,7 +221,7 @@ module _ (g p f n : ℕ) where
       let x = h.0.low in
       let now = e ∙ holds-first n _ _ k (omega arith) in
       rw r
-      (choose (Numbered (suc k)) (ltb 1 l) _ _
+      (cond_both (ltb 1 l) _ _ (Numbered (suc k))
       (λ b o. let z = ltb-true 1 l b in now ∙ sym (holds-first n _ _ (suc k) (omega arith)))
       (λ b o. let z = ltb-false 1 l b in ap next_number now ∙ sym (holds-second n (next_number n) _ (suc k) (omega arith) (omega arith))))
   number-ticked k c w (back l m r u v) e =
@@ -229,17 +230,17 @@ module _ (g p f n : ℕ) where
       let y = h.high in
       let now = e ∙ holds-second n (next_number n) _ k (omega arith) (omega arith) in
       rw r
-      (choose (Numbered (suc k)) (ltb 1 l) _ _
+      (cond_both (ltb 1 l) _ _ (Numbered (suc k))
       (λ b o. let z = ltb-true 1 l b in now ∙ sym (holds-second n (next_number n) _ (suc k) (omega arith) (omega arith)))
       (λ b. let z = ltb-false 1 l b in
-      choose (Numbered (suc k)) (on_fallback c) _ _ (λ q o. absurd (false≢true (sym o)))
+      cond_both (on_fallback c) _ _ (Numbered (suc k)) (λ q o. absurd (false≢true (sym o)))
       (λ q o. ap next_number now ∙ sym (holds-third n _ (next_number (next_number n)) (suc k) (omega arith)))))
   number-ticked k c w (fallen l m a r u v) e =
       let h : Phased (Fallen l m) c = rw r at (parts c w.still).phased in
       let x = h.0.high in
       let now = e ∙ holds-third n _ (next_number (next_number n)) k (omega arith) in
       rw r
-      (choose (Numbered (suc k)) (ltb 1 l) _ _
+      (cond_both (ltb 1 l) _ _ (Numbered (suc k))
       (λ b o. now ∙ sym (holds-third n _ (next_number (next_number n)) (suc k) (omega arith)))
       (λ b o. absurd (false≢true (sym o))))
 

@@ -7,10 +7,11 @@ use mathlib.Core.List.{List, [], ◌∷◌, ◌++◌}
 use mathlib.Core.Bool.{Bool, true, false, not, cond, false≢true}
 use lib.Dec.{ltb, eqb}
 use borrow.Author.Tests.{eqb-true, eqb-false, eq-eqb, ne_eqb, ltb-true, ltb-false}
+use Rattle.std.proofs.lemmas.Bool.{and_from}
 use Rattle.base_choice.specs.Choice.{pick, is_below}
 use Rattle.base_status.specs.declared.Status.TheVariants.{NotHeld, Done}
 use Rattle.card_isdp.specs.Aids.{bytes_of}
-use Rattle.card_isdp.proofs.Bools.{and_l, and_r, both}
+use Rattle.card_isdp.proofs.Bools.{and_l, and_r}
 use Rattle.card_record.specs.Cards.{is_quiet, enabled_place}
 use Rattle.card_record.specs.Sound.{sound}
 use Rattle.card_record.specs.Clock.{next_number, opened, outstanding}
@@ -61,7 +62,7 @@ module _ (c : Card) (e : sound c ≡ true) (o : is_quiet c.phase ≡ false) (num
   confirming-closes _ (commands verdict s room h encoded) q =
       let call = Command verdict s room in
       let mine = outstanding-is c c.phase number (parts c e).phased o ∙ eq-eqb number c.last q in
-      let x = confirmation-closes c call (both (is_confirmation (asked c call)) (taken c call) (ap is_confirmation (written-asks c verdict s room (store_data (confirmation number)) h encoded)) (confirmation-taken c verdict s room number e h encoded ∙ mine)) in
+      let x = confirmation-closes c call (and_from (is_confirmation (asked c call)) (taken c call) (ap is_confirmation (written-asks c verdict s room (store_data (confirmation number)) h encoded)) (confirmation-taken c verdict s room number e h encoded ∙ mine)) in
       record {
         status = confirming-word call (commands verdict s room h encoded) ∙ rw (eq-eqb number c.last q);
         quiet = x.quiet;
@@ -114,7 +115,7 @@ unfolding stays_open
 stays-snoc [] call reach e o = rw o
 stays-snoc (x ∷ calls) call reach e o =
     let here = not (is_quiet (reach (x ∷ [])).phase) in
-    both here _ (and_l here _ e) (stays-snoc calls call (λ rest. reach (x ∷ rest)) (and_r here _ e) o)
+    and_from here _ (and_l here _ e) (stays-snoc calls call (λ rest. reach (x ∷ rest)) (and_r here _ e) o)
 
 not-due : (b quiet : Bool) (k : ℕ) → k ≡ 9 → (quiet ≡ true → k + 1 ≡ cond b 20 30) → quiet ≡ false
 not-due true true k t f = absurd (let z = f refl in omega arith)

@@ -7,6 +7,7 @@ use mathlib.Core.Bool.{Bool, true, false, not, ◌&&◌, false≢true}
 use lib.ListN.{set}
 use lib.Dec.{eqb}
 use borrow.Author.Tests.{eqb-true, not-false}
+use Rattle.std.proofs.lemmas.Bool.{cond_both}
 use Rattle.std.specs.Prelude.{Some, None}
 use Rattle.base_status.specs.Rows.{word_of}
 use Rattle.card_isdp.specs.LifeCycle.{selectable, personalized, is_enabled}
@@ -23,7 +24,7 @@ use Rattle.card_record.specs.Answers.{accepted}
 use Rattle.card_record.specs.declared.Card.{Card}
 use Rattle.card_record.specs.declared.Phase.{Phase}
 use Rattle.card_record.specs.declared.Phase.TheVariants.{Quiet, Trial, Back, Fallen}
-use Rattle.card_record.proofs.Sounds.{Phased, parts, choose}
+use Rattle.card_record.proofs.Sounds.{Phased, parts}
 use Rattle.card_record.proofs.Outcomes.{decide-card}
 use Rattle.read_fields.specs.declared.request.Request.{Request}
 use Rattle.read_fields.specs.declared.request.Request.TheVariants as request
@@ -173,7 +174,7 @@ enabled-named x n (p ∷ ps) (suc q) (suc i) e = enabled-named x n ps q i e
 confirm-closes : (c : Card) (p : Phase) → Phased p c → Closed c (confirm_in p c)
 confirm-closes c Quiet h = calm c
 confirm-closes c (Trial q l m) h =
-    choose (Closed c) (dropped c q) _ _
+    cond_both (dropped c q) _ _ (Closed c)
     (λ b. record { quiet = refl; enabled = set-unseen is_enabled vacant c.places q (rw h.1); named = enabled-named vacant refl c.places q; fallback = refl; last = refl })
     (λ b. calm c)
 confirm-closes c (Back l m) h = calm c

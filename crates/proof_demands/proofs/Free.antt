@@ -8,6 +8,7 @@ use mathlib.Core.Bool.{Bool, true, false, not, cond, false≢true}
 use lib.ListN.{length, set}
 use lib.Dec.{ltb, eqb}
 use borrow.Author.Tests.{ne_eqb, not-true, not-false, ltb-true}
+use Rattle.std.proofs.lemmas.Bool.{cond_both}
 use Rattle.base_status.specs.StatusWords.{is_done}
 use Rattle.base_status.specs.Rows.{row, word_of}
 use Rattle.base_status.specs.declared.Status.TheVariants.{DataWrong, Done}
@@ -32,7 +33,7 @@ use Rattle.card_record.specs.Fresh.{zero_card, fresh_card, fresh_ok, fresh_outco
 use Rattle.card_record.specs.declared.Card.{Card}
 use Rattle.card_record.specs.declared.Phase.{Phase}
 use Rattle.card_record.specs.declared.Phase.TheVariants.{Quiet, Trial, Back, Fallen}
-use Rattle.card_record.proofs.Sounds.{Sound, Phased, parts, choose, nonzero}
+use Rattle.card_record.proofs.Sounds.{Sound, Phased, parts, nonzero}
 use Rattle.card_record.proofs.Outcomes.{took, accepted-card}
 use Rattle.card_record.proofs.Freshness.{fresh-sound}
 use Rattle.rule_responses.specs.Responses.{deleted_response}
@@ -59,13 +60,13 @@ module _ (c : Card) where
 
   tick-capacity : (p : Phase) → As (tick_in p c)
   tick-capacity Quiet = refl
-  tick-capacity (Trial q l n) = choose As (ltb 1 l) _ _ (λ b. refl) (λ b. refl)
-  tick-capacity (Back l n) = choose As (ltb 1 l) _ _ (λ b. refl) (λ b. choose As (on_fallback c) _ _ (λ e. refl) (λ e. refl))
-  tick-capacity (Fallen l n) = choose As (ltb 1 l) _ _ (λ b. refl) (λ b. refl)
+  tick-capacity (Trial q l n) = cond_both (ltb 1 l) _ _ As (λ b. refl) (λ b. refl)
+  tick-capacity (Back l n) = cond_both (ltb 1 l) _ _ As (λ b. refl) (λ b. cond_both (on_fallback c) _ _ As (λ e. refl) (λ e. refl))
+  tick-capacity (Fallen l n) = cond_both (ltb 1 l) _ _ As (λ b. refl) (λ b. refl)
 
   confirm-capacity : (p : Phase) → As (confirm_in p c)
   confirm-capacity Quiet = refl
-  confirm-capacity (Trial q l n) = choose As (dropped c q) _ _ (λ b. refl) (λ b. refl)
+  confirm-capacity (Trial q l n) = cond_both (dropped c q) _ _ As (λ b. refl) (λ b. refl)
   confirm-capacity (Back l n) = refl
   confirm-capacity (Fallen l n) = refl
 
@@ -90,7 +91,7 @@ module _ (c : Card) where
   asks-capacity (status_of_all next life fallback) = refl
   asks-capacity get_data = refl
   asks-capacity tick = tick-capacity c.phase
-  asks-capacity lost = choose As (is_quiet c.phase) _ _ (λ q. choose As (on_fallback c) _ _ (λ e. refl) (λ e. refl)) (λ q. refl)
+  asks-capacity lost = cond_both (is_quiet c.phase) _ _ As (λ q. cond_both (on_fallback c) _ _ As (λ e. refl) (λ e. refl)) (λ q. refl)
 
   pub capacity-kept : (call : Call) → As (step c call).card
   capacity-kept call = hands-back c call As (λ e. asks-capacity (asked c call)) refl

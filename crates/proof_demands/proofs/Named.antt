@@ -5,6 +5,7 @@ use Prim.Native.Nat.{ℕ}
 use mathlib.Core.List.{List, [], ◌∷◌, ◌++◌}
 use mathlib.Core.Bool.{Bool, true, false, not, cond, ◌&&◌, ◌||◌, false≢true}
 use lib.Dec.{ltb}
+use Rattle.std.proofs.lemmas.Bool.{cond_both}
 use Rattle.card_isdp.specs.Aids.{aid_of, bytes_of}
 use Rattle.card_isdp.proofs.Bools.{and_l, and_r}
 use Rattle.card_isdp.specs.declared.Isdp.{Isdp}
@@ -17,7 +18,7 @@ use Rattle.card_record.specs.Clock.{tick_in, tick_of}
 use Rattle.card_record.specs.declared.Card.{Card}
 use Rattle.card_record.specs.declared.Phase.{Phase}
 use Rattle.card_record.specs.declared.Phase.TheVariants.{Quiet, Trial, Back, Fallen}
-use Rattle.card_record.proofs.Sounds.{parts, choose}
+use Rattle.card_record.proofs.Sounds.{parts}
 use Rattle.card_places.proofs.Numbered.{only}
 use Rattle.rule_run.specs.Calls.{Call, Call.Tick, asked}
 use Rattle.rule_run.specs.Step.{step, run}
@@ -34,11 +35,11 @@ Named c d = (i : ℕ) → (at d.places i).aid ≡ (at c.places i).aid
 
 tick-case : (c : Card) (q : Phase) → Named c (tick_in q c)
 tick-case c Quiet = λ i. refl
-tick-case c (Trial q l n) = choose (Named c) (ltb 1 l) _ _ (λ b i. refl) (λ b i. ap (λ (p : Isdp). p.aid) (lives_at (enable-lives c.places q) i))
+tick-case c (Trial q l n) = cond_both (ltb 1 l) _ _ (Named c) (λ b i. refl) (λ b i. ap (λ (p : Isdp). p.aid) (lives_at (enable-lives c.places q) i))
 tick-case c (Back l n) =
-    choose (Named c) (ltb 1 l) _ _ (λ b i. refl)
-    (λ b. choose (Named c) (on_fallback c) _ _ (λ e i. refl) (λ e i. ap (λ (p : Isdp). p.aid) (lives_at (enable-lives c.places c.fallback) i)))
-tick-case c (Fallen l n) = choose (Named c) (ltb 1 l) _ _ (λ b i. refl) (λ b i. refl)
+    cond_both (ltb 1 l) _ _ (Named c) (λ b i. refl)
+    (λ b. cond_both (on_fallback c) _ _ (Named c) (λ e i. refl) (λ e i. ap (λ (p : Isdp). p.aid) (lives_at (enable-lives c.places c.fallback) i)))
+tick-case c (Fallen l n) = cond_both (ltb 1 l) _ _ (Named c) (λ b i. refl) (λ b i. refl)
 
 tick-named : (c : Card) → Named c (tick_of c)
 unfolding tick_of

@@ -8,6 +8,7 @@ use lib.ListN.{length, set}
 use lib.Seq.{get_or-set_other}
 use lib.Dec.{ltb, eqb}
 use borrow.Author.Tests.{eqb-true, eqb-false, eq-eqb}
+use Rattle.std.proofs.lemmas.Bool.{cond_both}
 use Rattle.base_status.specs.StatusWords.{is_done}
 use Rattle.card_isdp.specs.LifeCycle.{with_life}
 use Rattle.card_isdp.specs.Place.{vacant, held}
@@ -23,7 +24,6 @@ use Rattle.card_record.specs.Steps.{tick_step, lost_step, confirm_step}
 use Rattle.card_record.specs.declared.Card.{Card}
 use Rattle.card_record.specs.declared.Phase.{Phase}
 use Rattle.card_record.specs.declared.Phase.TheVariants.{Quiet, Trial, Back, Fallen}
-use Rattle.card_record.proofs.Sounds.{choose}
 use Rattle.card_record.proofs.Outcomes.{accepted-card}
 use Rattle.rule_steps.specs.Asked.{Act, Act.enable, Act.disable, Act.delete, Act.master_delete, Act.set_fall_back, Act.status, Act.keyed, Act.stored, Act.finished, Act.set_policy, Asked, Asked.unread, Asked.create, Asked.on, Asked.confirm, Asked.status_of_all, Asked.get_data, Asked.tick, Asked.lost}
 use Rattle.rule_steps.specs.Steps.{step_of, act_step, response_of}
@@ -44,11 +44,11 @@ module _ (c : Card) where
 
   tick-case : (p : Phase) → From (tick_in p c)
   tick-case Quiet = lives-same c.places
-  tick-case (Trial q l n) = choose From (ltb 1 l) _ _ (λ b. lives-same c.places) (λ b. enable-lives c.places q)
+  tick-case (Trial q l n) = cond_both (ltb 1 l) _ _ From (λ b. lives-same c.places) (λ b. enable-lives c.places q)
   tick-case (Back l n) =
-      choose From (ltb 1 l) _ _ (λ b. lives-same c.places)
-      (λ b. choose From (on_fallback c) _ _ (λ e. lives-same c.places) (λ e. enable-lives c.places c.fallback))
-  tick-case (Fallen l n) = choose From (ltb 1 l) _ _ (λ b. lives-same c.places) (λ b. lives-same c.places)
+      cond_both (ltb 1 l) _ _ From (λ b. lives-same c.places)
+      (λ b. cond_both (on_fallback c) _ _ From (λ e. lives-same c.places) (λ e. enable-lives c.places c.fallback))
+  tick-case (Fallen l n) = cond_both (ltb 1 l) _ _ From (λ b. lives-same c.places) (λ b. lives-same c.places)
 
   pub tick-lives : From (tick_of c)
   unfolding tick_of
@@ -57,8 +57,8 @@ module _ (c : Card) where
   pub lost-lives : From (without_network c)
   unfolding without_network
   lost-lives =
-      choose From (is_quiet c.phase) _ _
-      (λ q. choose From (on_fallback c) _ _ (λ e. lives-same c.places) (λ e. enable-lives c.places c.fallback))
+      cond_both (is_quiet c.phase) _ _ From
+      (λ q. cond_both (on_fallback c) _ _ From (λ e. lives-same c.places) (λ e. enable-lives c.places c.fallback))
       (λ q. lives-same c.places)
 
 -- no search for a free place finds a held one
@@ -109,7 +109,7 @@ module _ (c : Card) (j : ℕ) where
 
   confirms : (p : Phase) → leaves_in p c j ≡ false → Kept (confirm_in p c)
   confirms Quiet n = same _
-  confirms (Trial q l m) n = choose Kept (dropped c q) _ _ (λ b. sets-other q vacant (apart q n b)) (λ b. same _)
+  confirms (Trial q l m) n = cond_both (dropped c q) _ _ Kept (λ b. sets-other q vacant (apart q n b)) (λ b. same _)
   confirms (Back l m) n = same _
   confirms (Fallen l m) n = same _
 

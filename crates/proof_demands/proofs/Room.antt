@@ -8,12 +8,12 @@ use mathlib.Core.Bool.{Bool, true, false, cond, false≢true}
 use lib.ListN.{length}
 use lib.Dec.{eqb}
 use borrow.Author.Tests.{eqb-true, eq-eqb, le-leb}
+use Rattle.std.proofs.lemmas.Bool.{and_from}
 use Rattle.base_status.specs.StatusWords.{is_done}
 use Rattle.card_isdp.specs.Aids.{aid_ok, aid_of, bytes_of}
 use Rattle.card_isdp.specs.LifeCycle.{selectable, enabled, is_created}
 use Rattle.card_isdp.specs.Place.{vacant, held, place_ok}
 use Rattle.card_isdp.specs.declared.Isdp.{Isdp}
-use Rattle.card_isdp.proofs.Bools.{both}
 use Rattle.card_isdp.proofs.Placed.{vacant-is, made_held, made-aid}
 use Rattle.card_places.proofs.Sets.{all-at, same-places}
 use Rattle.card_record.specs.Cards.{no_place, keeping}
@@ -166,7 +166,7 @@ no-room-lost c v _ _ inner (commands verdict s room long encoded) (commands verd
     let may = exact.only-where (ap is_done done) in
     let a = exact.where-may may in
     let n = encoded.encoded.named in
-    let ok : aid_ok aid ≡ true = both _ _ (le-leb 5 (length aid) n.least) (le-leb (length aid) 16 n.most) in
+    let ok : aid_ok aid ≡ true = and_from _ _ (le-leb 5 (length aid) n.least) (le-leb (length aid) 16 n.most) in
     let first = written-half c aid t c _ _ _ _ _ (beside-itself c t) a (step-sound c creation sounds) (made_held aid selectable v.quota 0 ok) (made-aid aid selectable v.quota 0 ok) (λ l. refl) in
     let d = reached_by step (step c creation).card (inner_calls aid inner) in
     let h = inners-half c aid t inner (step c creation).card first in

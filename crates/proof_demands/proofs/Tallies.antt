@@ -7,13 +7,14 @@ use mathlib.Core.List.{List, [], ◌∷◌}
 use mathlib.Core.Bool.{Bool, true, false, not, cond, ◌&&◌, false≢true}
 use lib.ListN.{length, set}
 use borrow.Author.Tests.{not-true}
+use Rattle.std.proofs.lemmas.Bool.{and_from}
 use Rattle.base_bytes.specs.Bytes.{same_bytes}
 use Rattle.base_bytes.proofs.Alike.{same_true, same_self}
 use Rattle.card_isdp.specs.Aids.{aid_ok, aid_of}
 use Rattle.card_isdp.specs.Place.{vacant, made, held, is_for, clash, place_ok}
 use Rattle.card_isdp.specs.declared.Isdp.{Isdp}
 use Rattle.card_isdp.proofs.Placed.{vacant-is, made_held, made-aid}
-use Rattle.card_isdp.proofs.Bools.{and_l, and_r, both, or_l, or_r}
+use Rattle.card_isdp.proofs.Bools.{and_l, and_r, or_l, or_r}
 use Rattle.card_isdp.proofs.Alike.{clash-none}
 use Rattle.card_places.specs.Places.{at, quotas, all_of, any_of, distinct}
 use Rattle.card_places.proofs.Lives.{Lives, Lives.ended, Lives.place}
@@ -178,4 +179,4 @@ tally-room k ms l o tally = sym (sum_room ms) ∙ tally (λ x q. q) ∙ sum-quot
 -- a held place bears its own AID
 pub bears-own : (p : Isdp) → held p ≡ true → is_for (aid_of p) p ≡ true
 unfolding is_for
-bears-own p h = both _ _ h (same_self (aid_of p))
+bears-own p h = and_from _ _ h (same_self (aid_of p))

@@ -8,7 +8,7 @@ use native.Mathlib.Numerals.{add-one}
 use lib.ListN.{length, take, drop, length-append, take-append-drop}
 use lib.Seq.{take-take, length-take-le, drop-append-le, take_at, drop_at, slice_empty, slice-cons, length-slice}
 use Rattle.base_bytes.specs.Bytes.{byte, between, part_of}
-use Rattle.base_bytes.proofs.Parts.{part_cut}
+use Rattle.std.proofs.lemmas.List.{drop-take}
 use Rattle.read_tlv.specs.Encoding.{window}
 
 module _ (s : List ℕ) where
@@ -25,7 +25,7 @@ module _ (s : List ℕ) where
   unfolding window
   window-part from to h =
       let e : from + (to - from) ≡ to = omega arith in
-      sym (part_cut from (to - from) s) ∙ ap (λ (n : ℕ). drop from (take n s)) e
+      sym (drop-take from (to - from) s) ∙ ap (λ (n : ℕ). drop from (take n s)) e
 
   pub window-cut : (from mid to : ℕ) → from ≤ mid → mid ≤ to → to ≤ length s → window s from to ≡ window s from mid ++ window s mid to
   unfolding window

@@ -7,6 +7,7 @@ use mathlib.Core.Bool.{Bool, true, false, cond}
 use lib.ListN.{length, length-append, length-take}
 use lib.Dec.{leb, eqb}
 use borrow.Author.Tests.{leb-true, le-leb, eqb-true}
+use Rattle.std.proofs.lemmas.Bool.{and_from}
 use Rattle.card_isdp.specs.Sizes.{most_places, most_aid}
 use Rattle.card_isdp.specs.Aids.{bytes_of}
 use Rattle.card_isdp.specs.Place.{vacant, held, place_ok}
@@ -15,7 +16,7 @@ use Rattle.card_isdp.specs.declared.Aid.{Aid}
 use Rattle.card_places.specs.Places.{at, all_of}
 use Rattle.card_record.specs.Sound.{sound}
 use Rattle.card_record.specs.declared.Card.{Card}
-use Rattle.card_isdp.proofs.Bools.{and_l, and_r, both}
+use Rattle.card_isdp.proofs.Bools.{and_l, and_r}
 use Rattle.card_record.proofs.Sounds.{parts}
 use Rattle.rule_responses.specs.Responses.{most_row, aid_element, attribute_of, status_row, row_of, rows_from, listing_from, listing, one_status, data_response, deleted_response}
 use Rattle.rule_responses.proofs.Rows.{body-length, listed_small}
@@ -62,7 +63,7 @@ one-length c place life fallback e = row-length (at c.places place) (attribute_o
 all_more : (t u : Isdp → Bool) (l : List Isdp) → ((p : Isdp) → t p ≡ true → u p ≡ true) → all_of t l ≡ true → all_of u l ≡ true
 unfolding all_of
 all_more t u [] f e = refl
-all_more t u (p ∷ ps) f e = both (u p) (all_of u ps) (f p (and_l (t p) (all_of t ps) e)) (all_more t u ps f (and_r (t p) (all_of t ps) e))
+all_more t u (p ∷ ps) f e = and_from (u p) (all_of u ps) (f p (and_l (t p) (all_of t ps) e)) (all_more t u ps f (and_r (t p) (all_of t ps) e))
 
 ok-fits : (capacity : ℕ) (p : Isdp) → place_ok capacity p ≡ true → aid_fits p ≡ true
 unfolding place_ok

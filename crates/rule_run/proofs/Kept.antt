@@ -8,6 +8,7 @@ use mathlib.Core.Bool.{true, false}
 use lib.ListN.{length, drop, length-drop}
 use lib.Seq.{length-take-le}
 use borrow.Author.Tests.{le-leb, not-false}
+use Rattle.std.proofs.lemmas.Bool.{and_from}
 use Rattle.std.specs.Prelude.{Some, None}
 use Rattle.base_status.specs.StatusWords.{is_done}
 use Rattle.base_status.specs.Rows.{word_of}
@@ -15,7 +16,7 @@ use Rattle.base_status.specs.declared.Status.{Status}
 use Rattle.base_status.proofs.Tables.{passed}
 use Rattle.card_isdp.specs.Sizes.{least_aid, most_aid}
 use Rattle.card_isdp.specs.Aids.{aid_ok}
-use Rattle.card_isdp.proofs.Bools.{and_r, both}
+use Rattle.card_isdp.proofs.Bools.{and_r}
 use Rattle.card_record.specs.Sound.{sound}
 use Rattle.card_record.specs.declared.Card.{Card}
 use Rattle.card_record.proofs.Outcomes.{decide-card, checked}
@@ -45,7 +46,7 @@ part-ok s aid p =
     let m = p.most in
     let d = length-drop aid.start s in
     let e : length (part_of s aid) ≡ aid.len = length-take-le aid.len (drop aid.start s) (omega arith) in
-    both _ _ (le-leb least_aid (length (part_of s aid)) (omega arith)) (le-leb (length (part_of s aid)) most_aid (omega arith))
+    and_from _ _ (le-leb least_aid (length (part_of s aid)) (omega arith)) (le-leb (length (part_of s aid)) most_aid (omega arith))
 
 request-legal : (c : Card) (verdict : ℕ) (s : List ℕ) (r : Request) → RequestIn s c.capacity r → Legal c (request_asks verdict s r)
 request-legal c verdict s (request.Create aid quota) h =

@@ -2,12 +2,13 @@
 #![tactic(auto)]
 
 ghost use Rattle.std.specs.Prelude.{◌≡◌, ◌≤◌, Ok, IfOk};
+ghost use Rattle.script_words.specs.Words.{read_to, moved};
 ghost use Rattle.script_line.specs.Orders.{verb_of, count_ok, inner, value_or, sent_at, fresh_with, fresh_at, command_at, keyed_at, stored_at, finished_at, policy_line_at, order_by, order_of};
 
 use base_bytes::{Part, same};
 use card_record::Card;
 use record_door::{Call, LEAST_BUFFER};
-use script_words::{MOST_NUMBER, Read, Reason, next_bytes, next_value};
+use script_words::{MOST_NUMBER, Reason, Words};
 use text_lines::LONGEST;
 use text_words::{Span, count_words, next_word};
 
@@ -102,45 +103,43 @@ fn count_ok(least: usize, most: usize, n: usize) -> Result<(), Reason>
 
 // CAPACITY QUOTA USED VOLATILE.
 #[tactic(auto, unfolding(crate::specs::Orders::fresh_with))]
-fn fresh_with(s: &[u8], at: usize, eid: Part, aid: Part) -> Result<Order, Reason>
-    ensures { result ≡ fresh_with s.now at eid aid }
+fn fresh_with(mut words: Words<'_>, eid: Part, aid: Part) -> Result<Order, Reason>
+    ensures { result ≡ fresh_with words.entry.line.now words.entry.at eid aid }
 {
-    let capacity = next_value(s, at, MOST_NUMBER)?;
-    let quota = next_value(s, capacity.next, MOST_NUMBER)?;
-    let used = next_value(s, quota.next, MOST_NUMBER)?;
-    let volatile = next_value(s, used.next, MOST_NUMBER)?;
+    let capacity = words.value(MOST_NUMBER)?;
+    let quota = words.value(MOST_NUMBER)?;
+    let used = words.value(MOST_NUMBER)?;
+    let volatile = words.value(MOST_NUMBER)?;
     Ok(Order::Fresh {
         eid,
         aid,
-        capacity: capacity.value,
-        quota: quota.value,
-        used: used.value,
-        volatile: volatile.value,
+        capacity,
+        quota,
+        used,
+        volatile,
     })
 }
 
 #[tactic(auto, unfolding(crate::specs::Orders::fresh_at))]
-fn fresh_order(s: &[u8], at: usize) -> Result<Order, Reason>
-    ensures { result ≡ fresh_at s.now at }
+fn fresh_order(mut words: Words<'_>) -> Result<Order, Reason>
+    ensures { result ≡ fresh_at words.entry.line.now words.entry.at }
 {
-    let eid = next_bytes(s, at)?;
-    let aid = next_bytes(s, eid.next)?;
-    fresh_with(s, aid.next, eid.value, aid.value)
+    let eid = words.bytes()?;
+    let aid = words.bytes()?;
+    fresh_with(words, eid, aid)
 }
 
 // The last word, a number, which may be missing and then counts as `missing`.
 #[tactic(auto, unfolding(crate::specs::Orders::value_or))]
-fn next_or(missing: u32, most: u32, s: &[u8], at: usize) -> Result<Read<u32>, Reason>
-    ensures value { result ≡ value_or missing most s.now at }
-    ensures within { missing ≤ most → IfOk result (λ v. v.value ≤ most) }
+fn next_or(words: &mut Words<'_>, missing: u32, most: u32) -> Result<u32, Reason>
+    ensures found { read_to result words.new.at ≡ value_or missing most words.old.line.now words.old.at }
+    ensures within { missing ≤ most → IfOk result (λ n. n ≤ most) }
+    ensures moved { words.new ≡ moved words.old }
 {
-    if next_word(s, at).is_none() {
-        return Ok(Read {
-            value: missing,
-            next: at,
-        });
+    if next_word(words.line, words.at).is_none() {
+        return Ok(missing);
     }
-    next_value(s, at, most)
+    words.value(most)
 }
 
 // A command as it was sent, and the length of the response buffer lent to it.
@@ -151,40 +150,37 @@ pub struct Sent {
 }
 
 #[tactic(auto, unfolding(crate::specs::Orders::sent_at))]
-fn next_sent(s: &[u8], at: usize) -> Result<Sent, Reason>
-    ensures { result ≡ sent_at s.now at }
+fn next_sent(mut words: Words<'_>) -> Result<Sent, Reason>
+    ensures { result ≡ sent_at words.entry.line.now words.entry.at }
 {
-    let bytes = next_bytes(s, at)?;
-    let length = next_or(LEAST_BUFFER as u32, MOST_ROOM as u32, s, bytes.next)?;
+    let bytes = words.bytes()?;
+    let length = next_or(&mut words, LEAST_BUFFER as u32, MOST_ROOM as u32)?;
     Ok(Sent {
-        bytes: bytes.value,
-        room: length.value as usize,
+        bytes,
+        room: length as usize,
     })
 }
 
 #[tactic(auto, unfolding(crate::specs::Orders::command_at))]
-fn command_order(s: &[u8], at: usize) -> Result<Order, Reason>
-    ensures { result ≡ command_at s.now at }
+fn command_order(mut words: Words<'_>) -> Result<Order, Reason>
+    ensures { result ≡ command_at words.entry.line.now words.entry.at }
 {
-    let verdict = next_value(s, at, 255)?;
-    let Sent { bytes, room } = next_sent(s, verdict.next)?;
+    let verdict = words.value(255)?;
+    let Sent { bytes, room } = next_sent(words)?;
     let call = Call::Command {
-        verdict: verdict.value as u8,
+        verdict: verdict as u8,
         bytes,
     };
     Ok(Order::Call { call, room })
 }
 
 #[tactic(auto, unfolding(crate::specs::Orders::policy_line_at))]
-fn policy_order(s: &[u8], at: usize) -> Result<Order, Reason>
-    ensures { result ≡ policy_line_at s.now at }
+fn policy_order(mut words: Words<'_>) -> Result<Order, Reason>
+    ensures { result ≡ policy_line_at words.entry.line.now words.entry.at }
 {
-    let speaker = next_bytes(s, at)?;
-    let Sent { bytes, room } = next_sent(s, speaker.next)?;
-    let call = Call::PolicyUpdate {
-        speaker: speaker.value,
-        bytes,
-    };
+    let speaker = words.bytes()?;
+    let Sent { bytes, room } = next_sent(words)?;
+    let call = Call::PolicyUpdate { speaker, bytes };
     Ok(Order::Call { call, room })
 }
 
@@ -196,64 +192,61 @@ fn inner(call: Call) -> Order
 }
 
 #[tactic(auto, unfolding(crate::specs::Orders::keyed_at))]
-fn keyed_order(s: &[u8], at: usize) -> Result<Order, Reason>
-    ensures { result ≡ keyed_at s.now at }
+fn keyed_order(mut words: Words<'_>) -> Result<Order, Reason>
+    ensures { result ≡ keyed_at words.entry.line.now words.entry.at }
 {
-    let aid = next_bytes(s, at)?;
-    Ok(inner(Call::Keyed(aid.value)))
+    let aid = words.bytes()?;
+    Ok(inner(Call::Keyed(aid)))
 }
 
 #[tactic(auto, unfolding(crate::specs::Orders::stored_at))]
-fn stored_order(s: &[u8], at: usize) -> Result<Order, Reason>
-    ensures { result ≡ stored_at s.now at }
+fn stored_order(mut words: Words<'_>) -> Result<Order, Reason>
+    ensures { result ≡ stored_at words.entry.line.now words.entry.at }
 {
-    let aid = next_bytes(s, at)?;
-    let used = next_value(s, aid.next, MOST_NUMBER)?;
-    Ok(inner(Call::Stored {
-        aid: aid.value,
-        n: used.value,
-    }))
+    let aid = words.bytes()?;
+    let n = words.value(MOST_NUMBER)?;
+    Ok(inner(Call::Stored { aid, n }))
 }
 
 #[tactic(auto, unfolding(crate::specs::Orders::finished_at))]
-fn finished_order(s: &[u8], at: usize) -> Result<Order, Reason>
-    ensures { result ≡ finished_at s.now at }
+fn finished_order(mut words: Words<'_>) -> Result<Order, Reason>
+    ensures { result ≡ finished_at words.entry.line.now words.entry.at }
 {
-    let aid = next_bytes(s, at)?;
-    let policy = next_value(s, aid.next, 255)?;
-    let mark = next_or(1, 255, s, policy.next)?;
+    let aid = words.bytes()?;
+    let policy = words.value(255)?;
+    let mark = next_or(&mut words, 1, 255)?;
     Ok(inner(Call::Finished {
-        aid: aid.value,
-        policy: policy.value as u8,
-        mark: mark.value as u8,
+        aid,
+        policy: policy as u8,
+        mark: mark as u8,
     }))
 }
 
 // The order by its first word, of a line of n words.
 #[tactic(auto, unfolding(crate::specs::Orders::order_by, crate::specs::Orders::words_counted))]
-fn order_by(verb: Verb, n: usize, s: &[u8], at: usize) -> Result<Order, Reason>
-    ensures { result ≡ order_by verb n s.now at }
+fn order_by(verb: Verb, n: usize, words: Words<'_>) -> Result<Order, Reason>
+    ensures { result ≡ order_by verb n words.entry.line.now words.entry.at }
 {
     match verb {
         Verb::Fresh => {
             count_ok(7, 7, n)?;
-            fresh_order(s, at)
+            fresh_order(words)
         }
         Verb::Command => {
             count_ok(3, 4, n)?;
-            command_order(s, at)
+            command_order(words)
         }
         Verb::Keyed => {
             count_ok(2, 2, n)?;
-            keyed_order(s, at)
+            keyed_order(words)
         }
         Verb::Stored => {
             count_ok(3, 3, n)?;
-            stored_order(s, at)
+            stored_order(words)
         }
         Verb::Finished => {
             count_ok(3, 4, n)?;
-            finished_order(s, at)
+            finished_order(words)
         }
         Verb::Tick => {
             count_ok(1, 1, n)?;
@@ -265,11 +258,11 @@ fn order_by(verb: Verb, n: usize, s: &[u8], at: usize) -> Result<Order, Reason>
         }
         Verb::Policy => {
             count_ok(3, 4, n)?;
-            policy_order(s, at)
+            policy_order(words)
         }
         Verb::Card => {
             count_ok(RECORD, RECORD, n)?;
-            Ok(Order::Record(at))
+            Ok(Order::Record(words.at))
         }
     }
 }
@@ -289,5 +282,5 @@ pub fn read_line(s: &[u8]) -> Result<Order, Reason>
         return Ok(Order::Nothing);
     }
     let verb = verb_of(&s[from..to]).ok_or(Reason::UnknownWord)?;
-    order_by(verb, count_words(s), s, to)
+    order_by(verb, count_words(s), Words::new(s, to))
 }

@@ -13,6 +13,10 @@ use Rattle.card_isdp.specs.declared.Isdp.{Isdp}
 use Rattle.script_record.specs.Records.{place_at, places_on}
 use Rattle.script_words.specs.declared.Reason.{Reason}
 
+-- the same line, read on
+pub same-line : (n at : ℕ) (l : List Isdp) {s t : List ℕ} → s ≡ t → places_on n s at l ≡ places_on n t at l
+same-line n at l e = ap (λ (s : List ℕ). places_on n s at l) e
+
 -- a turn reads one place of those that are left
 one_left : (s : List ℕ) (at i : ℕ) (l : List Isdp) → i < most_places → places_on (most_places - i) s at l ≡ places_on (suc (most_places - (i + 1))) s at l
 one_left s at i l h = let e : most_places - i ≡ suc (most_places - (i + 1)) = omega arith in ap (λ (n : ℕ). places_on n s at l) e

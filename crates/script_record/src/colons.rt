@@ -141,9 +141,7 @@ pub fn read_place(w: &[u8]) -> Option<Isdp>
     }
     let Span { from, to } = next_field(w, 0, b':')?;
     let mut bytes = [0u8; 16];
-    let Ok(n) = read_hex(&w[from..to], &mut bytes) else {
-        return None;
-    };
+    let n = read_hex(&w[from..to], &mut bytes).ok()?;
     place_with(
         w,
         to + 1,

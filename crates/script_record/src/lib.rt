@@ -7,22 +7,23 @@ mod colons;
 ghost use Rattle.std.specs.Prelude.{◌≡◌, ◌≤◌, [], IfSome, IfOk};
 ghost use Rattle.card_isdp.specs.Sizes.{most_places};
 ghost use Rattle.card_record.specs.Cards.{no_place};
+ghost use Rattle.script_words.specs.Words.{read_to, moved};
 ghost use Rattle.script_record.specs.Records.{phase_at, kept_in, kept_at, pending_at, record_memory_at, record_head_at, place_at, places_on, record_with, record_at};
 
 use base_bytes::same;
 use card_isdp::Isdp;
 use card_record::{Card, Phase};
 use colons::{read_phase, read_place};
-use script_words::{MOST_NUMBER, Read, Reason, next_value};
-use text_words::{Span, decimal, next_word, read_hex};
+use script_words::{MOST_NUMBER, Reason, Words};
+use text_words::{Span, decimal, read_hex};
 
-#[tactic(auto, unfolding(crate::specs::Records::phase_at))]
-fn next_phase(s: &[u8], at: usize) -> Result<Read<Phase>, Reason>
-    ensures { result ≡ phase_at s.now at }
+#[tactic(auto, unfolding(crate::specs::Records::phase_at, script_words::specs::Words::word_next))]
+fn next_phase(words: &mut Words<'_>) -> Result<Phase, Reason>
+    ensures found { read_to result words.new.at ≡ phase_at words.old.line.now words.old.at }
+    ensures moved { words.new ≡ moved words.old }
 {
-    let Span { from, to } = next_word(s, at).ok_or(Reason::WordsMissing)?;
-    let value = read_phase(&s[from..to]).ok_or(Reason::BadPhase)?;
-    Ok(Read { value, next: to })
+    let Span { from, to } = words.next()?;
+    read_phase(&words.line[from..to]).ok_or(Reason::BadPhase)
 }
 
 // KEPT: no number spells `Card::NO_PLACE`.
@@ -37,14 +38,14 @@ fn kept_in(w: &[u8]) -> Option<u32>
     decimal(w, 254)
 }
 
-#[tactic(auto, unfolding(crate::specs::Records::kept_at))]
-fn next_kept(s: &[u8], at: usize) -> Result<Read<u32>, Reason>
-    ensures value { result ≡ kept_at s.now at }
-    ensures within { IfOk result (λ v. v.value ≤ no_place) }
+#[tactic(auto, unfolding(crate::specs::Records::kept_at, script_words::specs::Words::word_next))]
+fn next_kept(words: &mut Words<'_>) -> Result<u32, Reason>
+    ensures found { read_to result words.new.at ≡ kept_at words.old.line.now words.old.at }
+    ensures moved { words.new ≡ moved words.old }
+    ensures within { IfOk result (λ n. n ≤ no_place) }
 {
-    let Span { from, to } = next_word(s, at).ok_or(Reason::WordsMissing)?;
-    let value = kept_in(&s[from..to]).ok_or(Reason::BadNumber)?;
-    Ok(Read { value, next: to })
+    let Span { from, to } = words.next()?;
+    kept_in(&words.line[from..to]).ok_or(Reason::BadNumber)
 }
 
 // The change and the listing that are open.
@@ -55,17 +56,15 @@ pub struct Pending {
 }
 
 #[tactic(auto, unfolding(crate::specs::Records::pending_at))]
-fn pending_at(s: &[u8], at: usize) -> Result<Read<Pending>, Reason>
-    ensures { result ≡ pending_at s.now at }
+fn next_pending(words: &mut Words<'_>) -> Result<Pending, Reason>
+    ensures found { read_to result words.new.at ≡ pending_at words.old.line.now words.old.at }
+    ensures line { words.new.line ≡ words.old.line }
 {
-    let phase = next_phase(s, at)?;
-    let kept = next_kept(s, phase.next)?;
-    Ok(Read {
-        value: Pending {
-            phase: phase.value,
-            kept: kept.value as u8,
-        },
-        next: kept.next,
+    let phase = next_phase(words)?;
+    let kept = next_kept(words)?;
+    Ok(Pending {
+        phase,
+        kept: kept as u8,
     })
 }
 
@@ -78,19 +77,17 @@ pub struct Memory {
 }
 
 #[tactic(auto, unfolding(crate::specs::Records::record_memory_at))]
-fn record_memory_at(s: &[u8], at: usize) -> Result<Read<Memory>, Reason>
-    ensures { result ≡ record_memory_at s.now at }
+fn next_memory(words: &mut Words<'_>) -> Result<Memory, Reason>
+    ensures found { read_to result words.new.at ≡ record_memory_at words.old.line.now words.old.at }
+    ensures line { words.new.line ≡ words.old.line }
 {
-    let capacity = next_value(s, at, MOST_NUMBER)?;
-    let volatile = next_value(s, capacity.next, MOST_NUMBER)?;
-    let free = next_value(s, volatile.next, MOST_NUMBER)?;
-    Ok(Read {
-        value: Memory {
-            capacity: capacity.value,
-            volatile: volatile.value,
-            free: free.value,
-        },
-        next: free.next,
+    let capacity = words.value(MOST_NUMBER)?;
+    let volatile = words.value(MOST_NUMBER)?;
+    let free = words.value(MOST_NUMBER)?;
+    Ok(Memory {
+        capacity,
+        volatile,
+        free,
     })
 }
 
@@ -104,53 +101,48 @@ pub struct Head {
 }
 
 #[tactic(auto, unfolding(crate::specs::Records::record_head_at))]
-fn record_head_at(s: &[u8], at: usize) -> Result<Read<Head>, Reason>
-    ensures { result ≡ record_head_at s.now at }
+fn next_head(words: &mut Words<'_>) -> Result<Head, Reason>
+    ensures found { read_to result words.new.at ≡ record_head_at words.old.line.now words.old.at }
+    ensures line { words.new.line ≡ words.old.line }
 {
-    let memory = record_memory_at(s, at)?;
-    let last = next_value(s, memory.next, 65535)?;
-    let fallback = next_value(s, last.next, 255)?;
-    let pending = pending_at(s, fallback.next)?;
-    Ok(Read {
-        value: Head {
-            memory: memory.value,
-            last: last.value as u16,
-            fallback: fallback.value as u8,
-            pending: pending.value,
-        },
-        next: pending.next,
+    let memory = next_memory(words)?;
+    let last = words.value(65535)?;
+    let fallback = words.value(255)?;
+    let pending = next_pending(words)?;
+    Ok(Head {
+        memory,
+        last: last as u16,
+        fallback: fallback as u8,
+        pending,
     })
 }
 
-#[tactic(auto, unfolding(crate::specs::Records::place_at))]
-fn next_place(s: &[u8], at: usize) -> Result<Read<Isdp>, Reason>
-    ensures { result ≡ place_at s.now at }
+#[tactic(auto, unfolding(crate::specs::Records::place_at, script_words::specs::Words::word_next))]
+fn next_place(words: &mut Words<'_>) -> Result<Isdp, Reason>
+    ensures found { read_to result words.new.at ≡ place_at words.old.line.now words.old.at }
+    ensures moved { words.new ≡ moved words.old }
 {
-    let Span { from, to } = next_word(s, at).ok_or(Reason::WordsMissing)?;
-    let value = read_place(&s[from..to]).ok_or(Reason::BadPlace)?;
-    Ok(Read { value, next: to })
+    let Span { from, to } = words.next()?;
+    read_place(&words.line[from..to]).ok_or(Reason::BadPlace)
 }
 
-fn read_places(s: &[u8], start: usize) -> Result<[Isdp; Card::PLACES], Reason>
-    ensures { result ≡ places_on most_places s.now start [] }
+fn read_places(mut words: Words<'_>) -> Result<[Isdp; Card::PLACES], Reason>
+    ensures { result ≡ places_on most_places words.entry.line.now words.entry.at [] }
 {
     let mut places = [Isdp::none(); Card::PLACES];
-    let mut at = start;
     for place in &mut places {
-        let read = next_place(s, at)?;
-        *place = read.value;
-        at = read.next;
+        *place = next_place(&mut words)?;
     }
     Ok(places)
 }
 
 // What stands after the EID.
 #[tactic(auto, unfolding(crate::specs::Records::record_with))]
-fn record_with(s: &[u8], at: usize, eid: [u8; 16]) -> Result<Card, Reason>
-    ensures { result ≡ record_with s.now at eid }
+fn record_with(mut words: Words<'_>, eid: [u8; 16]) -> Result<Card, Reason>
+    ensures { result ≡ record_with words.entry.line.now words.entry.at eid }
 {
-    let Read { value: head, next } = record_head_at(s, at)?;
-    let places = read_places(s, next)?;
+    let head = next_head(&mut words)?;
+    let places = read_places(words)?;
     Ok(Card::with(
         eid,
         head.memory.capacity,
@@ -165,17 +157,15 @@ fn record_with(s: &[u8], at: usize, eid: [u8; 16]) -> Result<Card, Reason>
 }
 
 // The record of the words after `card`.
-#[tactic(auto, unfolding(crate::specs::Records::record_at, base_choice::specs::Choice::pick, base_choice::specs::Choice::is_same))]
-pub fn record_at(s: &[u8], at: usize) -> Result<Card, Reason>
-    ensures { result ≡ record_at s.now at }
+#[tactic(auto, unfolding(crate::specs::Records::record_at, script_words::specs::Words::word_next, base_choice::specs::Choice::pick, base_choice::specs::Choice::is_same))]
+pub fn record_at(mut words: Words<'_>) -> Result<Card, Reason>
+    ensures { result ≡ record_at words.entry.line.now words.entry.at }
 {
-    let Span { from, to } = next_word(s, at).ok_or(Reason::WordsMissing)?;
+    let Span { from, to } = words.next()?;
     let mut eid = [0u8; 16];
-    let Ok(n) = read_hex(&s[from..to], &mut eid) else {
-        return Err(Reason::BadHex);
-    };
+    let n = read_hex(&words.line[from..to], &mut eid).map_err(|_| Reason::BadHex)?;
     if n != 16 {
         return Err(Reason::BadHex);
     }
-    record_with(s, to, eid)
+    record_with(words, eid)
 }

@@ -28,6 +28,7 @@ use record_door::Call;
 use script_answer::{write_answer, write_explained};
 use script_line::{MOST_ROOM, Order, read_line};
 use script_record::record_at;
+use script_words::Words;
 use text_words::spell_hex;
 
 // Where a session stands: its card, whether that card is known to be sound, up to where the lent buffer is filled, and whether the run
@@ -159,6 +160,7 @@ fn put_text(out: &mut Writer, explain: bool, answer: &Answer, response: &[u8])
 }
 
 // The same from a place of the buffer on; up to where it is then filled.
+// Buffer and place, no writer: `take_line` is lent them, and its promise is `Wrote`.
 fn write_text(explain: bool, answer: &Answer, response: &[u8], out: &mut [u8], at: usize) -> usize
     ensures { Wrote out.old at (answer_text explain answer.now response.now) result out.new × (length (answer_text explain answer.now response.now) ≤ length response.now * 2 + most_explained) }
 {
@@ -168,6 +170,7 @@ fn write_text(explain: bool, answer: &Answer, response: &[u8], out: &mut [u8], a
 }
 
 // The answer of a call that hands in a card: it is sound exactly where the call is accepted, and it has no response.
+// Buffer and place, as in `write_text`.
 fn first_reply(explain: bool, answer: Answer, out: &mut [u8], at: usize) -> Turn
     ensures { (result.card ≡ answer.card) × ((result.sound ≡ is_done answer.status) × ((result.goes ≡ true) × (Wrote out.old at (answer_text explain answer []) result.filled out.new × (length (answer_text explain answer []) ≤ most_text)))) }
 {
@@ -181,16 +184,16 @@ fn first_reply(explain: bool, answer: Answer, out: &mut [u8], at: usize) -> Turn
 }
 
 // A call on a card known to be sound, or on one that has to be asked.
-fn answer_to(found: bool, card: Card, call: Call, bytes: &[u8], buf: &mut [u8]) -> Answer
-    ensures { Served buf.old (answer_to found card (call_of bytes.now (length buf.old) call)) result buf.new }
+fn answer_to(sound: bool, card: Card, call: Call, bytes: &[u8], buf: &mut [u8]) -> Answer
+    ensures { Served buf.old (answer_to sound card (call_of bytes.now (length buf.old) call)) result buf.new }
 {
-    if found {
+    if sound {
         return record_door::answer_on_sound(card, call, bytes, buf);
     }
     record_door::answer(card, call, bytes, buf)
 }
 
-// A call of the line, whose bytes and response stand in the buffers lent.
+// A call of the line, whose bytes and response stand in the buffers lent, piece by piece as to `take_line`.
 fn call_reply(
     turn: Turn,
     explain: bool,
@@ -239,17 +242,18 @@ fn passed_over(turn: Turn) -> Turn
     Turn { goes: true, ..turn }
 }
 
-// A line whose words from `at` on are those of a record.
-fn record_reply(turn: Turn, explain: bool, number: u64, s: &[u8], at: usize, out: &mut [u8]) -> Turn
-    ensures { Replied out.old turn.filled (on_ok (record_at s.now at) (fault_reply turn.card turn.sound number) (λ d. first_reply explain (record_outcome d))) result out.new }
+// A line whose words from this place on are those of a record.
+fn record_reply(turn: Turn, explain: bool, number: u64, words: Words<'_>, out: &mut [u8]) -> Turn
+    ensures { Replied out.old turn.filled (on_ok (record_at words.entry.line.now words.entry.at) (fault_reply turn.card turn.sound number) (λ d. first_reply explain (record_outcome d))) result out.new }
 {
-    match record_at(s, at) {
+    match record_at(words) {
         Ok(card) => first_reply(explain, hand_in(card), out, turn.filled),
         Err(reason) => stopped(turn, write_reason(number, reason, out, turn.filled)),
     }
 }
 
 // Line `number` of a script. Two buffers are lent for a call's bytes and its response: what is in them before does not matter.
+// The memory is lent piece by piece: README names `take_line` and what it leaves in each.
 pub fn take_line(
     turn: Turn,
     explain: bool,
@@ -279,9 +283,10 @@ pub fn take_line(
             turn.filled,
         ),
         Ok(Order::Call { call, room }) => {
+            // `return`: the turn is not copied (docs/PERFORMANCE.md)
             return call_reply(turn, explain, call, room, s, bytes, response, out);
         }
-        Ok(Order::Record(at)) => record_reply(turn, explain, number, s, at, out),
+        Ok(Order::Record(at)) => record_reply(turn, explain, number, Words { line: s, at }, out),
         Err(reason) => stopped(turn, write_reason(number, reason, out, turn.filled)),
     }
 }

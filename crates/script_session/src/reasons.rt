@@ -33,6 +33,7 @@ fn put_fault(out: &mut Writer, number: u64, reason: Reason)
 }
 
 // A line of the script that cannot be read, by its number, and what is wrong with it.
+// Buffer and place, no writer: `take_line` is lent them, and its promise is `Wrote`.
 pub fn write_reason(number: u64, reason: Reason, buf: &mut [u8], at: usize) -> usize
     ensures { Wrote buf.old at (reason_line number reason) result buf.new × (length (reason_line number reason) ≤ most_fault) }
 {

@@ -1,9 +1,10 @@
 // The words of a line after its first: the next one as a byte string or as a number, and what is wrong with a line.
-// Every function answers for every line and every place in it.
+// The methods of `Words` answer for every line and every place in it.
 #![tactic(auto)]
 
-ghost use Rattle.std.specs.Prelude.{◌≡◌, ◌≤◌, IfOk};
+ghost use Rattle.std.specs.Prelude.{◌≡◌, ◌<◌, ◌≤◌, IfOk, length};
 ghost use Rattle.script_words.specs.Arguments.{bytes_at, value_at};
+ghost use Rattle.script_words.specs.Words.{read_to, moved, word_next};
 
 use base_bytes::Part;
 use text_words::{Span, decimal, is_hex, next_word};
@@ -24,35 +25,62 @@ pub enum Reason {
 // The most that a number of a line can be.
 pub const MOST_NUMBER: u32 = 4294967295;
 
-// What was read of a line, and the place after it.
+// What was read of a line, and the place after it, as the definitions have it: `on_next` hands it on.
 #[derive(Clone, Copy)]
 pub struct Read<T> {
     pub value: T,
     pub next: usize,
 }
 
-// A byte string, by the part of the line that spells it.
-#[tactic(auto, unfolding(crate::specs::Arguments::bytes_at, base_choice::specs::Choice::pick))]
-pub fn next_bytes(s: &[u8], at: usize) -> Result<Read<Part>, Reason>
-    ensures { result ≡ bytes_at s.now at }
-{
-    let Span { from, to } = next_word(s, at).ok_or(Reason::WordsMissing)?;
-    if !is_hex(&s[from..to]) {
-        return Err(Reason::BadHex);
-    }
-    let value = Part {
-        start: from,
-        len: to - from,
-    };
-    Ok(Read { value, next: to })
+// A line and a place in it: what is read is the next word, and the place moves past it.
+#[derive(Clone, Copy)]
+pub struct Words<'a> {
+    pub line: &'a [u8],
+    pub at: usize,
 }
 
-#[tactic(auto, unfolding(crate::specs::Arguments::value_at))]
-pub fn next_value(s: &[u8], at: usize, most: u32) -> Result<Read<u32>, Reason>
-    ensures value { result ≡ value_at most s.now at }
-    ensures within { IfOk result (λ v. v.value ≤ most) }
-{
-    let Span { from, to } = next_word(s, at).ok_or(Reason::WordsMissing)?;
-    let value = decimal(&s[from..to], most).ok_or(Reason::BadNumber)?;
-    Ok(Read { value, next: to })
+impl<'a> Words<'a> {
+    pub fn new(line: &'a [u8], at: usize) -> Words<'a>
+        ensures { result ≡ record { line = line.entry; at = at } }
+    {
+        Words { line, at }
+    }
+
+    // The next word; where there is none, the place stays.
+    #[tactic(auto, unfolding(crate::specs::Words::word_next))]
+    pub fn next(&mut self) -> Result<Span, Reason>
+        ensures found { read_to result self.new.at ≡ word_next self.old.line.now self.old.at }
+        ensures moved { self.new ≡ moved self.old }
+        ensures inside { IfOk result (λ w. (w.from < w.to) × (w.to ≤ length self.old.line.now)) }
+    {
+        let word = next_word(self.line, self.at).ok_or(Reason::WordsMissing)?;
+        self.at = word.to;
+        Ok(word)
+    }
+
+    // A byte string, by the part of the line that spells it.
+    #[tactic(auto, unfolding(crate::specs::Arguments::bytes_at, crate::specs::Words::word_next, base_choice::specs::Choice::pick))]
+    pub fn bytes(&mut self) -> Result<Part, Reason>
+        ensures found { read_to result self.new.at ≡ bytes_at self.old.line.now self.old.at }
+        ensures moved { self.new ≡ moved self.old }
+    {
+        let Span { from, to } = self.next()?;
+        if !is_hex(&self.line[from..to]) {
+            return Err(Reason::BadHex);
+        }
+        Ok(Part {
+            start: from,
+            len: to - from,
+        })
+    }
+
+    #[tactic(auto, unfolding(crate::specs::Arguments::value_at, crate::specs::Words::word_next))]
+    pub fn value(&mut self, most: u32) -> Result<u32, Reason>
+        ensures found { read_to result self.new.at ≡ value_at most self.old.line.now self.old.at }
+        ensures within { IfOk result (λ n. n ≤ most) }
+        ensures moved { self.new ≡ moved self.old }
+    {
+        let Span { from, to } = self.next()?;
+        decimal(&self.line[from..to], most).ok_or(Reason::BadNumber)
+    }
 }

@@ -4,13 +4,14 @@
 // What a line means and what is written of it is proved below, in `script_session`; here only bytes are moved.
 #![tactic(auto)]
 
-ghost use Rattle.std.specs.Prelude.{◌≡◌, ◌+◌, ◌≤◌};
+ghost use Rattle.std.specs.Prelude.{◌≡◌, ◌+◌, ◌≤◌, ℕ};
 ghost use Rattle.script_reply.specs.Replies.{most_text};
 
 use base_bytes::same;
 use script_line::MOST_ROOM;
 use script_session::{MOST_BYTES, Turn, take_line};
 use std::env::Env;
+use std::marker::Model;
 use text_input::{Arrival, Input, fail, fill, open, put_out};
 use text_lines::{Found, LONGEST, Window};
 
@@ -21,6 +22,7 @@ const OUT: usize = 32768;
 const ANSWER: usize = 16384;
 
 // What the words before a script ask of its run, and whether a script was named.
+// `named` is of the run, with no value beside it: was any file named?
 #[derive(Clone, Copy)]
 struct Options {
     explain: bool,
@@ -29,6 +31,7 @@ struct Options {
 }
 
 // A script's run: its session, the lines counted, what is lent to a call, and the answers that are still to be written out.
+// Contracts see how many bytes these have.
 #[derive(Drop)]
 struct Session {
     turn: Turn,
@@ -38,9 +41,17 @@ struct Session {
     out: [u8; OUT],
 }
 
+impl Model for Session {
+    ghost Value = { ℕ };
+
+    ghost view = { λ s. s.turn.filled };
+
+    ghost invariant = { λ s. s.turn.filled ≤ 32768 };
+}
+
 impl Session {
     fn new() -> Session
-        ensures { result.turn.filled ≡ 0 }
+        ensures { result ≡ 0 }
     {
         Session {
             turn: Turn::first(),
@@ -53,16 +64,14 @@ impl Session {
 
     // What is collected is written out; none of it is left to write.
     fn write_out(&mut self, rt: &HostRuntime)
-        requires { self.old.turn.filled ≤ 32768 }
-        ensures { self.new.turn.filled ≡ 0 }
+        ensures { self.new ≡ 0 }
     {
         self.turn.filled = put_out(rt, &self.out[..self.turn.filled]);
     }
 
     // The same where the room for one more answer is short: after it the longest answer has room.
     fn make_room(&mut self, rt: &HostRuntime)
-        requires { self.old.turn.filled ≤ 32768 }
-        ensures { self.new.turn.filled + most_text ≤ 32768 }
+        ensures { self.new + most_text ≤ 32768 }
     {
         if OUT - ANSWER < self.turn.filled {
             self.write_out(rt);
@@ -70,10 +79,7 @@ impl Session {
     }
 
     // A line is counted and answered.
-    fn answer(&mut self, rt: &HostRuntime, options: Options, line: &[u8])
-        requires { self.old.turn.filled ≤ 32768 }
-        ensures { self.new.turn.filled ≤ 32768 }
-    {
+    fn answer(&mut self, rt: &HostRuntime, options: Options, line: &[u8]) {
         self.make_room(rt);
         self.number = self.number.saturating_add(1);
         self.turn.sound = self.turn.sound & !options.ask;
@@ -95,6 +101,7 @@ fn run(rt: &HostRuntime, input: &mut Input, options: Options) {
     let mut window = Window::fresh();
     let mut last = false;
     let mut session = Session::new();
+    // Bounded, so that the run ends by itself: no script has so many lines.
     for _ in 0..u64::MAX {
         match window.next(&buf, last) {
             Found::Line { from, to } => session.answer(rt, options, &buf[from..to]),
@@ -128,6 +135,7 @@ fn start(rt: &HostRuntime, word: &[u8], options: Options) {
     }
 }
 
+// As in minutes, but for its options: one over closures would lend each program's options twice.
 // One word: an option for what follows, or a script, which is run.
 fn take_word(rt: &HostRuntime, word: &[u8], options: Options) -> Options {
     let mut after = options;
@@ -151,6 +159,7 @@ fn main(rt: HostRuntime) {
         named: false,
     };
     let mut word = [0u8; 4096];
+    // By number, into lent memory: std's iterator of words allocates and refuses words that are no UTF-8.
     for place in 1..usize::MAX {
         let Ok(n @ 1..) = rt.arg(place, &mut word) else {
             break;

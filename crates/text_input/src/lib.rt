@@ -11,6 +11,7 @@ use std::io;
 use std::io::{ErrorKind, Read, Stdin};
 use text_lines::Window;
 
+// Four ways on; a failure is one of them and told without its error (decision B27), so no Result. `Brings` of specs/ is by its cases.
 #[derive(Clone, Copy)]
 pub enum Arrival {
     Bytes,
@@ -46,6 +47,7 @@ pub fn read_full<R: Read>(input: &mut R, buf: &mut [u8]) -> (usize, io::Result<(
     ensures whole { OnOk result.1 (result.0 < length buf.new → IsAtEnd (R.remaining input.new)) }
 {
     let mut filled = 0;
+    // No `for` and no `read_exact`: how far a read goes is known after it, and the input's end is no failure.
     while filled < buf.len() {
         match input.read(&mut buf[filled..]) {
             Ok(0) => break,
@@ -86,7 +88,7 @@ pub fn open(rt: &HostRuntime, name: &[u8]) -> io::Result<Input>
 }
 
 // Bytes written to standard output, and how many of them are left to write: none. Where they could not be written, that is told on
-// standard error.
+// standard error. A number, so that the promise of a caller that keeps it (teapot's `write_out`) rests on it.
 pub fn put_out(rt: &HostRuntime, bytes: &[u8]) -> usize
     ensures { result ≡ 0 }
 {

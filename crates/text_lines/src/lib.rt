@@ -12,7 +12,8 @@ use text_words::until;
 pub const LONGEST: usize = 4096;
 
 // Where a reader stands: the bytes from `at` up to `end` are not handed out yet. Those up to the next line end belong to a line
-// that was told as too long where `skipping` is set.
+// that was told as too long where `skipping` is set: a state of the window, with no value beside it. `window_of` and `Cuts` name the
+// three fields.
 #[derive(Clone, Copy)]
 pub struct Window {
     pub at: usize,
@@ -21,6 +22,7 @@ pub struct Window {
 }
 
 // A line is told by its place in the window, without its line end.
+// Four ways on, so no Option: after each the caller goes on differently.
 #[derive(Clone, Copy)]
 pub enum Found {
     Line { from: usize, to: usize },

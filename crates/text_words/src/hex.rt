@@ -62,6 +62,7 @@ fn spell(s: &[u8], out: &mut [u8])
     requires { length s.now ≤ length out.old * 2 + 1 }
     ensures { out.new ≡ put out.old 0 (spelled s.now) }
 {
+    // By number: `chunks_exact` and `iter_mut` tell a proof nothing of the elements (docs/PERFORMANCE.md: spelled by pairs).
     for k in 0..s.len() / 2 {
         out[k] = byte_of(s[k * 2], s[k * 2 + 1]);
     }

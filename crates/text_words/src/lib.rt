@@ -1,4 +1,5 @@
-// Text in bytes: the words of a line, the numbers and byte strings that they spell, and the same written into a lent buffer, also in columns.
+// Text in bytes: the words of a line, the numbers and byte strings that they spell, and the same written into a lent buffer, also in
+// columns.
 // Every function is total, and its contract gives its whole answer and what it leaves in the buffer.
 #![tactic(auto)]
 

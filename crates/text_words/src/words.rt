@@ -79,6 +79,7 @@ pub fn count_words(s: &[u8]) -> usize
 {
     let mut count = 0;
     let mut at = 0;
+    // No `for`: where the next word begins is known when this one is read.
     while let Some(word) = next_word(s, at) {
         at = word.to;
         count += 1;

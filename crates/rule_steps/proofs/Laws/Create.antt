@@ -9,6 +9,7 @@ use mathlib.Core.Bool.{Bool, true, false, not, cond, ◌||◌, or-true, false≢
 use lib.ListN.{length}
 use lib.Dec.{ltb, leb}
 use borrow.Author.Tests.{ltb-true, ltb-false, lt-ltb, le-ltb, leb-true, leb-false, le-leb, lt-leb, not-true, not-false}
+use Rattle.std.proofs.lemmas.Bool.{false_from_ne_true}
 use Rattle.base_status.specs.declared.Status.TheVariants.{DataWrong, NoRoom}
 use Rattle.card_isdp.specs.Sizes.{most_places}
 use Rattle.card_isdp.specs.LifeCycle.{selectable}
@@ -31,7 +32,7 @@ use Rattle.rule_steps.proofs.Rows.{Passed}
 use Rattle.rule_steps.proofs.Kept.{quietly}
 use Rattle.rule_steps.proofs.Laws.Places.{place_is, holds}
 use Rattle.rule_steps.proofs.Laws.Answer.{asked-passed, asked-taken, none-to-come, rewrites}
-use Rattle.rule_steps.proofs.Laws.Words.{refuted, by_rows, no_more, skip, by-when, none_open, held-when}
+use Rattle.rule_steps.proofs.Laws.Words.{by_rows, no_more, skip, by-when, none_open, held-when}
 
 -- a search passes over no place that passes its test
 lower-case : (t : Isdp → Bool) (p : Isdp) (ps : List Isdp) (i : ℕ) (b : Bool) → t p ≡ b → i < cond b 0 (suc (seek t ps)) → ((j : ℕ) → j < seek t ps → t (at ps j) ≡ false) → t (at (p ∷ ps) i) ≡ false
@@ -76,7 +77,7 @@ module _ (c : Card) (aid : List ℕ) (quota : ℕ) (s : sound c ≡ true) where
       record {
         change = rw m.none_open;
         target = refl;
-        already = refuted (held (profile_of c aid)) (λ h. m.not-held (place_of c aid) (holds c aid h));
+        already = false_from_ne_true (held (profile_of c aid)) (λ h. m.not-held (place_of c aid) (holds c aid h));
         state = refl;
         policy = refl;
         verdict = refl;

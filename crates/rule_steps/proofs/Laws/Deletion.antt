@@ -7,6 +7,7 @@ use mathlib.Core.Logic.{◌⊎◌, inl, inr, ⊎_elim}
 use mathlib.Core.Bool.{Bool, true, false, not, false≢true}
 use lib.Dec.{eqb}
 use borrow.Author.Tests.{eqb-true, eqb-false, eq-eqb, ne_eqb, not-true, not-false}
+use Rattle.std.proofs.lemmas.Bool.{false_from_ne_true}
 use Rattle.base_status.specs.declared.Status.TheVariants.{StateWrong, PolicyForbids, VerdictWrong, Done}
 use Rattle.card_isdp.specs.Aids.{no_aid}
 use Rattle.card_isdp.specs.LifeCycle.{disabled, enabled}
@@ -32,7 +33,7 @@ use Rattle.rule_steps.specs.Laws.Deletion.{delete_rows, master_delete_rows, MayD
 use Rattle.rule_steps.proofs.Kept.{quietly}
 use Rattle.rule_steps.proofs.Laws.Places.{held-within}
 use Rattle.rule_steps.proofs.Laws.Answer.{command-law, held-passes, none-to-come, rewrites}
-use Rattle.rule_steps.proofs.Laws.Words.{refuted, by_rows, no_more, skip, by-unless, none_open, is_held, target-unless, target-when}
+use Rattle.rule_steps.proofs.Laws.Words.{by_rows, no_more, skip, by-unless, none_open, is_held, target-unless, target-when}
 
 module _ (c : Card) (aid : List ℕ) where
   abbrev t : ℕ
@@ -65,7 +66,7 @@ delete-refused c aid s =
     by_rows c (asked_work c (on aid delete)) s (delete_rows c aid)
     (none_open c λ q. is_held c aid s λ h.
     target-when c aid s (λ i. ((profile_at c i).life ≡ enabled) ⊎ (i ≡ c.fallback)) StateWrong h
-    (λ x. ap not (refuted (may_be_deleted c t) λ m. let d = deletable c t m in ⊎_elim (eqb-false _ _ d.off) d.apart x))
+    (λ x. ap not (false_from_ne_true (may_be_deleted c t) λ m. let d = deletable c t m in ⊎_elim (eqb-false _ _ d.off) d.apart x))
     (left_over c aid (eqb (profile_of c aid).life enabled) (eqb t c.fallback) refl refl s h) λ m.
     target-when c aid s (λ i. forbids_deletion (profile_at c i).policy ≡ true) PolicyForbids h (λ f. f) (λ f. f) λ f. skip (skip (no_more refl)))
 

@@ -7,6 +7,7 @@ use lib.ListN.{length, get_or, replicate}
 use lib.Seq.{take_all}
 use lib.Dec.{leb, eqb}
 use borrow.Author.Tests.{eq-eqb, eqb-true, le-leb, leb-true}
+use Rattle.std.proofs.lemmas.Bool.{and_from}
 use Rattle.base_status.specs.StatusWords.{is_done}
 use Rattle.base_status.specs.Rows.{word_of}
 use Rattle.base_status.specs.declared.Status.TheVariants.{DataWrong, Done}
@@ -14,7 +15,7 @@ use Rattle.card_isdp.specs.Sizes.{least_aid, eid_size, most_capacity}
 use Rattle.card_isdp.specs.Aids.{padded, aid_ok}
 use Rattle.card_isdp.specs.Place.{vacant}
 use Rattle.card_isdp.specs.Clauses.{ZeroPlace}
-use Rattle.card_isdp.proofs.Bools.{and_l, and_r, both}
+use Rattle.card_isdp.proofs.Bools.{and_l, and_r}
 use Rattle.card_record.specs.Sound.{sound}
 use Rattle.card_record.specs.Notifications.{silent, notice_since}
 use Rattle.card_record.specs.Ticks.{steps_in, ticks_to_come}
@@ -62,12 +63,12 @@ module _ (eid aid : List ℕ) (capacity quota used : ℕ) where
 
   may-ok : May → ok ≡ true
   may-ok m =
-      both _ _ (eq-eqb (length eid) 16 m.eid-size)
-      (both _ _ (both _ _ (le-leb 5 (length aid) m.aid-least) (le-leb (length aid) 16 m.aid-most))
-      (both _ _ (le-leb 1 capacity m.capacity-least)
-      (both _ _ (le-leb capacity 1048576 m.capacity-most)
-      (both _ _ (le-leb 1 quota m.quota-least)
-      (both _ _ (le-leb quota capacity m.quota-most) (le-leb used quota m.used-most))))))
+      and_from _ _ (eq-eqb (length eid) 16 m.eid-size)
+      (and_from _ _ (and_from _ _ (le-leb 5 (length aid) m.aid-least) (le-leb (length aid) 16 m.aid-most))
+      (and_from _ _ (le-leb 1 capacity m.capacity-least)
+      (and_from _ _ (le-leb capacity 1048576 m.capacity-most)
+      (and_from _ _ (le-leb 1 quota m.quota-least)
+      (and_from _ _ (le-leb quota capacity m.quota-most) (le-leb used quota m.used-most))))))
 
   begun : length aid ≤ 16 → Begun aid quota used (fresh_profile aid quota used)
   unfolding padded

@@ -4,10 +4,10 @@ use mathlib.Core.Path.{◌≡◌, refl, sym, ap, subst, ◌∙◌}
 use Prim.Native.Nat.{ℕ, zero, suc, ◌+◌, ◌-◌, ◌≤◌, ◌<◌}
 use native.Mathlib.Numerals.{add-one}
 use native.Mathlib.Omega.{arith}
-use mathlib.Core.List.{List, [], ◌∷◌, ◌++◌, append_assoc, append-nil}
+use mathlib.Core.List.{List, [], ◌∷◌, ◌++◌, append_assoc, append_cancel_right, append-nil}
 use mathlib.Core.Bool.{Bool, true, false, cond, or-true}
-use lib.ListN.{length, length-append, drop_of_length-le}
-use lib.Seq.{drop-cons, take-append_seam}
+use lib.ListN.{length, drop_of_length-le}
+use lib.Seq.{drop-cons}
 use lib.Dec.{leb, eqb}
 use borrow.Author.Tests.{leb-true, leb-false, eqb-true, eq-eqb, ne_eqb, eqb-false}
 use Rattle.base_status.specs.declared.Status.{Status}
@@ -66,12 +66,6 @@ to_the_end c life attribute from false e =
     let z : length c.places - from ≡ 0 = omega arith in
     rw (z, none-there c life attribute from (omega arith))
 
--- what ends alike and is alike begins alike
-begins-alike : (xs ys zs : List ℕ) → xs ++ zs ≡ ys ++ zs → xs ≡ ys
-begins-alike xs ys zs e =
-    let n : length xs ≡ length ys = omega (arith, length-append xs zs, length-append ys zs, ap length e) in
-    sym (take-append_seam xs zs) ∙ rw (e, n) (take-append_seam ys zs)
-
 row-bytes : (c : Card) (t : ℕ) (life attribute : Bool) → held (profile_at c t) ≡ true → length (status_at c life attribute t) ≡ row_size (profile_at c t) life attribute
 row-bytes c t life attribute h =
     let e : row_of (profile_at c t) (attribute_of c.fallback t) life attribute ≡ status_at c life attribute t = row_is c life attribute t ∙ rw h in
@@ -96,7 +90,7 @@ module _ (c : Card) (life attribute : Bool) (from : ℕ) (s : sound c ≡ true) 
       let d : from + (left - from) ≡ left = let low = w.low in omega arith in
       let high = w.high in
       let q : part ≡ status_from c life attribute from (left - from) =
-      begins-alike part _ (listing_from c left life attribute) (sym e ∙ from-there c life attribute from (left - from) (omega arith) ∙ rw d) in
+      append_cancel_right part _ (listing_from c left life attribute) (sym e ∙ from-there c life attribute from (left - from) (omega arith) ∙ rw d) in
       let o : eqb left no_place ≡ false = ne_eqb left no_place (λ z. let f = (parts c s).sizes.full in omega arith) in
       rw (o, q)
       (up_to (left - from) (omega arith) (rw d w.there) (rw (d, ← q, row-bytes c left life attribute w.there) w.full)

@@ -7,6 +7,7 @@ use mathlib.Core.Bool.{Bool, true, false, not, cond, false≢true}
 use lib.ListN.{length}
 use lib.Dec.{leb, eqb}
 use borrow.Author.Tests.{leb-true, le-leb, eqb-true, eq-eqb, not-true, not-false}
+use Rattle.std.proofs.lemmas.Bool.{false_from_ne_true}
 use Rattle.base_status.specs.Rows.{Row, row, word_of}
 use Rattle.base_status.specs.StatusWords.{number_of, is_done}
 use Rattle.base_status.specs.declared.Status.{Status}
@@ -33,10 +34,6 @@ use Rattle.rule_steps.proofs.Laws.Places.{place_is, holds}
 pub record Beside (success : Status) (law : List PaperRow) (table : List Row) : Type 0 where
   pub words : InThisOrder law (word_of success table)
 
-pub refuted : (b : Bool) → (b ≡ true → ⊥) → b ≡ false
-refuted true n = absurd (n refl)
-refuted false n = refl
-
 -- a call's answer on a sound card has the word of its rows
 module _ (c : Card) (w : Work) (s : sound c ≡ true) where
   word-is : (outcome c w).status ≡ word_of w.success w.rows
@@ -60,11 +57,11 @@ skip b = record { words = b.words }
 pub by-when : {success : Status} {law : List PaperRow} {table : List Row} {P : Type 0} {b : Bool} (word : Status) → (P → b ≡ true) → (b ≡ true → P) → (b ≡ false → Beside success law table) → Beside success (number_of word when P ∷ law) (row b word ∷ table)
 unfolding word_of
 by-when {b} word so only rest =
-    record { words = (λ p. rw (so p) refl, λ n. let q = refuted b (λ e. n (only e)) in rw q (rest q).words) }
+    record { words = (λ p. rw (so p) refl, λ n. let q = false_from_ne_true b (λ e. n (only e)) in rw q (rest q).words) }
 
 pub by-unless : {success : Status} {law : List PaperRow} {table : List Row} {P : Type 0} (b : Bool) (word : Status) → (P → b ≡ true) → (b ≡ true → P) → (P → Beside success law table) → Beside success (number_of word unless P ∷ law) (row (not b) word ∷ table)
 by-unless b word so only rest =
-    by-when word (λ n. ap not (refuted b (λ e. n (only e)))) (λ e p. false≢true (sym (not-true b e) ∙ so p)) (λ e. rest (only (not-false b e)))
+    by-when word (λ n. ap not (false_from_ne_true b (λ e. n (only e)))) (λ e p. false≢true (sym (not-true b e) ∙ so p)) (λ e. rest (only (not-false b e)))
 
 -- an inner call's values: AID and policy, as the tests and as the paper has them
 pub sized-when : (aid : List ℕ) → FiveToSixteen aid → aid_ok aid ≡ true

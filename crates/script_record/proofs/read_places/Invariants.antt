@@ -8,4 +8,4 @@ use Rattle.script_record.specs.Records.{places_on}
 use Rattle.script_record.proofs.read_places.Given as goal
 
 abbrev pub invariant-loop-place : goal.invariant-loop-place
-invariant-loop-place l = (length l.place-items ≡ most_places) × (places_on (most_places - l.place-index) l.s l.at (take l.place-index l.place-items) ≡ places_on most_places l.s l.start [])
+invariant-loop-place l = (length l.place-items ≡ most_places) × (places_on (most_places - l.place-index) l.words.line.now l.words.at (take l.place-index l.place-items) ≡ places_on most_places l.initial.words.line.now l.initial.words.at [])

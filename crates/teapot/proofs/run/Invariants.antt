@@ -1,6 +1,6 @@
--- `teapot::run`: the loop keeps the buffer for reads whole, and what is to be written within its own.
-use Rattle.std.proofs.Common.{◌≡◌, ◌≤◌, length}
+-- `teapot::run`: the loop keeps the buffer for reads whole.
+use Rattle.std.proofs.Common.{◌≡◌, length}
 use Rattle.teapot.proofs.run.Given as goal
 
 abbrev pub invariant-loop : goal.invariant-loop
-invariant-loop l = (16384 ≡ length l.buf) × (l.session.turn.filled ≤ 32768)
+invariant-loop l = 16384 ≡ length l.buf

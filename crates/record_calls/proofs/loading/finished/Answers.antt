@@ -1,11 +1,8 @@
 -- `loading::finished`: the rows of the values, the target and its state, each passed or stopped at.
-use mathlib.Core.Path.{ap, ◌≡◌, refl}
+use mathlib.Core.Path.{ap, ap₂, ◌≡◌, refl}
 use mathlib.Core.Bool.{Bool, true, false, not, ◌&&◌}
 use lib.Dec.{ltb, eqb}
 use Rattle.base_status.specs.Rows.{word_of}
-use Rattle.card_isdp.specs.Aids.{aid_ok}
-use Rattle.card_isdp.specs.Policy.{policy_ok}
-use Rattle.card_isdp.specs.Provisioning.{mark_ok}
 use Rattle.card_isdp.specs.LifeCycle.{personalized}
 use Rattle.card_isdp.specs.declared.Isdp.{Isdp}
 use Rattle.rule_steps.specs.Asked.{Act.finished}
@@ -19,18 +16,18 @@ finishable p = eqb p.life personalized && ltb 0 p.used
 pub returns-then-not-aid_ok-policy_ok : goal.returns-then-not-aid_ok-policy_ok
 unfolding word_of
 returns-then-not-aid_ok-policy_ok c =
-    let values : let s = c.args in (c.aid_ok.result && (c.policy_ok.result && c.mark_ok.result)) ≡ (aid_ok s.aid.now && (policy_ok s.policy && mark_ok s.mark)) = rw (c.mark_ok.ensures, c.policy_ok.ensures, c.aid_ok.ensures) in
+    let values = ap₂ ◌&&◌ c.aid_ok.ensures (ap₂ ◌&&◌ c.policy_ok.ensures c.mark_ok.ensures) in
     rw (asks values c.if-not-aid_ok-policy_ok.true) c.refused.ensures
 
 pub returns-in_default : goal.returns-in_default
 returns-in_default c =
-    let values : let s = c.args in (c.aid_ok.result && (c.policy_ok.result && c.mark_ok.result)) ≡ (aid_ok s.aid.now && (policy_ok s.policy && mark_ok s.mark)) = rw (c.mark_ok.ensures, c.policy_ok.ensures, c.aid_ok.ensures) in
+    let values = ap₂ ◌&&◌ c.aid_ok.ensures (ap₂ ◌&&◌ c.policy_ok.ensures c.mark_ok.ensures) in
     let asked : let s = c.args in Sought s.card s.aid.now (finished s.policy s.mark) c.place_of.result = sought _ _ (finished c.args.policy c.args.mark) (asks values c.if-not-aid_ok-policy_ok.false) refl c.well_formed.0 c.place_of.ensures in
     let s = asked in rw (inner s, at_target s c.in_default.is) c.refused-in_default.ensures
 
 pub returns-then-not-done : goal.returns-then-not-done
 returns-then-not-done c =
-    let values : let s = c.args in (c.aid_ok.result && (c.policy_ok.result && c.mark_ok.result)) ≡ (aid_ok s.aid.now && (policy_ok s.policy && mark_ok s.mark)) = rw (c.mark_ok.ensures, c.policy_ok.ensures, c.aid_ok.ensures) in
+    let values = ap₂ ◌&&◌ c.aid_ok.ensures (ap₂ ◌&&◌ c.policy_ok.ensures c.mark_ok.ensures) in
     let asked : let s = c.args in Sought s.card s.aid.now (finished s.policy s.mark) c.place_of.result = sought _ _ (finished c.args.policy c.args.mark) (asks values c.if-not-aid_ok-policy_ok.false) refl c.well_formed.0 c.place_of.ensures in
     let aimed : let s = c.args in Aimed s.card s.aid.now (finished s.policy s.mark) c.in-Some.t = asked.target c.in-Some.is in
     let a = aimed in
@@ -39,7 +36,7 @@ returns-then-not-done c =
 
 pub returns : goal.returns
 returns c =
-    let values : let s = c.args in (c.aid_ok.result && (c.policy_ok.result && c.mark_ok.result)) ≡ (aid_ok s.aid.now && (policy_ok s.policy && mark_ok s.mark)) = rw (c.mark_ok.ensures, c.policy_ok.ensures, c.aid_ok.ensures) in
+    let values = ap₂ ◌&&◌ c.aid_ok.ensures (ap₂ ◌&&◌ c.policy_ok.ensures c.mark_ok.ensures) in
     let asked : let s = c.args in Sought s.card s.aid.now (finished s.policy s.mark) c.place_of.result = sought _ _ (finished c.args.policy c.args.mark) (asks values c.if-not-aid_ok-policy_ok.false) refl c.well_formed.0 c.place_of.ensures in
     let aimed : let s = c.args in Aimed s.card s.aid.now (finished s.policy s.mark) c.in-Some.t = asked.target c.in-Some.is in
     let a = aimed in

@@ -8,10 +8,11 @@ use Rattle.script_reply.specs.Replies.{most_text}
 use Rattle.teapot.proofs.Within.{within}
 use Rattle.teapot.proofs.Session.answer.Goals as goal
 
-pub returns : goal.returns
-returns c =
-    let s = c.make_room.new.self in
+pub invariant_of-self : goal.invariant_of-self
+invariant_of-self c =
+    let s = c.self.inside in
     let n : length s.out ≡ 32768 = search rules in
-    let k : s.turn.filled + most_text ≤ length s.out = omega arith in
-    let f = within _ _ _ _ _ c.take_line-self.ensures.0 k in
-    omega arith
+    let e = c.self.view_is in
+    let k : s.turn.filled + most_text ≤ length s.out = search (rules, arith) in
+    let f = within _ _ _ _ _ c.take_line-self-inside.ensures.0 k in
+    search (rules, arith)
