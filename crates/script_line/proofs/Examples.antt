@@ -33,7 +33,7 @@ examples =
     ∷ record { line = "  # tick"; says = Ok Nothing }
     ∷ record { line = " tick "; says = Ok (inner Tick) }
     ∷ record { line = "lost"; says = Ok (inner Lost) }
-    ∷ record { line = "fresh - A000000001 1000 00500 0 4294967295"; says = Ok (Fresh (record { start = 6; len = 1 }) (record { start = 8; len = 10 }) 1000 500 0 4294967295) }
+    ∷ record { line = "fresh - A000000001 1000 00500 0 4294967295"; says = Ok (Fresh (record { eid = record { start = 6; len = 1 }; aid = record { start = 8; len = 10 }; capacity = 1000; quota = 500; used = 0; volatile = 4294967295 })) }
     ∷ record { line = "command 255  80e2"; says = Ok (order.Call (Command 255 (record { start = 13; len = 4 })) 256) }
     ∷ record { line = "command 0 - 1024"; says = Ok (order.Call (Command 0 (record { start = 10; len = 1 })) 1024) }
     ∷ record { line = "keyed A000000002"; says = Ok (inner (Keyed (record { start = 6; len = 10 }))) }

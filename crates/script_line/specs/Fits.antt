@@ -29,7 +29,7 @@ CallFits s (call.PolicyUpdate speaker bytes) = (speaker.start + speaker.len ≤ 
 
 abbrev pub OrderFits : List ℕ → Order → Type 0
 OrderFits s order.Nothing = Unit {0}
-OrderFits s (order.Fresh eid aid capacity quota used volatile) = Fits s eid × Fits s aid
+OrderFits s (order.Fresh asked) = Fits s asked.eid × Fits s asked.aid
 OrderFits s (order.Call x room) = CallFits s x × (room ≤ most_buffer)
 OrderFits s (order.Record at) = Unit {0}
 

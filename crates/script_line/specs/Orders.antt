@@ -65,7 +65,7 @@ fresh_with s at eid aid =
     on_next (value_at most32 s at) Err λ capacity b.
     on_next (value_at most32 s b) Err λ quota c.
     on_next (value_at most32 s c) Err λ used d.
-    on_next (value_at most32 s d) Err λ volatile e. Ok (order.Fresh eid aid capacity quota used volatile)
+    on_next (value_at most32 s d) Err λ volatile e. Ok (order.Fresh (record { eid = eid; aid = aid; capacity = capacity; quota = quota; used = used; volatile = volatile }))
 
 -- EID AID CAPACITY QUOTA USED VOLATILE
 unfoldable pub fresh_at : List ℕ → ℕ → Result Order Reason

@@ -12,23 +12,25 @@ use script_words::{MOST_NUMBER, Reason, Words};
 use text_lines::LONGEST;
 use text_words::{Span, count_words, next_word};
 
+// What a `fresh` line asks for.
+#[derive(Clone, Copy)]
+pub struct Fresh {
+    pub eid: Part,
+    pub aid: Part,
+    pub capacity: u32,
+    pub quota: u32,
+    pub used: u32,
+    pub volatile: u32,
+}
+
 // A byte string stays in the line, where a part names the word that spells it: an order holds no bytes.
+// `Nothing` is a case and no Option: it is answered like the others (`ordered_by`).
 #[derive(Clone, Copy)]
 pub enum Order {
     Nothing,
-    Fresh {
-        eid: Part,
-        aid: Part,
-        capacity: u32,
-        quota: u32,
-        used: u32,
-        volatile: u32,
-    },
+    Fresh(Fresh),
     // The call, and the length of the response buffer lent to it.
-    Call {
-        call: Call,
-        room: usize,
-    },
+    Call { call: Call, room: usize },
     // The record's words begin at this place; `script_record::record_at` reads them.
     Record(usize),
 }
@@ -110,14 +112,14 @@ fn fresh_with(mut words: Words<'_>, eid: Part, aid: Part) -> Result<Order, Reaso
     let quota = words.value(MOST_NUMBER)?;
     let used = words.value(MOST_NUMBER)?;
     let volatile = words.value(MOST_NUMBER)?;
-    Ok(Order::Fresh {
+    Ok(Order::Fresh(Fresh {
         eid,
         aid,
         capacity,
         quota,
         used,
         volatile,
-    })
+    }))
 }
 
 #[tactic(auto, unfolding(crate::specs::Orders::fresh_at))]

@@ -50,14 +50,14 @@ record-right c found explain n (Ok d) h = record-flag d (sound d) refl
 orders-agree : (c : Card) (found explain : Bool) (n : ℕ) (s : List ℕ) (o : Result Order Reason) → Right c found → reply_by (answer_to found c) c found explain n s o ≡ reply_by (step c) c found explain n s o
 orders-agree c found explain n s (Err reason) h = refl
 orders-agree c found explain n s (Ok order.Nothing) h = refl
-orders-agree c found explain n s (Ok (order.Fresh eid aid capacity quota used volatile)) h = refl
+orders-agree c found explain n s (Ok (order.Fresh asked)) h = refl
 orders-agree c found explain n s (Ok (order.Call x room)) h = ap (reply_of explain found (bytes_in s x)) (answers_agree c found (call_spelled s room x) h)
 orders-agree c found explain n s (Ok (order.Record at)) h = refl
 
 order-flag : (c : Card) (found explain : Bool) (n : ℕ) (s : List ℕ) (o : Result Order Reason) → Right c found → Right (reply_by (step c) c found explain n s o).card (reply_by (step c) c found explain n s o).sound
 order-flag c found explain n s (Err reason) h = h
 order-flag c found explain n s (Ok order.Nothing) h = h
-order-flag c found explain n s (Ok (order.Fresh eid aid capacity quota used volatile)) h = fresh-sound (spelled_bytes s eid) (spelled_bytes s aid) capacity quota used volatile
+order-flag c found explain n s (Ok (order.Fresh asked)) h = fresh-sound (spelled_bytes s asked.eid) (spelled_bytes s asked.aid) asked.capacity asked.quota asked.used asked.volatile
 order-flag c found explain n s (Ok (order.Call x room)) h = λ z. step-sound c (call_spelled s room x) (h z)
 order-flag c found explain n s (Ok (order.Record at)) h = record-right c found explain n (record_at s at) h
 
@@ -74,7 +74,7 @@ record-alike c found explain n (Ok d) = record { same_text = refl; same-goes = r
 order_alike : (c : Card) (found explain : Bool) (n : ℕ) (s : List ℕ) (o : Result Order Reason) → Alike (reply_by (step c) c found explain n s o) (reply_by (step c) c false explain n s o)
 order_alike c found explain n s (Err reason) = record { same_text = refl; same-goes = refl; same-card = refl }
 order_alike c found explain n s (Ok order.Nothing) = record { same_text = refl; same-goes = refl; same-card = refl }
-order_alike c found explain n s (Ok (order.Fresh eid aid capacity quota used volatile)) = record { same_text = refl; same-goes = refl; same-card = refl }
+order_alike c found explain n s (Ok (order.Fresh asked)) = record { same_text = refl; same-goes = refl; same-card = refl }
 order_alike c found explain n s (Ok (order.Call x room)) = record { same_text = refl; same-goes = refl; same-card = refl }
 order_alike c found explain n s (Ok (order.Record at)) = record-alike c found explain n (record_at s at)
 

@@ -21,7 +21,7 @@ use Rattle.script_reply.specs.Replies.{call_spelled}
 -- the call of an order that is one
 abbrev called : List ℕ → Result Order Reason → List Call
 called s (Ok order.Nothing) = []
-called s (Ok (order.Fresh eid aid capacity quota used volatile)) = []
+called s (Ok (order.Fresh asked)) = []
 called s (Ok (order.Call x room)) = call_spelled s room x ∷ []
 called s (Ok (order.Record at)) = []
 called s (Err why) = []

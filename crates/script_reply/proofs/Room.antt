@@ -38,11 +38,11 @@ call-room s (code.PolicyUpdate speaker bytes) h =
 
 order-room : (s : List ℕ) (o : Order) → OrderFits s o → HasRoom s o
 order-room s order.Nothing h = tt
-order-room s (order.Fresh eid aid capacity quota used volatile) h =
+order-room s (order.Fresh asked) h =
     let i = h.0.short in
     let j = h.1.short in
-    let m = bytes-half s eid in
-    let n = bytes-half s aid in
+    let m = bytes-half s asked.eid in
+    let n = bytes-half s asked.aid in
     (omega arith, omega arith)
 order-room s (order.Call x room) h = (call-room s x h.0, h.1)
 order-room s (order.Record at) h = tt

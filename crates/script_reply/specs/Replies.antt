@@ -102,8 +102,8 @@ fault_reply c found n reason = record { card = c; sound = found; text = reason_l
 -- what an order comes to where `answer` answers the calls on the card; `found` says whether the card is known to be sound
 abbrev pub ordered_by : (Call → Outcome) → Card → Bool → Bool → ℕ → List ℕ → Order → Reply
 ordered_by answer c found explain n s order.Nothing = no_reply c found
-ordered_by answer c found explain n s (order.Fresh eid aid capacity quota used volatile) =
-    first_reply explain (fresh_outcome (spelled_bytes s eid) (spelled_bytes s aid) capacity quota used volatile)
+ordered_by answer c found explain n s (order.Fresh asked) =
+    first_reply explain (fresh_outcome (spelled_bytes s asked.eid) (spelled_bytes s asked.aid) asked.capacity asked.quota asked.used asked.volatile)
 ordered_by answer c found explain n s (order.Call x room) = reply_of explain found (bytes_in s x) (answer (call_spelled s room x))
 ordered_by answer c found explain n s (order.Record at) =
     on_ok (record_at s at) (fault_reply c found n) λ d. first_reply explain (record_outcome d)

@@ -9,7 +9,7 @@ use Rattle.script_reply.specs.Replies.{most_bytes, spelled_bytes, bytes_in}
 -- the two byte strings of a fresh card have a buffer each, those of a call one together (decision B85)
 abbrev pub HasRoom : List ℕ → Order → Type 0
 HasRoom s order.Nothing = Unit {0}
-HasRoom s (order.Fresh eid aid capacity quota used volatile) = (length (spelled_bytes s eid) ≤ most_bytes) × (length (spelled_bytes s aid) ≤ most_bytes)
+HasRoom s (order.Fresh asked) = (length (spelled_bytes s asked.eid) ≤ most_bytes) × (length (spelled_bytes s asked.aid) ≤ most_bytes)
 HasRoom s (order.Call x room) = (length (bytes_in s x) ≤ most_bytes) × (room ≤ most_buffer)
 HasRoom s (order.Record at) = Unit {0}
 

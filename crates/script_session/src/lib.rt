@@ -26,7 +26,7 @@ use card_record::{Answer, Card, Inputs};
 use reasons::write_reason;
 use record_door::Call;
 use script_answer::{write_answer, write_explained};
-use script_line::{MOST_ROOM, Order, read_line};
+use script_line::{Fresh, MOST_ROOM, Order, read_line};
 use script_record::record_at;
 use script_words::Words;
 use text_words::spell_hex;
@@ -111,29 +111,21 @@ fn lay(s: &[u8], call: Call, out: &mut [u8]) -> Call
     }
 }
 
-fn fresh(
-    s: &[u8],
-    eid: Part,
-    aid: Part,
-    capacity: u32,
-    quota: u32,
-    used: u32,
-    volatile: u32,
-) -> Answer
-    requires { (length (spelled_bytes s.now eid) ≤ most_bytes) × (length (spelled_bytes s.now aid) ≤ most_bytes) }
-    ensures { result ≡ as_answer (fresh_outcome (spelled_bytes s.now eid) (spelled_bytes s.now aid) capacity quota used volatile) }
+fn fresh(s: &[u8], asked: Fresh) -> Answer
+    requires { (length (spelled_bytes s.now asked.eid) ≤ most_bytes) × (length (spelled_bytes s.now asked.aid) ≤ most_bytes) }
+    ensures { result ≡ as_answer (fresh_outcome (spelled_bytes s.now asked.eid) (spelled_bytes s.now asked.aid) asked.capacity asked.quota asked.used asked.volatile) }
 {
     let mut first = [0u8; MOST_BYTES];
-    let m = spell(s, eid, &mut first);
+    let m = spell(s, asked.eid, &mut first);
     let mut second = [0u8; MOST_BYTES];
-    let n = spell(s, aid, &mut second);
+    let n = spell(s, asked.aid, &mut second);
     record_door::fresh(&Inputs {
         eid: part_of(&first, m),
         aid: part_of(&second, n),
-        capacity,
-        quota,
-        used,
-        volatile,
+        capacity: asked.capacity,
+        quota: asked.quota,
+        used: asked.used,
+        volatile: asked.volatile,
     })
 }
 
@@ -267,21 +259,7 @@ pub fn take_line(
 {
     match read_line(s) {
         Ok(Order::Nothing) => passed_over(turn),
-        Ok(
-            Order::Fresh {
-                eid,
-                aid,
-                capacity,
-                quota,
-                used,
-                volatile,
-            },
-        ) => first_reply(
-            explain,
-            fresh(s, eid, aid, capacity, quota, used, volatile),
-            out,
-            turn.filled,
-        ),
+        Ok(Order::Fresh(asked)) => first_reply(explain, fresh(s, asked), out, turn.filled),
         Ok(Order::Call { call, room }) => {
             // `return`: the turn is not copied (docs/PERFORMANCE.md)
             return call_reply(turn, explain, call, room, s, bytes, response, out);

@@ -18,46 +18,54 @@ use Rattle.text_input.specs.Filled.{FilledReads}
 use Rattle.text_lines.proofs.Cuts.{held-le}
 use Rattle.text_lines.proofs.WindowLaws.{window-end}
 
-module _ (w : Window) (buf : List ℕ) (v : Window) (k : List ℕ) (p : v ≡ moved_down w buf) (q : k ≡ put buf 0 (held_of w buf)) where
-  pub kept-front : take v.end k ≡ held_of w buf
+-- what `keep` leaves of a window and its buffer
+pub record Kept (w : Window) (buf : List ℕ) (v : Window) (k : List ℕ) : Type 0 where
+  pub window : v ≡ moved_down w buf
+  pub bytes : k ≡ put buf 0 (held_of w buf)
+
+pub kept : (w : Window) (buf : List ℕ) {v : Window} {k : List ℕ} → (v ≡ moved_down w buf) × (k ≡ put buf 0 (held_of w buf)) → Kept w buf v k
+kept w buf e = record { window = e.0; bytes = e.1 }
+
+module _ {w : Window} {buf : List ℕ} {v : Window} {k : List ℕ} (e : Kept w buf v k) where
+  kept-front : take v.end k ≡ held_of w buf
   kept-front =
-      ap (λ (x : Window). take x.end k) p
-      ∙ ap (take (length (held_of w buf))) (q ∙ put_front buf (held_of w buf) (held-le w buf))
+      ap (λ (x : Window). take x.end k) e.window
+      ∙ ap (take (length (held_of w buf))) (e.bytes ∙ put_front buf (held_of w buf) (held-le w buf))
       ∙ take-append_seam (held_of w buf) (drop (length (held_of w buf)) buf)
 
-  pub kept-end : v.end ≡ length (held_of w buf)
-  kept-end = ap (λ (x : Window). x.end) p
+  kept-end : v.end ≡ length (held_of w buf)
+  kept-end = ap (λ (x : Window). x.end) e.window
 
-  pub kept-skipping : v.skipping ≡ w.skipping
-  kept-skipping = ap (λ (x : Window). x.skipping) p
+  pub skips : v.skipping ≡ w.skipping
+  skips = ap (λ (x : Window). x.skipping) e.window
 
   -- without a read
-  pub kept-held : held_of v k ≡ held_of w buf ++ []
-  kept-held = ap (λ (x : Window). drop x.at (take v.end k)) p ∙ kept-front ∙ sym (append-nil (held_of w buf))
+  pub unread : held_of v k ≡ held_of w buf ++ []
+  unread = ap (λ (x : Window). drop x.at (take v.end k)) e.window ∙ kept-front ∙ sym (append-nil (held_of w buf))
 
   -- after a read of `count` bytes
   module _ (ys post : List ℕ) where
     front : take v.end k ++ (ys ++ post) ≡ held_of w buf ++ (ys ++ post)
     front = ap (λ (x : List ℕ). x ++ (ys ++ post)) kept-front
 
-    pub more-held : (count : ℕ) {r : Window} → r ≡ grown_of v count (length (take v.end k ++ (ys ++ post))) → count ≤ length ys
+    pub read-some : (count : ℕ) {r : Window} → r ≡ grown_of v count (length (take v.end k ++ (ys ++ post))) → count ≤ length ys
         → held_of r (take v.end k ++ (ys ++ post)) ≡ held_of w buf ++ take count ys
-    more-held count g h =
+    read-some count g h =
         let m : List ℕ = take v.end k ++ (ys ++ post) in
-        let e = kept-end in
+        let n = kept-end in
         let s : length m ≡ length (held_of w buf) + (length ys + length post) = ap length front ∙ length-append (held_of w buf) (ys ++ post) ∙ ap (λ (n : ℕ). length (held_of w buf) + n) (length-append ys post) in
         let j : v.end + count ≤ length m = omega arith in
         let l : after (length m) v.end count ≡ length (held_of w buf) + count = omega (arith, after-fits (length m) v.end count j) in
         ap (λ (x : Window). held_of x m) g
-        ∙ ap (λ (x : Window). drop x.at (take (after (length m) v.end count) m)) p
+        ∙ ap (λ (x : Window). drop x.at (take (after (length m) v.end count) m)) e.window
         ∙ ap (take (after (length m) v.end count)) front
         ∙ ap (λ (n : ℕ). take n (held_of w buf ++ (ys ++ post))) l
         ∙ take-append-add (held_of w buf) (ys ++ post) count
         ∙ ap (λ (x : List ℕ). held_of w buf ++ x) (take-append-le count ys post h)
 
     -- after a read that brought none
-    pub held-after : held_of v (take v.end k ++ (ys ++ post)) ≡ held_of w buf ++ []
-    held-after = let m : List ℕ = take v.end k ++ (ys ++ post) in more-held 0 {r = v} (window-end v.at v.skipping (sym (after_none (length m) v.end))) (omega arith)
+    pub read-none : held_of v (take v.end k ++ (ys ++ post)) ≡ held_of w buf ++ []
+    read-none = let m : List ℕ = take v.end k ++ (ys ++ post) in read-some 0 {r = v} (window-end v.at v.skipping (sym (after_none (length m) v.end))) (omega arith)
 
 pub filled-reads : FilledReads
 filled-reads w buf v a m input ls p = read p.bytes p.held p.skipping

@@ -9,6 +9,7 @@ use mathlib.Core.Bool.{Bool, true, false}
 use native.Mathlib.Omega.{arith}
 use lib.ListN.{length, take, drop, length-append, length-take, length-drop}
 use lib.Seq.{take-take, take-append_seam}
+use Rattle.std.proofs.lemmas.List.{take_min}
 use Rattle.text_words.specs.Words.{part}
 use Rattle.base_bytes.specs.Put.{put, after}
 use Rattle.base_bytes.proofs.PutLaws.{put-put, put_front, length-put, after-fits}
@@ -19,7 +20,7 @@ use Rattle.text_lines.specs.declared.Window.{Window}
 use Rattle.text_lines.specs.declared.Step.{Step}
 use Rattle.text_lines.specs.declared.Found.{Found}
 use Rattle.text_lines.specs.declared.Found.TheVariants as found_as
-use Rattle.text_lines.proofs.WindowLaws.{take-least, drop-part}
+use Rattle.text_lines.proofs.WindowLaws.{drop-part}
 use Rattle.text_lines.proofs.LineLaws.{lines_none}
 use Rattle.text_lines.proofs.Hands.{to_come, Inside, step_right}
 
@@ -52,7 +53,7 @@ module _ (w : Window) (buf : List ℕ) (last : Bool) where
   step-held =
       let r = step_right (take w.end buf) w.at w.skipping last in
       ap (λ (n : ℕ). drop (next_line w buf last).window.at (take n buf)) (r.ends ∙ length-take w.end buf)
-      ∙ ap (drop (next_line w buf last).window.at) (take-least w.end buf)
+      ∙ ap (drop (next_line w buf last).window.at) (take_min w.end buf)
 
   pub next-hands : (f : List ℕ) → (last ≡ true → f ≡ []) → ahead w buf f ≡ handed_out buf (next_line w buf last).found ++ ahead (next_line w buf last).window buf f
   next-hands f g =

@@ -8,6 +8,7 @@ use native.Mathlib.Nat.{zero-add}
 use native.Mathlib.Numerals.{unary_clauses}
 use lib.ListN.{length, take, drop, length-drop, length-take}
 use lib.Seq.{take-nil}
+use Rattle.std.proofs.lemmas.List.{take_min, drop_min}
 use Rattle.text_words.specs.Words.{part}
 use Rattle.base_bytes.specs.Put.{put}
 use Rattle.base_bytes.proofs.PutLaws.{put_front}
@@ -18,16 +19,8 @@ pub window-end : (at : ℕ) {e f : ℕ} (skipping : Bool) → e ≡ f → window
 window-end at skipping h = ap (λ (e : ℕ). window_of at e skipping) h
 
 -- more elements than there are, or fewer
-pub take-least : (n : ℕ) (l : List ℕ) → take (min n (length l)) l ≡ take n l
-take-least zero l = simp unary_clauses
-take-least (suc n) [] = simp unary_clauses
-take-least (suc n) (c ∷ cs) = simp unary_clauses (ap (λ (r : List ℕ). c ∷ r) (take-least n cs))
-
 pub drop-least : (n m : ℕ) (l : List ℕ) → drop (min n (min m (length l))) (take m l) ≡ drop n (take m l)
-drop-least zero m l = simp unary_clauses
-drop-least (suc n) zero l = simp unary_clauses
-drop-least (suc n) (suc m) [] = simp unary_clauses
-drop-least (suc n) (suc m) (c ∷ cs) = simp unary_clauses (drop-least n m cs)
+drop-least n m l = rw (← length-take m l) (drop_min n (take m l))
 
 -- what stands before an end, from a place on
 pub drop-part : (a e : ℕ) (l : List ℕ) → drop a (take e l) ≡ part l a e
@@ -49,7 +42,7 @@ module _ (at end : ℕ) (l : List ℕ) (a e : ℕ) (p : e ≡ min end (length l)
   held-part =
       sym (drop-part a e l)
       ∙ ap (λ (k : ℕ). drop a (take k l)) p
-      ∙ ap (drop a) (take-least end l)
+      ∙ ap (drop a) (take_min end l)
       ∙ ap (λ (k : ℕ). drop k (take end l)) (q ∙ ap (min at) p)
       ∙ drop-least at end l
 

@@ -21,4 +21,4 @@ spell-n-requires c = c.requires.1
 pub returns : goal.returns
 returns c = let eid = c.part_of.ensures ∙ front-is _ c.requires.0 c.spell-m.ensures.0 c.spell-m.ensures.1 in
     let aid = c.part_of-2.ensures ∙ front-is _ c.requires.1 c.spell-n.ensures.0 c.spell-n.ensures.1 in
-    same-fresh c.args.capacity c.args.quota c.args.used c.args.volatile c.fresh.ensures eid aid
+    same-fresh c.args.asked.capacity c.args.asked.quota c.args.asked.used c.args.asked.volatile c.fresh.ensures eid aid
