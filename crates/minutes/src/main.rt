@@ -37,6 +37,7 @@ struct Options {
 }
 
 // The file that a word names.
+// As in teapot: one over a closure would promise no more than `open` does, and each would still name what it runs.
 fn start(rt: &HostRuntime, word: &[u8], explain: bool) {
     match open(rt, word) {
         Ok(mut input) => tell(rt, &mut input, explain),
