@@ -6,6 +6,8 @@ use mathlib.Core.Path.{◌≡◌, refl, ap, sym, ◌∙◌, subst}
 use mathlib.Core.List.{List, []}
 use mathlib.Core.Bool.{Bool, true, false, cond}
 use lib.ListN.{length, drop, length-replicate}
+use lib.Dec.{ltb}
+use borrow.Author.Tests.{ltb-true, ltb-false}
 use native.Mathlib.Omega.{arith}
 use Rattle.base_status.specs.StatusWords.{is_done}
 use Rattle.card_isdp.specs.Aids.{no_aid}
@@ -56,6 +58,13 @@ unnamed-case c o (announced x) e = absurd (opened-code o.card.phase o.notificati
 named-case : (c : Card) (o : Outcome) → Notified c o → (code_of o.notification.kind ≡ 0 → ⊥) → enabled_aid o.card ≡ o.notification.aid
 named-case c o (silently x) n = absurd (n (ap (λ (k : Notification). code_of k.kind) x.none))
 named-case c o (announced x) n = sym x.profile
+
+-- a code as the code asks for it
+pub told-code : (n : ℕ) → ltb 0 n ≡ true → n ≡ 0 → ⊥
+told-code n e z = let h = ltb-true 0 n e in omega arith
+
+pub silent-code : (n : ℕ) → ltb 0 n ≡ false → n ≡ 0
+silent-code n e = let h = ltb-false 0 n e in omega arith
 
 -- what was counted so far
 abbrev pub so_far : Names → ℕ → ℕ → ℕ → List ℕ → Counted

@@ -2,8 +2,9 @@
 // Soundness is made by fresh and kept by every call, so it is not asked at any event (decision B49).
 #![tactic(auto)]
 
-ghost use Rattle.std.specs.Prelude.{◌≡◌, [], cond};
+ghost use Rattle.std.specs.Prelude.{◌≡◌, [], cond, ltb};
 ghost use Rattle.base_status.specs.StatusWords.{is_done};
+ghost use Rattle.card_record.specs.Notifications.{code_of};
 ghost use Rattle.rule_run.specs.Runs.{is_tick};
 ghost use Rattle.record_door.specs.Door.{call_of};
 ghost use Rattle.month_events.specs.Events.{events_of, calls_of};
@@ -13,7 +14,7 @@ ghost use Rattle.month_count.specs.Loop.{Countable, MinutesLine};
 
 use base_bytes::part_of;
 use base_status::Status;
-use card_record::Card;
+use card_record::{Card, Kind};
 use month_events::next_event;
 use month_file::{Refusal, open};
 use month_tally::{MINUTES, Names, Tally};
@@ -44,6 +45,13 @@ fn refusals(status: Status) -> u32
     u32::from(!status.is_done())
 }
 
+// Is there a notification, which names a profile?
+fn is_told(kind: Kind) -> bool
+    ensures { result ≡ ltb 0 (code_of kind) }
+{
+    !matches!(kind, Kind::Silent)
+}
+
 // The events of a body on a card, counted. The enabled profile changes only where an answer has a notification, which names it. Every
 // event goes through the one door, a tick in Quiet too (decisions B50, B53).
 fn count(card: Card, body: &[u8], minutes: &mut [u32; MINUTES]) -> Tally
@@ -65,7 +73,7 @@ fn count(card: Card, body: &[u8], minutes: &mut [u32; MINUTES]) -> Tally
         let answer = answer_on_sound(card, event.call, body, &mut buf);
         events += 1;
         refused += refusals(answer.status);
-        if answer.notification.kind.code() != 0 {
+        if is_told(answer.notification.kind) {
             names = names.noted(answer.notification.aid);
             own = names.line(answer.notification.aid);
         }

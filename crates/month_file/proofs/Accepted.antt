@@ -2,12 +2,13 @@
 use Prim.Native.Nat.{ℕ, ◌≤◌}
 use mathlib.Core.Path.{◌≡◌, refl, sym}
 use mathlib.Core.List.{List, [], ◌∷◌}
-use mathlib.Core.Bool.{Bool, true, false, not, cond, ◌||◌, false≢true}
+use mathlib.Core.Bool.{Bool, true, false, not, cond, false≢true}
 use Rattle.std.specs.Prelude.{Option, Some, None, Ok}
 use native.Mathlib.Omega.{arith}
 use lib.ListN.{length}
 use lib.Dec.{ltb}
 use borrow.Author.Tests.{ltb-false, not-false}
+use Rattle.std.proofs.lemmas.Bool.{or_parts}
 use Rattle.base_choice.specs.Choice.{pick}
 use Rattle.base_status.specs.StatusWords.{is_done}
 use Rattle.card_record.specs.Sound.{sound}
@@ -33,11 +34,6 @@ unfolding first_of
 none-refuses [] p = refl
 none-refuses (r ∷ rs) p = rw p.0 (none-refuses rs p.1)
 
--- both parts of a test that does not hold
-or-none : (a b : Bool) → (a || b) ≡ false → (a ≡ false) × (b ≡ false)
-or-none true b e = absurd (false≢true (sym e))
-or-none false b e = (refl, e)
-
 -- a section that is not missing has a body
 pub listed : (x : Option Part) → is_missing x ≡ false → x ≡ Some (part_in x)
 listed (Some p) e = refl
@@ -56,12 +52,12 @@ pub record Accepting (s : List ℕ) : Type 0 where
 
 size_of : (s : List ℕ) → contents_wrong s ≡ false → length s ≤ most_file
 unfolding contents_wrong
-size_of s e = ltb-false most_file (length s) (or-none (ltb most_file (length s)) _ e).0
+size_of s e = ltb-false most_file (length s) (or_parts (ltb most_file (length s)) _ e).0
 
 fresh-of : (f : List ℕ) → fresh_bad f ≡ false → (32 ≤ length f) × (is_done (fresh_answer f).status ≡ true)
 unfolding fresh_bad
 fresh-of f e =
-    let p = or-none (ltb (length f) 32) (not (is_done (fresh_answer f).status)) e in
+    let p = or_parts (ltb (length f) 32) (not (is_done (fresh_answer f).status)) e in
     (ltb-false (length f) 32 p.0, not-false _ p.1)
 
 sound-of : (f : List ℕ) → is_done (fresh_answer f).status ≡ true → sound (fresh_answer f).card ≡ true
@@ -75,7 +71,7 @@ right_of b e f g = rw (e, f, g)
 pub accepted : (s : List ℕ) → verdict_of s ≡ Accepted → Accepting s
 accepted s e =
     let p = passed (refusal_rows s) e in
-    let m = or-none (is_missing (section_of s fresh_kind)) (is_missing (section_of s events_kind)) p.1.0 in
+    let m = or_parts (is_missing (section_of s fresh_kind)) (is_missing (section_of s events_kind)) p.1.0 in
     let f = fresh-of (body_of s fresh_kind) p.1.1.0 in
     let r = p.1.1.1 in
     record {

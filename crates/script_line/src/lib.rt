@@ -225,6 +225,7 @@ fn finished_order(mut words: Words<'_>) -> Result<Order, Reason>
 }
 
 // The order by its first word, of a line of n words.
+// A match and no table of functions: each verb has its own counts and reader.
 #[tactic(auto, unfolding(crate::specs::Orders::order_by, crate::specs::Orders::words_counted))]
 fn order_by(verb: Verb, n: usize, words: Words<'_>) -> Result<Order, Reason>
     ensures { result ≡ order_by verb n words.entry.line.now words.entry.at }

@@ -9,6 +9,7 @@ use script_words::{MOST_NUMBER, Read};
 use text_words::{Span, decimal, hex_byte, next_field, read_hex};
 
 // The number of a field, and the place of the field after it.
+// A place goes in and the next comes out, as in the definitions: `on_field` hands it on.
 #[tactic(auto, unfolding(crate::specs::Colons::number_field))]
 fn next_number(w: &[u8], at: usize, most: u32) -> Option<Read<u32>>
     ensures value { result ≡ number_field most w.now at }
@@ -80,7 +81,7 @@ pub fn read_phase(w: &[u8]) -> Option<Phase>
     None
 }
 
-// The figures of a place.
+// The figures of a place; `policy` and `mark` are bytes, as the record has them.
 #[derive(Clone, Copy)]
 pub struct Sizes {
     pub quota: u32,

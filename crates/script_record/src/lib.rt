@@ -17,6 +17,8 @@ use colons::{read_phase, read_place};
 use script_words::{MOST_NUMBER, Reason, Words};
 use text_words::{Span, decimal, read_hex};
 
+// `next_phase`, `next_kept` and `next_place` are alike but for reader and reason: over a closure the contract would have
+// to say what the closure reads.
 #[tactic(auto, unfolding(crate::specs::Records::phase_at, script_words::specs::Words::word_next))]
 fn next_phase(words: &mut Words<'_>) -> Result<Phase, Reason>
     ensures found { read_to result words.new.at ≡ phase_at words.old.line.now words.old.at }
@@ -48,7 +50,7 @@ fn next_kept(words: &mut Words<'_>) -> Result<u32, Reason>
     kept_in(&words.line[from..to]).ok_or(Reason::BadNumber)
 }
 
-// The change and the listing that are open.
+// The change and the listing that are open; `kept` is a byte, as the record has it.
 #[derive(Clone, Copy)]
 pub struct Pending {
     pub phase: Phase,

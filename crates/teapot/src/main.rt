@@ -128,6 +128,7 @@ fn run(rt: &HostRuntime, input: &mut Input, options: Options) {
 }
 
 // The script that a word names.
+// As in minutes: one over a closure would promise no more than `open` does, and each would still name what it runs.
 fn start(rt: &HostRuntime, word: &[u8], options: Options) {
     match open(rt, word) {
         Ok(mut input) => run(rt, &mut input, options),

@@ -12,9 +12,9 @@ use Rattle.month_tally.specs.Lines.{line_of}
 use Rattle.month_tally.specs.declared.Names.{Names}
 use Rattle.month_count.specs.Month.{Counted}
 use Rattle.month_count.proofs.Turns.{begins, line-room, ticks-fit, events-fit, refused-fit}
-use Rattle.month_count.proofs.Turns.{stands-last, stands-unnamed, stands-named}
+use Rattle.month_count.proofs.Turns.{told-code, silent-code, stands-last, stands-unnamed, stands-named}
 use Rattle.month_count.proofs.count.Goals as goal
-use Rattle.month_count.proofs.count.Goals.{then-code-ne0, else-code-ne0}
+use Rattle.month_count.proofs.count.Goals.{then-is_told, else-is_told}
 
 pub loop-event-init : goal.loop-event-init
 loop-event-init c = let b = begins c.args.card c.args.body.now c.requires c.enabled_place.ensures c.profile-profile.ensures in
@@ -48,12 +48,12 @@ loop-event-preserved c =
     let served = c.answer_on_sound-answer.ensures in
     let p = c.time-ticks.ensures in
     let q = c.refusals-refused.ensures in
-    let code = c.code.ensures in (
+    let told = c.is_told.ensures in (
       l.invariant.0 ∙ sym (ap length served.0.content ∙ length-put _ 0 _),
-      elim c.if-code-ne0.branch [
-        | then-code-ne0 w ↦ let line = w.own-is ∙ w.line-own-then-code-ne0.ensures ∙ ap (λ (n : Names). line_of n _) (sym w.names-is) in
-            stands-named l.invariant.1 t size served p q (λ e. w.if-code-ne0.true (code ∙ e)) (w.names-is ∙ w.noted-names-then-code-ne0.ensures) line
-        | else-code-ne0 w ↦ rw (w.names-is, w.own-is) (stands-unnamed l.invariant.1 t size served p q (sym code ∙ w.if-code-ne0.false))
+      elim c.if-is_told.branch [
+        | then-is_told w ↦ let line = w.own-is ∙ w.line-own-then-is_told.ensures ∙ ap (λ (n : Names). line_of n _) (sym w.names-is) in
+            stands-named l.invariant.1 t size served p q (told-code _ (sym told ∙ w.if-is_told.true)) (w.names-is ∙ w.noted-names-then-is_told.ensures) line
+        | else-is_told w ↦ rw (w.names-is, w.own-is) (stands-unnamed l.invariant.1 t size served p q (silent-code _ (sym told ∙ w.if-is_told.false)))
       ],
     )
 
