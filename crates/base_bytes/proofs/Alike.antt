@@ -8,6 +8,7 @@ use lib.ListN.{length, get_or, take}
 use lib.Seq.{take_all}
 use lib.Dec.{eqb}
 use borrow.Author.Tests.{eq-eqb, ne_eqb, eqb-true, eqb-false}
+use Rattle.std.proofs.lemmas.Bool.{and_parts}
 use Rattle.base_bytes.specs.Bytes.{same_bytes}
 
 -- byte strings of different lengths differ
@@ -24,15 +25,7 @@ unfolding same_bytes
 same_true [] [] e = refl
 same_true [] (y ∷ ys) e = absurd (false≢true e)
 same_true (x ∷ xs) [] e = absurd (false≢true e)
-same_true (x ∷ xs) (y ∷ ys) e = rw (eqb-true x y (and_l (eqb x y) (same_bytes xs ys) e), same_true xs ys (and_r (eqb x y) (same_bytes xs ys) e))
-  where
-    and_l : (a b : Bool) → (a && b) ≡ true → a ≡ true
-    and_l true b e = refl
-    and_l false b e = e
-
-    and_r : (a b : Bool) → (a && b) ≡ true → b ≡ true
-    and_r true b e = e
-    and_r false b e = absurd (false≢true e)
+same_true (x ∷ xs) (y ∷ ys) e = let h = and_parts (eqb x y) (same_bytes xs ys) e in rw (eqb-true x y h.0, same_true xs ys h.1)
 
 pub same_self : (xs : List ℕ) → same_bytes xs xs ≡ true
 unfolding same_bytes

@@ -1,19 +1,16 @@
--- Tests taken apart and put together. Assumes nothing.
-use mathlib.Core.Path.{◌≡◌, refl, sym}
-use mathlib.Core.Bool.{Bool, true, false, ◌&&◌, ◌||◌, false≢true}
+-- Tests taken apart and put together. The first four are the library's `and_parts` and `or_parts` by halves: most laws above want one half.
+use mathlib.Core.Path.{◌≡◌}
+use Rattle.std.proofs.lemmas.Bool.{and_parts, or_parts}
+use mathlib.Core.Bool.{Bool, true, false, ◌&&◌, ◌||◌}
 
 pub and_l : (a b : Bool) → (a && b) ≡ true → a ≡ true
-and_l true b e = refl
-and_l false b e = e
+and_l a b e = (and_parts a b e).0
 
 pub and_r : (a b : Bool) → (a && b) ≡ true → b ≡ true
-and_r true b e = e
-and_r false b e = absurd (false≢true e)
+and_r a b e = (and_parts a b e).1
 
 pub or_l : (a b : Bool) → (a || b) ≡ false → a ≡ false
-or_l true b e = e
-or_l false b e = refl
+or_l a b e = (or_parts a b e).0
 
 pub or_r : (a b : Bool) → (a || b) ≡ false → b ≡ false
-or_r true b e = absurd (false≢true (sym e))
-or_r false b e = e
+or_r a b e = (or_parts a b e).1

@@ -24,7 +24,7 @@ use Rattle.read_frame.specs.Framing.{instruction_wrong, parameters_right, shape_
 use Rattle.read_command.specs.Requests.{goes_on, field_of}
 use Rattle.read_command.specs.Reading.{read_of, Reading}
 use Rattle.read_command.specs.Grammar.{read_as, Bare, second_of, Listing, Encodes, CommandWritten}
-use Rattle.read_frame.proofs.Frames.{and_l, and_r}
+use Rattle.std.proofs.lemmas.Bool.{and_parts}
 use Rattle.read_frame.proofs.Framed.{class-right, parameters-right, shape-right, passes-framed}
 use Rattle.read_command.proofs.Answers.{Passes, read-passes, read_done}
 
@@ -64,11 +64,11 @@ five-bytes (a ∷ b ∷ c ∷ d ∷ e ∷ f ∷ s) h = absurd (omega arith)
 bare-written : (s : List ℕ) (capacity : ℕ) → Passes s capacity → byte s 1 ≡ 0xCA → Bare s
 bare-written s capacity p i =
     let bare = bare_of s i (shape-right s p) in
-    let l = eqb-true (length s) 5 (and_l (eqb (length s) 5) _ bare) in
-    let z = eqb-true (byte s 4) 0 (and_r (eqb (length s) 5) _ bare) in
+    let l = eqb-true (length s) 5 (and_parts (eqb (length s) 5) _ bare).0 in
+    let z = eqb-true (byte s 4) 0 (and_parts (eqb (length s) 5) _ bare).1 in
     let m = parameters-of (byte s 1) (byte s 2) (byte s 3) i (parameters-right s p) in
-    let x = eqb-true (byte s 2) 0xFF (and_l (eqb (byte s 2) 0xFF) _ m) in
-    let y = eqb-true (byte s 3) 0x21 (and_r (eqb (byte s 2) 0xFF) _ m) in
+    let x = eqb-true (byte s 2) 0xFF (and_parts (eqb (byte s 2) 0xFF) _ m).0 in
+    let y = eqb-true (byte s 3) 0x21 (and_parts (eqb (byte s 2) 0xFF) _ m).1 in
     let e = five-bytes s l in
     record { class = byte s 0; right_class = class-right s p; written = cc }
 
@@ -77,7 +77,7 @@ unfolding parameters_right
 second-of i p1 p2 true e h q = eqb-true p2 0x03 (sym q)
 second-of i p1 p2 false e h q =
     let m : (eqb p1 0x40 && (eqb p2 0x02 || eqb p2 0x03)) ≡ true = or-none _ (rw e at h) in
-    eqb-true p2 0x02 (or-none (eqb p2 0x02) (rw (← q) at (and_r (eqb p1 0x40) _ m)))
+    eqb-true p2 0x02 (or-none (eqb p2 0x02) (rw (← q) at (and_parts (eqb p1 0x40) _ m).1))
 
 listing-framed : (s : List ℕ) (capacity : ℕ) → Passes s capacity → Bytes s → byte s 1 ≡ 0xF2 → (v : Inquiry) → EncodesNext (goes_on s) v (window s 5 (data_end s)) → Listing v s
 listing-framed s capacity p b i v e =

@@ -12,6 +12,7 @@ use borrow.Author.Tests.{eq-eqb, ne_eqb, eqb-true, eqb-false, not-true}
 use Rattle.base_bytes.specs.Bytes.{byte}
 use Rattle.read_frame.specs.Framing.{shape_right, is_filled}
 use Rattle.read_frame.specs.Frame.{le_of, framed, data_field, has_le}
+use Rattle.std.proofs.lemmas.Bool.{and_parts}
 
 -- a place past the header, counted from there
 pub five : (n : ℕ) → 5 + n ≡ suc (suc (suc (suc (suc n))))
@@ -38,14 +39,6 @@ module _ (class instruction p1 p2 : ℕ) (field : List ℕ) where
   unfolding shape_right
   framed-shape b h n = rw (ne_eqb instruction 0xCA n) (filled b h)
 
-pub and_l : (a b : Bool) → (a && b) ≡ true → a ≡ true
-and_l true b h = refl
-and_l false b h = h
-
-pub and_r : (a b : Bool) → (a && b) ≡ true → b ≡ true
-and_r true b h = h
-and_r false b h = absurd (false≢true h)
-
 filled_of : (s : List ℕ) → (byte s 1 ≡ 0xCA → ⊥) → shape_right s ≡ true → is_filled s ≡ true
 unfolding shape_right
 filled_of s n h = rw (ne_eqb (byte s 1) 0xCA n) at h
@@ -57,15 +50,15 @@ tail-case n rest true e h =
     let q : 5 + length rest ≡ 5 + n = eqb-true _ _ e in
     (length-take-le n rest (omega arith), drop_of_length-le rest {i = n} (omega arith))
 tail-case n rest false e h =
-    let q : 5 + length rest ≡ 5 + n + 1 = eqb-true _ _ (and_l (eqb (5 + length rest) (5 + n + 1)) _ h) in
-    let z : get_or rest n 0 ≡ 0 = eqb-true _ _ (and_r (eqb (5 + length rest) (5 + n + 1)) _ h) in
+    let q : 5 + length rest ≡ 5 + n + 1 = eqb-true _ _ (and_parts (eqb (5 + length rest) (5 + n + 1)) _ h).0 in
+    let z : get_or rest n 0 ≡ 0 = eqb-true _ _ (and_parts (eqb (5 + length rest) (5 + n + 1)) _ h).1 in
     let d : drop (suc n) rest ≡ [] = drop_of_length-le rest {i = suc n} (omega arith) in
     (length-take-le n rest (omega arith), rw (drop-cons rest n 0 (omega arith)) (rw (z, d) refl))
 
 whole : (a b c d n : ℕ) (rest : List ℕ) → is_filled (a ∷ b ∷ c ∷ d ∷ n ∷ rest) ≡ true
     → a ∷ b ∷ c ∷ d ∷ n ∷ rest ≡ framed a b c d (take n rest) (has_le (a ∷ b ∷ c ∷ d ∷ n ∷ rest))
 whole a b c d n rest h =
-    let g = rw (← five (length rest), byte_past a b c d n rest n) at (and_r (not (eqb n 0)) _ h) in
+    let g = rw (← five (length rest), byte_past a b c d n rest n) at (and_parts (not (eqb n 0)) _ h).1 in
     let t = tail-case n rest (eqb (5 + length rest) (5 + n)) refl g in
     rw (← five (length rest)) (rw t.0 (rw (← t.1) (rw take-append-drop refl)))
 
@@ -79,8 +72,8 @@ framed-whole (a ∷ b ∷ c ∷ d ∷ n ∷ rest) m h = whole a b c d n rest (fi
 
 filled-length : (a b c d n : ℕ) (rest : List ℕ) → is_filled (a ∷ b ∷ c ∷ d ∷ n ∷ rest) ≡ true → (1 ≤ n) × (length (take n rest) ≡ n)
 filled-length a b c d n rest h =
-    let g = rw (← five (length rest), byte_past a b c d n rest n) at (and_r (not (eqb n 0)) _ h) in
-    let z : n ≡ 0 → ⊥ = eqb-false n 0 (not-true (eqb n 0) (and_l (not (eqb n 0)) _ h)) in
+    let g = rw (← five (length rest), byte_past a b c d n rest n) at (and_parts (not (eqb n 0)) _ h).1 in
+    let z : n ≡ 0 → ⊥ = eqb-false n 0 (not-true (eqb n 0) (and_parts (not (eqb n 0)) _ h).0) in
     (omega arith, (tail-case n rest (eqb (5 + length rest) (5 + n)) refl g).0)
 
 -- Lc is at least 1, and the data field has so many bytes
