@@ -7,7 +7,7 @@ use base_bytes::same;
 use month_account::write_month;
 use month_contents::MOST_FILE;
 use std::env::Env;
-use text_input::{Input, fail, open, put_out, read_full};
+use text_input::{Input, fail, open_word, put_out, read_full};
 
 // A file of so many bytes is refused whatever they are, so no more are read (decision B44).
 const FILE: usize = MOST_FILE + 1;
@@ -37,16 +37,16 @@ struct Options {
 }
 
 // The file that a word names.
-// As in teapot: one over a closure would promise no more than `open` does, and each would still name what it runs.
+// As in teapot: one over a closure would promise no more than `open_word` does, and each would still name what it runs.
 fn start(rt: &HostRuntime, word: &[u8], explain: bool) {
-    match open(rt, word) {
+    match open_word(rt, word) {
         Ok(mut input) => tell(rt, &mut input, explain),
         Err(error) => fail(rt, word, error),
     }
 }
 
-// As in teapot, but for its options: one over closures would lend each program's options twice.
 // One word: an option for what follows, or a file, which is reported.
+// As in teapot, but for its options: one over closures would lend each program's options twice.
 fn take_word(rt: &HostRuntime, word: &[u8], options: Options) -> Options {
     let mut after = options;
     if same(word, b"explain") {

@@ -12,7 +12,7 @@ use script_line::MOST_ROOM;
 use script_session::{MOST_BYTES, Turn, take_line};
 use std::env::Env;
 use std::marker::Model;
-use text_input::{Arrival, Input, fail, fill, open, put_out};
+use text_input::{Arrival, Input, fail, fill, open_word, put_out};
 use text_lines::{Found, LONGEST, Window};
 
 // The bytes collected before they are written out, and the room that is kept for the answer of one line: no answer is longer, which
@@ -128,16 +128,16 @@ fn run(rt: &HostRuntime, input: &mut Input, options: Options) {
 }
 
 // The script that a word names.
-// As in minutes: one over a closure would promise no more than `open` does, and each would still name what it runs.
+// As in minutes: one over a closure would promise no more than `open_word` does, and each would still name what it runs.
 fn start(rt: &HostRuntime, word: &[u8], options: Options) {
-    match open(rt, word) {
+    match open_word(rt, word) {
         Ok(mut input) => run(rt, &mut input, options),
         Err(error) => fail(rt, word, error),
     }
 }
 
-// As in minutes, but for its options: one over closures would lend each program's options twice.
 // One word: an option for what follows, or a script, which is run.
+// As in minutes, but for its options: one over closures would lend each program's options twice.
 fn take_word(rt: &HostRuntime, word: &[u8], options: Options) -> Options {
     let mut after = options;
     if same(word, b"explain") {

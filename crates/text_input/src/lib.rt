@@ -74,17 +74,24 @@ impl Read for Input {
     }
 }
 
-// What a word names: `-` standard input, any other the file of that name. A name that is no UTF-8 names none that std can open.
-pub fn open(rt: &HostRuntime, name: &[u8]) -> io::Result<Input>
+// The file of that name, for reading. A name that is no UTF-8 names none that std can open.
+pub fn open(rt: &HostRuntime, name: &[u8]) -> io::Result<File>
     ensures { OnOk result (IsUtf8 name.now) }
 {
-    let Ok(path) = str::from_utf8(name) else {
-        return Err(io::Error::from(ErrorKind::InvalidFilename));
-    };
-    if path == "-" {
-        return Ok(Input::Standard(rt.stdin()));
+    match str::from_utf8(name) {
+        Ok(path) => File::open(rt, path),
+        Err(_) => Err(io::Error::from(ErrorKind::InvalidFilename)),
     }
-    Ok(Input::File(File::open(rt, path)?))
+}
+
+// What a program's word names: `-` standard input, any other the file of that name.
+pub fn open_word(rt: &HostRuntime, word: &[u8]) -> io::Result<Input>
+    ensures { OnOk result (IsUtf8 word.now) }
+{
+    match str::from_utf8(word) {
+        Ok(path) if path == "-" => Ok(Input::Standard(rt.stdin())),
+        _ => Ok(Input::File(open(rt, word)?)),
+    }
 }
 
 // Bytes written to standard output, and how many of them are left to write: none. Where they could not be written, that is told on
