@@ -50,7 +50,8 @@ pub fn read_four(bytes: &[u8], at: usize) -> u32
     ])
 }
 
-// Are the two byte strings the same, in length too? Compared from the end: AIDs begin alike.
+// Are the two byte strings the same, in length too? Compared from the end, and not by `==`: AIDs begin alike, and those as printed end
+// alike in one byte, too (decision B109).
 pub fn same(a: &[u8], b: &[u8]) -> bool
     ensures { result ≡ same_bytes a.now b.now }
 {

@@ -144,7 +144,7 @@ pub fn mark_ok(mark: u8) -> bool
 }
 
 // Are the bytes from `n` on zero? All of them are looked at: they nearly always are, and a loop with one way out takes less.
-// By number: the definition drops the first n.
+// By number, as the definition drops the first n: `skip(n)` would be as long.
 fn zeros_from(bytes: [u8; 16], n: usize) -> bool
     ensures { result ≡ zeros (drop n bytes) }
 {

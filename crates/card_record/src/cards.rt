@@ -38,7 +38,7 @@ impl Card {
         card_places::enabled(&self.places)
     }
 
-    // The number of the enabled place, of places if there is none.
+    // The number of the enabled place, of places if there is none, as its definition has it; `enabled` has the Option.
     pub fn enabled_place(&self) -> u8
         ensures { result ≡ enabled_place self.now }
     {

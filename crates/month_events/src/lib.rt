@@ -84,7 +84,7 @@ impl Kind {
     }
 }
 
-// The part from one place up to another; empty where that lies before it.
+// The part from one place up to another; empty where that lies before it. `Element::part` of read_tlv is the same one literal, of its own.
 fn part(start: usize, stop: usize) -> Part
     ensures { result ≡ between start stop }
 {

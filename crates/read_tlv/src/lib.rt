@@ -117,7 +117,7 @@ pub fn read_head(s: &[u8], at: usize, end: usize) -> Option<Head>
     })
 }
 
-// Where an element's value starts and stops.
+// Where an element's value starts and stops. No `Span` of text_words: a reader of commands knows no text.
 #[derive(Clone, Copy)]
 pub struct Element {
     pub start: usize,

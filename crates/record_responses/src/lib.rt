@@ -103,7 +103,7 @@ fn write_rows(out: &mut Writer, places: &[Isdp; PLACES], holder: u8, from: u8, t
     Card::NO_PLACE
 }
 
-// GET STATUS of all, from a place on; the answer is the place from which the next part goes on.
+// GET STATUS of all, from a place on; the answer is the place from which the next part goes on, a number as `kept` of the card.
 #[tactic(auto, unfolding(rule_responses::specs::Responses::part_given, rule_responses::specs::Responses::next_row_after))]
 pub fn write_part(out: &mut Writer, card: &Card, from: u8, tags: Tags) -> u8
     ensures { Written out.old (part_given card.now from tags.life tags.fall_back) out.new × (result ≡ next_row_after card.now from tags.life tags.fall_back) }

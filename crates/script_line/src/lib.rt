@@ -1,4 +1,5 @@
-// What a line of a script means: the order that it gives, by its first word, or what is wrong with it. Every function answers for every line.
+// What a line of a script means: the order that it gives, by its first word, or what is wrong with it.
+// Every function answers for every line.
 #![tactic(auto, unfolding(crate::proofs::Opened::orders))]
 
 ghost use Rattle.std.specs.Prelude.{◌≡◌, ◌≤◌, Ok, IfOk};

@@ -60,6 +60,7 @@ fn trial_at(w: &[u8], at: usize) -> Option<Phase>
     })
 }
 
+// Word after word, as `verb_of` of script_line.
 #[tactic(auto, unfolding(crate::specs::Colons::phase_word, base_choice::specs::Choice::pick))]
 pub fn read_phase(w: &[u8]) -> Option<Phase>
     ensures { result ≡ phase_word w.now }

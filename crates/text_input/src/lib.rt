@@ -26,6 +26,7 @@ pub fn fill<R: Read>(input: &mut R, window: &mut Window, buf: &mut [u8]) -> Arri
     ensures brought { BroughtBy (R.remaining input.old) (R.remaining input.new) window.old buf.old window.new result buf.new }
 {
     window.keep(buf);
+    // named, since what stands behind it is lent to the reader
     let end = window.end;
     if buf.len() <= end {
         return Arrival::Full;

@@ -22,7 +22,7 @@ pub struct Window {
 }
 
 // A line is told by its place in the window, without its line end.
-// Four ways on, so no Option: after each the caller goes on differently.
+// Four ways on, so no Option: after each the caller goes on differently. `Line` has two places and no `Span`: `found_line` names them so.
 #[derive(Clone, Copy)]
 pub enum Found {
     Line { from: usize, to: usize },
@@ -31,7 +31,7 @@ pub enum Found {
     End,
 }
 
-// What was found, and the window after it.
+// What was found, and the window after it. No flag: `gives` names both.
 #[derive(Clone, Copy)]
 struct Step {
     window: Window,

@@ -47,6 +47,7 @@ fn fill_hex(room: &mut [u8], s: &[u8])
 pub fn put_hex(out: &mut Writer, s: &[u8])
     ensures { Written out.old (hex_text s.now) out.new }
 {
+    // named, since the buffer behind it is lent on
     let at = out.at;
     let size = out.buf.len();
     if at <= size && s.len() <= (size - at) / 2 {
