@@ -124,7 +124,7 @@ timed-length : (t : Bool) (l : List ℕ) (line : ℕ) → length (cond t (minute
 timed-length true l line = minute-length l line
 timed-length false l line = refl
 
-at_most_one : (t : Bool) → cond t 1 0 ≤ 1
+pub at_most_one : (t : Bool) → cond t 1 0 ≤ 1
 at_most_one true = omega arith
 at_most_one false = omega arith
 

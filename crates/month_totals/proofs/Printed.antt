@@ -32,16 +32,13 @@ use Rattle.month_count.proofs.Splits.{every-split}
 use Rattle.month_account.specs.Account.{account_text}
 use Rattle.month_totals.specs.Written.{with_lines}
 use Rattle.month_totals.specs.Printed.{figure_line, Printed, BothPrinted, PrintedAddsUp}
+use Rattle.month_count.proofs.Turns.{at_most_one}
 
 -- no count passes the number of the calls, and no file has more calls than bytes
-one-or-none : (b : Bool) → cond b 1 0 ≤ 1
-one-or-none true = omega arith
-one-or-none false = omega arith
-
 many-most : {A : Type 0} (t : A → Bool) (l : List A) → how_many t l ≤ length l
 unfolding how_many
 many-most t [] = omega arith
-many-most t (x ∷ xs) = let h = many-most t xs in let k = one-or-none (t x) in omega arith
+many-most t (x ∷ xs) = let h = many-most t xs in let k = at_most_one (t x) in omega arith
 
 figure-most : (c : Card) (calls : List Call) (test : Aid → Bool) → figure c calls test ≤ length calls
 figure-most c calls test = omega (arith, many-most (counts_for c test) (splits calls), every-split.as_many calls)

@@ -23,6 +23,7 @@ use Rattle.card_isdp.specs.Aids.{padded}
 use Rattle.card_isdp.proofs.Bytes.{pad-whole}
 use Rattle.script_record.specs.Colons.{place_with}
 use Rattle.script_record.specs.Records.{record_with}
+use Rattle.std.proofs.lemmas.List.{drop-replicate}
 
 pub hex-ok : (n : ℕ) (r : Result ℕ HexError) → Some n ≡ result_ok r → Ok n ≡ r
 hex-ok n (Ok m) q = let i : n ≡ m = ap (λ (o : Option ℕ). on_some o 0 (λ k. k)) q in ap (λ (k : ℕ). Ok k) i
@@ -53,18 +54,11 @@ hex-taken s room n q =
     (omega arith, (omega arith, (hex-fits s room e h).1))))
     (λ e. let p = (hex-wrong s room e).0 in let o : ◌≡◌ {A = ℕ} 0 1 = cc in absurd (omega arith))
 
-drop-zeros : (n m : ℕ) → drop {A = ℕ} n (replicate m 0) ≡ replicate (m - n) 0
-drop-zeros zero m = let e : m ≡ m - 0 = omega arith in ap (λ (k : ℕ). replicate k 0) e
-drop-zeros (suc n) zero = let e : 0 ≡ 0 - suc n = omega arith in ap (λ (k : ℕ). replicate k 0) e
-drop-zeros (suc n) (suc m) =
-    let e : m - n ≡ suc m - suc n = omega arith in
-    drop-zeros n m ∙ ap (λ (k : ℕ). replicate k 0) e
-
 pub put-padded : (vs : List ℕ) → length vs ≤ 16 → put (replicate 16 0) 0 vs ≡ padded vs
 unfolding padded
 put-padded vs h =
     put_front (replicate 16 0) vs h
-    ∙ ap (λ (l : List ℕ). vs ++ l) (drop-zeros (length vs) 16)
+    ∙ ap (λ (l : List ℕ). vs ++ l) (drop-replicate (length vs) 16 0)
     ∙ ap (λ (l : List ℕ). l ++ replicate (16 - length vs) 0) (sym (take_all 16 vs h))
 
 pub aid-read : (s l : List ℕ) (n : ℕ) → Ok n ≡ hex_read_of s 16 → l ≡ put (replicate 16 0) 0 (hex_left s 16) → l ≡ padded (spelled s)

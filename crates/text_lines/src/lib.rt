@@ -1,6 +1,6 @@
 // Lines put together from reads of any size, in a window: a lent buffer of which a part is not handed out yet. A line is handed out
 // where it lies, as soon as its end has arrived; one of more than 4,096 bytes is told as too long, and passed over.
-#![tactic(auto)]
+#![tactic(auto, unfolding(crate::proofs::Opened::steps))]
 
 ghost use Rattle.std.specs.Prelude.{◌≡◌, ◌≤◌};
 ghost use Rattle.base_bytes.specs.Put.{put};
