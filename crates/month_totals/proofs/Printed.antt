@@ -46,7 +46,7 @@ figure-most c calls test = omega (arith, many-most (counts_for c test) (splits c
 ticks-most : (calls : List Call) → ticks_among calls ≤ length calls
 unfolding ticks_among
 ticks-most [] = omega arith
-ticks-most (call ∷ calls) = let h = ticks-most calls in let k = one-or-none (is_tick call) in omega arith
+ticks-most (call ∷ calls) = let h = ticks-most calls in let k = at_most_one (is_tick call) in omega arith
 
 events-most : (n : ℕ) (b : List ℕ) → length (events_within n b) ≤ n
 unfolding events_within
