@@ -78,9 +78,24 @@ impl Session {
         }
     }
 
-    // A line is counted and answered.
-    fn answer(&mut self, rt: &HostRuntime, options: Options, line: &[u8]) {
-        self.make_room(rt);
+    // More of the script, or its end. What is collected is written out before the program waits for it (decision B30).
+    fn wait(
+        &mut self,
+        rt: &HostRuntime,
+        input: &mut Input,
+        window: &mut Window,
+        buf: &mut [u8],
+    ) -> Arrival
+        ensures { self.new ≡ 0 }
+    {
+        self.write_out(rt);
+        fill(input, window, buf)
+    }
+
+    // A line is counted and answered; the longest answer has room.
+    fn take(&mut self, options: Options, line: &[u8])
+        requires { self.old + most_text ≤ 32768 }
+    {
         self.number = self.number.saturating_add(1);
         self.turn.sound = self.turn.sound & !options.ask;
         self.turn = take_line(
@@ -92,6 +107,12 @@ impl Session {
             &mut self.response,
             &mut self.out,
         );
+    }
+
+    // Room is made for a line's answer before the line is taken (decision B30).
+    fn answer(&mut self, rt: &HostRuntime, options: Options, line: &[u8]) {
+        self.make_room(rt);
+        self.take(options, line);
     }
 }
 
@@ -106,18 +127,15 @@ fn run(rt: &HostRuntime, input: &mut Input, options: Options) {
         match window.next(&buf, last) {
             Found::Line { from, to } => session.answer(rt, options, &buf[from..to]),
             Found::TooLong => session.answer(rt, options, &buf[..LONGEST + 1]),
-            Found::More => {
-                session.write_out(rt);
-                match fill(input, &mut window, &mut buf) {
-                    Arrival::Bytes => {}
-                    Arrival::End => last = true,
-                    Arrival::Failed => {
-                        put_out(rt, b"the read failed\n");
-                        break;
-                    }
-                    Arrival::Full => break,
+            Found::More => match session.wait(rt, input, &mut window, &mut buf) {
+                Arrival::Bytes => {}
+                Arrival::End => last = true,
+                Arrival::Failed => {
+                    put_out(rt, b"the read failed\n");
+                    break;
                 }
-            }
+                Arrival::Full => break,
+            },
             Found::End => break,
         }
         if !session.turn.goes {

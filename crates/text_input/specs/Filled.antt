@@ -1,6 +1,6 @@
 -- What a read leaves in a window of lines: what was held, and some bytes behind it. Which bytes, the system says; that they are there
 -- exactly where it says so, and that a failed read and the end bring none, is said here. It is what `Session` of `text_lines` asks of a read.
-use Rattle.std.specs.Prelude.{ℕ, ◌<◌, ◌≡◌, List, [], ◌++◌, length, Option}
+use Rattle.std.specs.Prelude.{ℕ, zero, suc, ◌<◌, ◌≡◌, List, [], ◌++◌, length, Option, Result, Ok, Err}
 use Rattle.std.specs.Io.KnownBytes.{Keeps, Consumes, IsAtEnd}
 use Rattle.text_lines.specs.Window.{held_of}
 use Rattle.text_lines.specs.Lines.{Line}
@@ -8,6 +8,12 @@ use Rattle.text_lines.specs.Cuts.{Session}
 use Rattle.text_lines.specs.declared.Window.{Window}
 use Rattle.text_input.specs.declared.Arrival.{Arrival}
 use Rattle.text_input.specs.declared.Arrival.TheVariants as arrival
+
+-- a read with room that brought no byte is at the end
+abbrev pub arrival_of : {E : Type 0} → Result ℕ E → Arrival
+arrival_of (Ok zero) = arrival.End
+arrival_of (Ok (suc n)) = arrival.Bytes
+arrival_of (Err e) = arrival.Failed
 
 -- a failed read and the end bring no bytes, and without room there is no read
 abbrev pub Brings : Arrival → List ℕ → Type 0

@@ -1,2 +1,3 @@
--- What a read leaves in a window of lines.
+-- What a read leaves in a window of lines, and what a program's input has left.
 pub mod Filled
+pub mod Inputs

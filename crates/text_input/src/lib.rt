@@ -4,7 +4,8 @@
 
 ghost use Rattle.std.specs.Prelude.{◌≡◌, ◌<◌, ◌≤◌, length, take, OnOk, IsUtf8};
 ghost use Rattle.std.specs.Io.KnownBytes.{Consumes, IsAtEnd};
-ghost use Rattle.text_input.specs.Filled.{FilledFrom, BroughtBy};
+ghost use Rattle.text_input.specs.Filled.{arrival_of, FilledFrom, BroughtBy};
+ghost use Rattle.text_input.specs.Inputs.{input_remaining};
 
 use std::fs::File;
 use std::io;
@@ -20,6 +21,17 @@ pub enum Arrival {
     Full,
 }
 
+// What the answer of a read with room says.
+pub fn arrival_of(read: &io::Result<usize>) -> Arrival
+    ensures { result ≡ arrival_of read.now }
+{
+    match read {
+        Ok(0) => Arrival::End,
+        Ok(_) => Arrival::Bytes,
+        Err(_) => Arrival::Failed,
+    }
+}
+
 // One read, behind what the window holds. Without room it reads nothing, since a read of no bytes could not be told from the end.
 pub fn fill<R: Read>(input: &mut R, window: &mut Window, buf: &mut [u8]) -> Arrival
     ensures filled { FilledFrom window.old buf.old window.new result buf.new }
@@ -31,14 +43,13 @@ pub fn fill<R: Read>(input: &mut R, window: &mut Window, buf: &mut [u8]) -> Arri
     if buf.len() <= end {
         return Arrival::Full;
     }
-    match input.read(&mut buf[end..]) {
-        Ok(0) => Arrival::End,
-        Ok(n) => {
-            window.grow(n, buf.len());
-            Arrival::Bytes
-        }
-        Err(_) => Arrival::Failed,
+    let read = input.read(&mut buf[end..]);
+    let arrival = arrival_of(&read);
+    if let Ok(n) = read {
+        window.grow(n, buf.len());
+        return arrival;
     }
+    arrival
 }
 
 // Reads to the buffer's start, until the input ends, the buffer is full or a read fails: how many bytes were read, and the failure.
@@ -59,14 +70,17 @@ pub fn read_full<R: Read>(input: &mut R, buf: &mut [u8]) -> (usize, io::Result<(
     (filled, Ok(()))
 }
 
-// What a program reads: standard input, or a file.
+// What a program reads: standard input, or a file. Over any two readers, so that a read of it is held to what theirs bring: of what the
+// system's own have, nothing is known.
 #[derive(Drop)]
-pub enum Input {
-    Standard(Stdin),
-    File(File),
+pub enum Input<S = Stdin, F = File> {
+    Standard(S),
+    File(F),
 }
 
-impl Read for Input {
+impl<S: Read, F: Read> Read for Input<S, F> {
+    ghost remaining = { input_remaining S.remaining F.remaining };
+
     fn read(&mut self, buf: &mut [u8]) -> io::Result<usize> {
         match self {
             Input::Standard(stdin) => stdin.read(buf),

@@ -1,8 +1,9 @@
 -- `fill` meets its contract. `keep` put what was held to the front; the read went behind it, and the window has grown by as many
 -- bytes as were read.
-use Rattle.std.proofs.Common.{rules, arith, length, ◌<◌, ◌∙◌, refl, ap, take, []}
+use Rattle.std.proofs.Common.{rules, arith, length, ◌<◌, ◌≤◌, ◌∙◌, refl, ap, take, []}
 use Rattle.std.proofs.lemmas.List.{length-take-le}
 use Rattle.text_lines.specs.declared.Window.{Window}
+use Rattle.text_input.proofs.ArrivalLaws.{brings-of, leaves-of}
 use Rattle.text_input.proofs.FillLaws.{kept, unread, read-some, read-none, skips}
 use Rattle.std.proofs.KnownBytes.{Keeps-refl}
 use Rattle.text_input.proofs.fill.Goals as goal
@@ -23,40 +24,18 @@ returns-then-buf-end-clause-brought g c =
     let k = kept c.args.window.now c.args.buf.now c.keep.ensures in
     record { bytes = []; held = unread k; leaves = Keeps-refl _ }
 
-pub returns-in-Ok-eq0-clause-filled : goal.returns-in-Ok-eq0-clause-filled
-returns-in-Ok-eq0-clause-filled g c =
-    let k = kept c.args.window.now c.args.buf.now c.keep.ensures in
-    record {
-      bytes = [];
-      held = read-none k c.read.new.buf _;
-      skipping = skips k;
-      brings = refl;
-      size = search rules;
-    }
-
-pub returns-in-Ok-eq0-clause-brought : goal.returns-in-Ok-eq0-clause-brought
-returns-in-Ok-eq0-clause-brought g c =
-    let k = kept c.args.window.now c.args.buf.now c.keep.ensures in
-    let e = c.in-Ok-eq0.field-0-test in
-    let b = c.in-Ok-eq0.ensures.bytes in
-    let h : 0 < length c.read.new.buf = omega arith in
-    record {
-      bytes = [];
-      held = read-none k c.read.new.buf _;
-      leaves = (rw e at b.0, b.1 e h);
-    }
-
 pub returns-in-Ok-clause-filled : goal.returns-in-Ok-clause-filled
 returns-in-Ok-clause-filled g c =
     let k = kept c.args.window.now c.args.buf.now c.keep.ensures in
     let n = c.in-Ok.n in
-    let t = c.in-Ok.n-test.1 in
-    let l = length-take-le n c.read.new.buf c.in-Ok.ensures.bound.0 in
+    let ys = c.read-read.new.buf in
+    let b : n ≤ length ys = (rw c.in-Ok.is at c.read-read.ensures.bound).0 in
+    let l = length-take-le n ys b in
     record {
-      bytes = take n c.read.new.buf;
-      held = read-some k c.read.new.buf _ n c.grow.ensures c.in-Ok.ensures.bound.0;
+      bytes = take n ys;
+      held = read-some k ys _ n c.grow.ensures b;
       skipping = ap (λ (x : Window). x.skipping) c.grow.ensures ∙ skips k;
-      brings = omega arith;
+      brings = rw c.arrival_of-arrival.ensures (brings-of _ n ys c.in-Ok.is b);
       size = search rules;
     }
 
@@ -64,28 +43,31 @@ pub returns-in-Ok-clause-brought : goal.returns-in-Ok-clause-brought
 returns-in-Ok-clause-brought g c =
     let k = kept c.args.window.now c.args.buf.now c.keep.ensures in
     let n = c.in-Ok.n in
+    let ys = c.read-read.new.buf in
+    let b : n ≤ length ys = (rw c.in-Ok.is at c.read-read.ensures.bound).0 in
+    let h : 0 < length ys = omega arith in
     record {
-      bytes = take n c.read.new.buf;
-      held = read-some k c.read.new.buf _ n c.grow.ensures c.in-Ok.ensures.bound.0;
-      leaves = c.in-Ok.ensures.bytes.0;
+      bytes = take n ys;
+      held = read-some k ys _ n c.grow.ensures b;
+      leaves = rw c.arrival_of-arrival.ensures (leaves-of _ _ _ n ys c.in-Ok.is h c.read-read.ensures.bytes);
     }
 
-pub returns-in-Err-clause-filled : goal.returns-in-Err-clause-filled
-returns-in-Err-clause-filled g c =
+pub returns-clause-filled : goal.returns-clause-filled
+returns-clause-filled g c =
     let k = kept c.args.window.now c.args.buf.now c.keep.ensures in
     record {
       bytes = [];
-      held = read-none k c.read.new.buf _;
+      held = read-none k c.read-read.new.buf _;
       skipping = skips k;
-      brings = refl;
+      brings = search rules;
       size = search rules;
     }
 
-pub returns-in-Err-clause-brought : goal.returns-in-Err-clause-brought
-returns-in-Err-clause-brought g c =
+pub returns-clause-brought : goal.returns-clause-brought
+returns-clause-brought g c =
     let k = kept c.args.window.now c.args.buf.now c.keep.ensures in
     record {
       bytes = [];
-      held = read-none k c.read.new.buf _;
-      leaves = c.in-Err.ensures.bytes;
+      held = read-none k c.read-read.new.buf _;
+      leaves = search rules;
     }

@@ -1,4 +1,4 @@
--- `Session::answer`: the text of a line is written within the buffer, for which `make_room` kept room.
+-- `Session::take`: the text of a line is written within the buffer, in which it has room.
 use borrow.Author.Rules.{rules}
 use native.Mathlib.Omega.{arith}
 use Prim.Native.Nat.{◌≤◌, ◌+◌}
@@ -6,7 +6,7 @@ use mathlib.Core.Path.{◌≡◌}
 use lib.ListN.{length}
 use Rattle.script_reply.specs.Replies.{most_text}
 use Rattle.teapot.proofs.Within.{within}
-use Rattle.teapot.proofs.Session.answer.Goals as goal
+use Rattle.teapot.proofs.Session.take.Goals as goal
 
 pub invariant_of-self : goal.invariant_of-self
 invariant_of-self c =
