@@ -29,8 +29,8 @@ impl<'a> Writer<'a> {
         }
     }
 
-    // A byte string as it stands, as far as there is room for it.
-    pub fn bytes(&mut self, text: &[u8])
+    // As many bytes as there is room for.
+    fn cut(&mut self, text: &[u8])
         ensures { Written self.old text.now self.new }
     {
         let start = self.at;
@@ -40,6 +40,21 @@ impl<'a> Writer<'a> {
             let end = start + n;
             self.buf[start..end].copy_from_slice(&text[..n]);
             self.at = end;
+        }
+    }
+
+    // A byte string as it stands, as far as there is room for it. Room is asked for once, as almost every text has it.
+    pub fn bytes(&mut self, text: &[u8])
+        ensures { Written self.old text.now self.new }
+    {
+        let start = self.at;
+        let size = self.buf.len();
+        if start <= size && text.len() <= size - start {
+            let end = start + text.len();
+            self.buf[start..end].copy_from_slice(text);
+            self.at = end;
+        } else {
+            self.cut(text);
         }
     }
 }

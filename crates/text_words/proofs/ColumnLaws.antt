@@ -6,8 +6,6 @@ use native.Mathlib.Omega.{arith}
 use mathlib.Core.List.{List, [], ◌∷◌, ◌++◌}
 use lib.ListN.{length, length-append, length-replicate}
 use Rattle.std.proofs.lemmas.Grind.{replicate_next}
-use Rattle.std.specs.Prelude.{filter, nat_lt}
-use Rattle.std.proofs.lemmas.Bool.Decides.{nat_tests}
 use Rattle.base_choice.proofs.Branches.{by-lt}
 use Rattle.text_words.specs.Numbers.{digits_text, decimal_text}
 use Rattle.text_words.specs.Columns.{spaces, lead_of, column_text}
@@ -65,16 +63,6 @@ module _ (P : ℕ → Type 0) (n : ℕ) where
       (λ j. by-lt P n 10000 (four j)
       (λ l. by-lt P n 100000 (five l)
       (λ m. by-lt P n 1000000 (six m) seven)))))
-
--- they are as many as the powers of ten above the number
-abbrev pub powers : List ℕ
-powers = 10 ∷ 100 ∷ 1000 ∷ 10000 ∷ 100000 ∷ 1000000 ∷ []
-
-pub lead_counts : (n : ℕ) → length (filter (nat_lt n) powers) ≡ lead_of n
-lead_counts n =
-    by-lead (λ (k : ℕ). length (filter (nat_lt n) powers) ≡ k) n
-    (λ h. grind (arith, nat_tests)) (λ h i. grind (arith, nat_tests)) (λ h i. grind (arith, nat_tests)) (λ h i. grind (arith, nat_tests))
-    (λ h i. grind (arith, nat_tests)) (λ h i. grind (arith, nat_tests)) (λ h. grind (arith, nat_tests))
 
 pub lead-small : (n : ℕ) → lead_of n ≤ 6
 lead-small n =

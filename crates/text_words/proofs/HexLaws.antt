@@ -16,7 +16,7 @@ use Rattle.std.specs.List.{list_all}
 use Rattle.base_bytes.specs.Put.{put}
 use Rattle.base_choice.proofs.Branches.{each, yes!, no!, lt!, nlt! }
 use Rattle.base_bytes.proofs.PutLaws.{put-none, put-cons}
-use Rattle.base_bytes.proofs.Rest.{rest, rest-one, rest-two, rest_end}
+use Rattle.base_bytes.proofs.Rest.{rest, rest-two}
 
 -- pairs of digits are an even number of digits
 digit_pair : (x y : Option ℕ) {p q : Bool} → p ≡ q → (is_some x && (is_some y && p)) ≡ pick (is_none x) false (pick (is_none y) false q)

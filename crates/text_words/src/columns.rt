@@ -15,13 +15,19 @@ pub fn put_spaces(out: &mut Writer, count: usize)
 }
 
 // The spaces before a number in a column of seven.
+#[tactic(auto, unfolding(crate::specs::Columns::lead_of, base_choice::specs::Choice::pick, base_choice::specs::Choice::is_below))]
 fn lead(n: u64) -> usize
     ensures { result ≡ lead_of n }
 {
-    [10, 100, 1000, 10000, 100000, 1000000]
-        .iter()
-        .filter(|most| n < **most)
-        .count()
+    match n {
+        0..=9 => 6,
+        10..=99 => 5,
+        100..=999 => 4,
+        1000..=9999 => 3,
+        10000..=99999 => 2,
+        100000..=999999 => 1,
+        _ => 0,
+    }
 }
 
 pub fn put_column(out: &mut Writer, n: u64)

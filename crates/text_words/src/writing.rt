@@ -1,6 +1,6 @@
 // Text written by a writer, as `base_bytes` writes bytes: what does not fit is dropped.
 ghost use Rattle.std.specs.Prelude.{◌≡◌, ◌∷◌, [], ◌*◌, ◌/◌, ◌%◌, length};
-ghost use Rattle.base_bytes.specs.Put.{Written};
+ghost use Rattle.base_bytes.specs.Put.{Written, Wrote};
 ghost use Rattle.text_words.specs.Numbers.{decimal_text};
 ghost use Rattle.text_words.specs.Hex.{glyph_of, hex_text, hex_word};
 
@@ -72,12 +72,30 @@ pub fn put_hex_word(out: &mut Writer, s: &[u8])
     }
 }
 
-// A number in decimal, with no zeros in front: the digits before the last one, then the last.
+// One byte from a place of the buffer on; up to where it is then filled.
+fn one(buf: &mut [u8], at: usize, byte: u8) -> usize
+    ensures { Wrote buf.old at (byte ∷ []) result buf.new }
+{
+    let mut out = Writer::new(buf, at);
+    out.byte(byte);
+    out.at
+}
+
+// The digits of a number from a place of the buffer on: the digits before the last one, then the last.
+// Buffer and place, no writer: one that is lent to a function that calls itself keeps its place in memory in all that it writes.
+fn put_digits(buf: &mut [u8], at: usize, n: u64) -> usize
+    ensures { Wrote buf.old at (decimal_text n) result buf.new }
+{
+    if n < 10 {
+        return one(buf, at, b'0' + n as u8);
+    }
+    let place = put_digits(buf, at, n / 10);
+    one(buf, place, b'0' + (n % 10) as u8)
+}
+
+// A number in decimal, with no zeros in front.
 pub fn put_decimal(out: &mut Writer, n: u64)
     ensures { Written out.old (decimal_text n) out.new }
 {
-    if 10 <= n {
-        put_decimal(out, n / 10);
-    }
-    out.byte(b'0' + (n % 10) as u8);
+    out.at = put_digits(out.buf, out.at, n);
 }

@@ -1,14 +1,12 @@
--- `Writer::bytes` meets its contract: the part of the text that fits is copied, and nothing past the end.
+-- `Writer::bytes` meets its contract: a text for which there is room is copied; of any other, what `cut` writes.
 use native.Mathlib.Omega.{arith}
 use borrow.Author.Rules.{rules}
-use Rattle.base_bytes.proofs.PutLaws.{wrote_cut, wrote-past}
+use Rattle.std.proofs.Common.{refl}
+use Rattle.base_bytes.proofs.PutLaws.{wrote_over}
 use Rattle.base_bytes.proofs.writer.Writer.bytes.Goals as goal
 
-pub returns-then-start-size : goal.returns-then-start-size
-returns-then-start-size c = record {
+pub returns-then-text-size : goal.returns-then-text-size
+returns-then-text-size c = record {
   lent = search rules;
-  wrote = wrote_cut _ _ _ c.min-n.result _ (omega arith) (omega arith) (omega arith) c.copy_from_slice.ensures.after;
+  wrote = wrote_over _ _ _ _ (omega arith) (omega arith) c.copy_from_slice.ensures.after refl;
 }
-
-pub returns-else-start-size : goal.returns-else-start-size
-returns-else-start-size c = record { lent = search rules; wrote = wrote-past _ _ _ (omega arith) }
