@@ -63,7 +63,8 @@ fn serve(card: Card, verdict: u8, request: Request, bytes: &[u8], buf: &mut [u8]
     }
 }
 
-// A command: it is read, and what it asks is done.
+// A command: it is read, and what it asks is done. A function of its own, so that the other calls take no stack for it.
+#[inline(never)]
 fn command(card: Card, verdict: u8, bytes: &[u8], buf: &mut [u8]) -> Answer
     ensures { Served buf.old (on_sound card (Command verdict bytes.now (length buf.old))) result buf.new }
 {
