@@ -258,10 +258,10 @@ pub fn take_line(
     ensures { Replied out.old turn.filled (reply_to_line turn.card turn.sound explain number s.now) result out.new × Used bytes.old response.old (reply_to_line turn.card turn.sound explain number s.now) bytes.new response.new }
 {
     match read_line(s) {
-        Ok(Order::Nothing) => passed_over(turn),
+        // `return`, here and for a call: the turn is not copied (docs/PERFORMANCE.md)
+        Ok(Order::Nothing) => return passed_over(turn),
         Ok(Order::Fresh(asked)) => first_reply(explain, fresh(s, asked), out, turn.filled),
         Ok(Order::Call { call, room }) => {
-            // `return`: the turn is not copied (docs/PERFORMANCE.md)
             return call_reply(turn, explain, call, room, s, bytes, response, out);
         }
         Ok(Order::Record(at)) => record_reply(turn, explain, number, Words { line: s, at }, out),
