@@ -8,8 +8,8 @@ use mathlib.Core.List.{List, [], ◌∷◌, append-nil}
 use mathlib.Core.Bool.{Bool, true, false, ◌&&◌}
 use lib.ListN.{length, get_or, take, drop, drop_of_length-le}
 use lib.Seq.{drop-cons, take_all}
-use lib.Dec.{eqb}
-use borrow.Author.Tests.{eq-eqb, ne_eqb, eqb-true, eqb-false}
+use lib.Dec.{leb, eqb}
+use borrow.Author.Tests.{le-leb, lt-leb, leb-true, leb-false, eq-eqb, ne_eqb, eqb-true, eqb-false}
 use Rattle.card_isdp.specs.Aids.{padded}
 use Rattle.card_isdp.specs.Place.{zeros}
 
@@ -21,7 +21,15 @@ pub zeros-end : (l : List ℕ) (i : ℕ) → length l ≤ i → zeros (drop i l)
 unfolding zeros
 zeros-end l i h = rw (drop_of_length-le l h)
 
--- two equations that hold together have one test
+-- two orders that hold together have one test
+leb-at : (a b x y : ℕ) (t : Bool) → leb a b ≡ t → (a ≤ b → x ≤ y) → (b < a → y < x) → t ≡ leb x y
+leb-at a b x y true e f g = sym (le-leb x y (f (leb-true a b e)))
+leb-at a b x y false e f g = sym (lt-leb x y (g (leb-false a b e)))
+
+pub leb-same : (a b x y : ℕ) → (a ≤ b → x ≤ y) → (b < a → y < x) → leb a b ≡ leb x y
+leb-same a b x y f g = leb-at a b x y (leb a b) refl f g
+
+-- and so two equations
 eqb-at : (a b x y : ℕ) (t : Bool) → eqb a b ≡ t → (a ≡ b → x ≡ y) → (x ≡ y → a ≡ b) → t ≡ eqb x y
 eqb-at a b x y true e f g = sym (eq-eqb x y (f (eqb-true a b e)))
 eqb-at a b x y false e f g = sym (ne_eqb x y (λ h. eqb-false a b e (g h)))

@@ -2,14 +2,15 @@
 use mathlib.Core.Path.{◌≡◌, refl}
 use Rattle.std.specs.Prelude.{Option, Some, None}
 use Rattle.std.specs.Option.{option_map}
-use Prim.Native.Nat.{ℕ, ◌+◌, ◌<◌}
+use Prim.Native.Nat.{ℕ, ◌+◌, ◌≤◌, ◌<◌}
 use native.Mathlib.Omega.{arith}
 use mathlib.Core.List.{List}
-use mathlib.Core.Bool.{Bool, true, false, cond}
+use mathlib.Core.Bool.{Bool, true, false, cond, not}
 use lib.ListN.{length}
-use lib.Dec.{ltb}
-use borrow.Author.Tests.{lt-ltb, ne_eqb}
+use lib.Dec.{ltb, eqb}
+use borrow.Author.Tests.{lt-ltb, eq-eqb, ne_eqb}
 use Rattle.base_bytes.specs.declared.Part.{Part}
+use Rattle.base_choice.proofs.Branches.{on-eq}
 use Rattle.month_contents.specs.Below.{some_below, sum_below}
 use Rattle.month_contents.specs.Contents.{sections, start_at, body_length, contents_end, not_filled, of_kind, section_place, section_of}
 use Rattle.month_contents.proofs.Below.{found_below, first-hit, sum-next, sum-part}
@@ -30,9 +31,22 @@ pub section-hit : (s : List ℕ) (kind i : ℕ) → some_below i (of_kind s kind
 unfolding section_of
 section-hit s kind i f e h = rw (first-hit (of_kind s kind) i e (sections s) f h, lt-ltb i (sections s) h)
 
+-- the lengths are too many at once
+pub filled-past : (s : List ℕ) → length s < contents_end s → true ≡ not_filled s
+filled-past s h = rw (ne_eqb (contents_end s + sum_below (sections s) (body_length s)) (length s) (λ w. absurd (omega arith)))
+
 -- the lengths are too many at the next one
 pub filled-over : (s : List ℕ) (i left : ℕ) → contents_end s + sum_below i (body_length s) + left ≡ length s → i < sections s → left < body_length s i → true ≡ not_filled s
 filled-over s i left e h k =
     let n = sum-next i (body_length s) in
     let p = sum-part (body_length s) (i + 1) (sections s) (omega arith) in
     rw (ne_eqb (contents_end s + sum_below (sections s) (body_length s)) (length s) (λ w. absurd (omega arith)))
+
+-- all are taken off: what is left tells
+pub filled-end : (s : List ℕ) (i left : ℕ) → contents_end s + sum_below i (body_length s) + left ≡ length s → i ≤ sections s → sections s ≤ i → not (eqb left 0) ≡ not_filled s
+filled-end s i left e h k =
+    let q : i ≡ sections s = omega arith in
+    let r = rw q at e in
+    on-eq left 0
+    (λ z. rw (eq-eqb left 0 z, eq-eqb (contents_end s + sum_below (sections s) (body_length s)) (length s) (omega arith)))
+    (λ z. rw (ne_eqb left 0 z, ne_eqb (contents_end s + sum_below (sections s) (body_length s)) (length s) (λ w. absurd (z (omega arith)))))

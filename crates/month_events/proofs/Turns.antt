@@ -304,7 +304,7 @@ module _ (b : List ℕ) (at : ℕ) (unknown wrong : Bool) where
       → some_event t (events_of (drop at b)) ≡ (t (event_at b at) || some_event t (events_of (drop (stop_of b at) b)))
   some_turn h k t = some_first t (drop at b) (event_at b at) (drop (stop_of b at) b) (turn-events b at h k)
 
-  checked-on : at < length b → stop_of b at ≤ length b
+  pub checked-on : at < length b → stop_of b at ≤ length b
       → checked_from b at unknown wrong
       ≡ checked_from b (stop_of b at) (unknown || is_unknown (kind_of (byte b at))) (wrong || event_length_wrong (kind_of (byte b at)) (take (stop_of b at - (at + head_size)) (drop (at + head_size) b)))
   unfolding checked_from kind_unknown wrong_length

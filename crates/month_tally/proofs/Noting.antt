@@ -1,7 +1,7 @@
 -- When an AID has a line, and what noting one does: once is enough, and the line of an AID that was noted does not move.
 -- By cases on whether it has a line and whether there is room; a list's laws go down the AIDs. `length n.aids ≡ most_lines` is what the type has.
 use mathlib.Core.Path.{◌≡◌, refl, ap, sym, ◌∙◌, subst}
-use Prim.Native.Nat.{◌+◌, ◌≤◌, ◌<◌}
+use Prim.Native.Nat.{ℕ, ◌+◌, ◌≤◌, ◌<◌}
 use native.Mathlib.Numerals.{add-one}
 use native.Mathlib.Omega.{arith}
 use mathlib.Core.List.{[], ◌∷◌, ◌++◌}
@@ -15,11 +15,29 @@ use Rattle.month_tally.specs.Lines.{most_lines, rest_line, seek_aid, aids_in, ha
 use Rattle.month_tally.specs.declared.Names.{Names}
 use Rattle.month_tally.proofs.Seeking.{seek-last, seek-kept}
 
+-- a line is below the rest's exactly where the AID has one
+below-case : (b : Bool) (s : ℕ) → cond b s rest_line < rest_line → b ≡ true
+below-case true s h = refl
+below-case false s h = absurd (omega arith)
+
+pub has-below : (n : Names) (a : Aid) → line_of n a < rest_line → has_line n a ≡ true
+has-below n a h = below-case (has_line n a) (seek_aid a (aids_in n)) h
+
 module _ (n : Names) (f : length n.aids ≡ most_lines) where
   pub lines-most : length (aids_in n) ≤ most_lines
   lines-most =
       let e = length-take n.count n.aids in
       omega arith
+
+  rest-case : (b : Bool) (a : Aid) → has_line n a ≡ b → rest_line ≤ cond b (seek_aid a (aids_in n)) rest_line → b ≡ false
+  rest-case true a e h =
+      let k = ltb-true (seek_aid a (aids_in n)) (length (aids_in n)) e in
+      let m = lines-most in
+      absurd (omega arith)
+  rest-case false a e h = refl
+
+  pub has-not : (a : Aid) → rest_line ≤ line_of n a → has_line n a ≡ false
+  has-not a h = rest-case (has_line n a) a refl h
 
   line-case : (b : Bool) (a : Aid) → has_line n a ≡ b → cond b (seek_aid a (aids_in n)) rest_line ≤ rest_line
   line-case true a e =

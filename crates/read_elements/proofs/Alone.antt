@@ -1,22 +1,49 @@
--- An element alone in its window is an expected element that stops at the window's end.
-use Prim.Native.Nat.{ℕ, ◌+◌, ◌-◌, ◌≤◌}
-use mathlib.Core.Path.{◌≡◌, sym, ap, ◌∙◌}
+-- An element alone in its window is an expected element that stops at the window's end. What is read in a window is read of the bytes up
+-- to its end alone, so a reader of these bytes finds it; where the window does not lie in the bytes there is none, since what is read lies inside.
+use Prim.Native.Nat.{ℕ, ◌+◌, ◌-◌, ◌≤◌, ◌<◌}
+use mathlib.Core.Path.{◌≡◌, refl, sym, ap, ◌∙◌}
 use mathlib.Core.List.{List, [], append-nil}
 use native.Mathlib.Omega.{arith}
-use lib.ListN.{length}
+use lib.ListN.{length, take}
+use lib.Seq.{length-take-le}
+use Rattle.base_choice.specs.Choice.{pick, is_same}
 use Rattle.base_choice.proofs.Branches.{each-eq, eq! }
-use Rattle.read_tlv.specs.Tlv.{head_read, element_read, head_at, expect_at}
+use Rattle.read_tlv.specs.Tlv.{head_read, element_read, head_at, expect_at, on_found}
 use Rattle.read_tlv.specs.Encoding.{window, Bytes, encode_element}
 use Rattle.read_tlv.specs.Grammar.{LegalTag, marks_list}
-use Rattle.std.specs.Prelude.{Option, None}
+use Rattle.std.specs.Prelude.{Option, Some, None}
 use Rattle.read_tlv.specs.declared.Element.{Element}
 use Rattle.read_tlv.proofs.Branches.{each-found}
 use Rattle.read_tlv.proofs.Parts.{nothing, element-start, element-stop}
-use Rattle.read_tlv.proofs.Inside.{Expected, expect-parts}
+use Rattle.read_tlv.proofs.Inside.{Inside, Expected, expect-inside, expect-parts}
 use Rattle.read_tlv.proofs.Windows.{window-length}
 use Rattle.read_tlv.proofs.Written.{element-written}
 use Rattle.read_tlv.proofs.ReadBack.{element-back}
+use Rattle.read_tlv.proofs.Fronts.{expect-agrees, front-agrees}
 use Rattle.read_elements.specs.Reader.{alone_at}
+
+module _ (s : List ℕ) (at end tag low high : ℕ) where
+  pub next-none : length s < end → None ≡ expect_at s at end tag low high
+  next-none h = none (expect_at s at end tag low high) (expect-inside s at end tag low high)
+    where
+      none : (r : Option Element) → ((start stop : ℕ) → element_read start stop ≡ r → Inside s at start stop end) → None ≡ r
+      none None f = refl
+      none (Some e) f = let i = f e.start e.stop refl in absurd (omega arith)
+
+  pub next-front : end ≤ length s → expect_at (take end s) at (length (take end s)) tag low high ≡ expect_at s at end tag low high
+  next-front h =
+      ap (λ (k : ℕ). expect_at (take end s) at k tag low high) (length-take-le end s h)
+      ∙ expect-agrees (take end s) s end (front-agrees s end h) at tag low high
+
+  pub alone-none : length s < end → None ≡ alone_at s at end tag low high
+  unfolding alone_at
+  alone-none h = rw (← next-none h) refl
+
+  pub alone-front : end ≤ length s → alone_at (take end s) at (length (take end s)) tag low high ≡ alone_at s at end tag low high
+  unfolding alone_at
+  alone-front h =
+      let fills : ℕ → Option Element → Option Element = λ k e. on_found e None λ start stop. pick (is_same stop k) (element_read start stop) None in
+      ap (λ (k : ℕ). fills k (expect_at (take end s) at (length (take end s)) tag low high)) (length-take-le end s h) ∙ ap (fills end) (next-front h)
 
 pub record Alone (s : List ℕ) (at end t low high start stop : ℕ) : Type 0 where
   pub fills : stop ≡ end

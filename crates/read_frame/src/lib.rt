@@ -36,7 +36,12 @@ pub fn length_wrong(bytes: &[u8]) -> bool
 pub fn class_right(class: u8) -> bool
     ensures { result ≡ class_right class }
 {
-    matches!(class, 0x80..=0x8F | 0xC0..=0xCF | 0xE0..=0xEF)
+    matches!(
+        class,
+        0x80..=0x8F
+            | 0xC0..=0xCF
+            | 0xE0..=0xEF
+    )
 }
 
 pub fn class_wrong(bytes: &[u8]) -> bool
